@@ -12,7 +12,7 @@
 #   make help                              prints this
 #
 # A part that cannot be built on this machine is left out with a line that says why. dist fails then, unless WITHOUT names the part, as
-# WITHOUT='mount python'. dist also tells the gate's last line on the commit: GATE='N passed, 0 failed', or GATE_FILE=FILE.
+# WITHOUT='mount python'. dist also records the gate's last line on the commit: GATE='N passed, 0 failed', or GATE_FILE=FILE.
 # BETR=, DELTAS=, ARCHIVE= and HEAP= name other programs and libraries than those built here.
 PREFIX ?= /usr/local
 DESTDIR ?=
@@ -27,7 +27,7 @@ WITHOUT ?=
 PYTHON ?= /usr/bin/python3
 CARGO ?= cargo
 
-# What is given by hand is not known to be proved.
+# A program that is named explicitly is not known to be proved.
 NAMED := $(foreach it,BETR DELTAS,$(if $(filter undefined,$(origin $(it))),,$(it)))
 
 ifneq ($(filter-out 0 no,$(UNPROVED)),)
@@ -38,7 +38,7 @@ ARCHIVE ?= $(OUT)/libdoorvervain.a
 else
 OUT := out
 BETR ?= crates/betr/out/betr
-DELTAS ?= crates/deltas/out/deltas
+DELTAS ?= crates/delta_tool/out/delta_tool
 ARCHIVE ?= crates/doorvervain/out/libdoorvervain.a
 endif
 # malloc, realloc and free for the library: the toolchain has them.
@@ -50,7 +50,8 @@ MAKEFLAGS += -j$(shell awk -v most="$$(nproc)" '/^MemAvailable:/ { n = int($$2 /
 endif
 
 RELEASE := $(shell sed -n 's/^.define DOORVERVAIN_VERSION "\(.*\)"/\1/p' include/doorvervain.h)
-SONAME := libdoorvervain.so.0
+# Below 1.0.0 each minor release may change the interface, so the soname has it: libdoorvervain.so.0.2.
+SONAME := libdoorvervain.so.$(basename $(RELEASE))
 SHARED := libdoorvervain.so.$(RELEASE)
 MANUAL := $(OUT)/man/betr.1 $(OUT)/man/doorvervain.3
 LIBRARIES := $(OUT)/lib/libdoorvervain.a $(OUT)/lib/$(SHARED) $(OUT)/include/doorvervain.h
@@ -64,13 +65,13 @@ NO_MOUNT := $(shell pkg-config --exists fuse3 libcrypto 2> /dev/null || echo 'li
 MODULE := $(if $(NO_PYTHON),,$(OUT)/python/_core.abi3.so)
 CRATE := $(if $(NO_RUST),,$(OUT)/rust.built)
 
-# The prefix that doorvervain.pc tells.
+# The prefix in doorvervain.pc.
 PC_PREFIX ?= $(PREFIX)
 TO = $(DESTDIR)$(PREFIX)
 SHARE = $(TO)/share/doorvervain
-DOCUMENTS := INSTALL C_LIBRARY PYTHON PROFILE FORMATS
+DOCUMENTS := docs/INSTALL.md docs/C_LIBRARY.md docs/PYTHON.md docs/PROFILE.md docs/FORMATS.md CHANGELOG.md
 LEFT_OUT := --exclude=__pycache__ --exclude=target --exclude=out --exclude='*.egg-info' --exclude='*.so' --exclude=.pytest_cache
-STAMP = GATE='$(GATE)' GATE_FILE='$(GATE_FILE)' PROGRAMS='$(if $(strip $(NAMED)),$(strip $(NAMED)) named by hand)' packaging/stamp
+STAMP = GATE='$(GATE)' GATE_FILE='$(GATE_FILE)' PROGRAMS='$(if $(strip $(NAMED)),$(strip $(NAMED)) named explicitly)' packaging/stamp
 
 all: $(BETR) $(if $(NO_DELTAS),,$(DELTAS)) libraries $(MANUAL) $(MODULE) $(CRATE) $(if $(NO_MOUNT),,mount)
 	@$(if $(NO_DELTAS),echo 'program deltas: left out: $(NO_DELTAS)')
@@ -88,13 +89,13 @@ WITHOUT_PROOFS = @packaging/part '$(1)' 'builds without proofs, one to three min
 $(OUT)/betr: $(shell packaging/sources betr) tests/unproved | toolchain
 	$(call WITHOUT_PROOFS,program betr,betr)
 
-$(OUT)/deltas: $(shell packaging/sources deltas) tests/unproved | toolchain
-	$(call WITHOUT_PROOFS,program deltas,deltas)
+$(OUT)/deltas: $(shell packaging/sources delta_tool) tests/unproved | toolchain
+	$(call WITHOUT_PROOFS,program deltas,delta_tool)
 
 $(OUT)/libdoorvervain.a: $(shell packaging/sources doorvervain) tests/unproved | toolchain
 	$(call WITHOUT_PROOFS,C library,doorvervain)
 else
-crates/betr/out/betr crates/deltas/out/deltas: | toolchain
+crates/betr/out/betr crates/delta_tool/out/delta_tool: | toolchain
 	@echo '$@ is not there: make prove proves and builds it, an hour at first; make UNPROVED=1 builds all without proofs' >&2
 	@exit 1
 
@@ -188,7 +189,7 @@ install: all
 	@packaging/manual names include/doorvervain.h | while read -r name; do \
 	    ln -sf doorvervain.3 "$(TO)/share/man/man3/$$name.3"; done
 	@install -m 644 packaging/betr.bash $(TO)/share/bash-completion/completions/betr
-	@for page in $(DOCUMENTS); do install -m 644 docs/$$page.md $(TO)/share/doc/doorvervain/$$page.md; done
+	@install -m 644 $(DOCUMENTS) $(TO)/share/doc/doorvervain
 	@tar -C bindings $(LEFT_OUT) -cf - install python rust | tar -C $(SHARE)/bindings --no-same-owner -xf -
 	@$(if $(MODULE),install -m 755 $(MODULE) $(SHARE)/bindings/python/_core.abi3.so)
 	@tar -C examples $(LEFT_OUT) -cf - c rust fixture build_cache sandbox | tar -C $(SHARE)/examples --no-same-owner -xf -

@@ -2,9 +2,9 @@
 //
 //     cc -O2 -Iinclude bench/calls.c LIBRARY HEAP -o calls && ./calls
 //
-// LIBRARY is libdoorvervain.a, HEAP the toolchain's object (docs/C_LIBRARY.md). Without and with tree steps it prints the microseconds
-// of a call on each of 10,000 files in 100 folders: the file is made, 4,096 bytes are written, read, it is asked for, its folder of 100
-// is listed, and it is unlinked. Each is the least of nine rounds.
+// LIBRARY is libdoorvervain.a, HEAP the toolchain's object (docs/C_LIBRARY.md). Without and with compaction it prints the microseconds
+// of each call on each of 10,000 files in 100 directories: create, a write and a read of 4,096 bytes, stat, a listing of its directory of
+// 100 files, and unlink. Each is the least of nine rounds.
 #include "doorvervain.h"
 #include <stdio.h>
 #include <stdlib.h>
@@ -24,12 +24,12 @@ static double now(void) {
 
 static void need(uint8_t number) {
     if (number != 0) {
-        fprintf(stderr, "calls: a call was refused with %d\n", number);
+        fprintf(stderr, "calls: a call failed with %d\n", number);
         exit(1);
     }
 }
 
-// Each call takes the path of a folder, or of a file in it.
+// Each call takes the path of a directory, or of a file in it.
 static void create(const uint8_t *path, size_t length) { need(doorvervain_create(&fs, path, length, 1)); }
 
 static void write_all(const uint8_t *path, size_t length) {
@@ -52,7 +52,7 @@ static void list(const uint8_t *path, size_t length) {
     need(doorvervain_readdir(&fs, path, length, listed, LISTED, &size));
 }
 
-static void take_away(const uint8_t *path, size_t length) { need(doorvervain_unlink(&fs, path, length, 3)); }
+static void unlink_file(const uint8_t *path, size_t length) { need(doorvervain_unlink(&fs, path, length, 3)); }
 
 static const struct {
     const char *name;
@@ -60,11 +60,11 @@ static const struct {
     int of_folders;
 } CALLS[] = {
     {"create", create, 0},       {"write 4 KiB", write_all, 0},        {"read 4 KiB", read_all, 0},
-    {"stat", ask, 0},            {"a listing of 100 names", list, 1},  {"unlink", take_away, 0},
+    {"stat", ask, 0},            {"a listing of 100 names", list, 1},  {"unlink", unlink_file, 0},
 };
 enum { COUNT = sizeof CALLS / sizeof *CALLS };
 
-// What a call takes, with so many tree steps behind every 16 calls.
+// The microseconds of a call, with the given number of compaction steps after every 16 calls.
 static double time_call(int which, uint32_t steps) {
     int files = CALLS[which].of_folders ? 1 : FILES;
     double begun = now();
@@ -73,7 +73,7 @@ static double time_call(int which, uint32_t steps) {
         int length = sprintf((char *)path, "/d%02d", i / files);
         if (files > 1) length += sprintf((char *)path + length, "/f%06d", i % files);
         CALLS[which].call(path, (size_t)length);
-        if (steps && i % 16 == 15) doorvervain_relieve(&fs, steps);
+        if (steps && i % 16 == 15) doorvervain_compact(&fs, steps);
     }
     return (now() - begun) / (FOLDERS * files);
 }

@@ -211,13 +211,13 @@ impl Tree {
                 .filter(|&end| end <= GREATEST_FILE);
             *len = end.ok_or(Fault::Fbig)?.max(*len);
             *modified = at;
-            self.lay(key, offset, bytes);
+            self.overlay(key, offset, bytes);
         }
         Ok(Reply::Count(count))
     }
 
     /// Lays bytes over the blocks of a file.
-    fn lay(&mut self, key: Key, offset: u64, bytes: &[u8]) {
+    fn overlay(&mut self, key: Key, offset: u64, bytes: &[u8]) {
         let mut number = (offset / BLOCK as u64) as u32;
         let mut at = (offset % BLOCK as u64) as usize;
         let mut rest = bytes;

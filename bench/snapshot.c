@@ -1,9 +1,9 @@
-// Times the first change behind a snapshot, with so many messages waiting: bench/snapshot.c, over the static library.
+// Times the first change after a snapshot, with many pending messages: bench/snapshot.c, over the static library.
 //
 //     cc -O2 -Iinclude bench/snapshot.c LIBRARY HEAP -o snapshot && ./snapshot
 //
 // LIBRARY is libdoorvervain.a, HEAP the toolchain's object (docs/C_LIBRARY.md). For each number of files it prints
-// microseconds, each the middle one of 21 rounds: a snapshot, the first write behind it, the second one, the snapshot's end.
+// microseconds, each the middle one of 21 rounds: a snapshot, the first write after it, the second one, and dropping the snapshot.
 #include "doorvervain.h"
 #include <stdio.h>
 #include <stdlib.h>
@@ -32,7 +32,7 @@ static double middle(double *times) {
 
 static void need(uint8_t number) {
     if (number != 0) {
-        fprintf(stderr, "snapshot: a call was refused with %d\n", number);
+        fprintf(stderr, "snapshot: a call failed with %d\n", number);
         exit(1);
     }
 }
@@ -55,7 +55,7 @@ static void round_of(struct doorvervain *fs, unsigned files, unsigned number) {
     double first = now();
     write_one(fs, (number * 7919 + 1) % files);
     double second = now();
-    need(doorvervain_drop(fs, name, 1));
+    need(doorvervain_drop_snapshot(fs, name, 1));
     double ended = now();
     double works[WORKS] = {frozen - begun, first - frozen, second - first, ended - second};
     for (int work = 0; work < WORKS; work++)

@@ -3,32 +3,32 @@
 // Link what `pkg-config --libs doorvervain` names. In a clone that is not installed, link
 // crates/doorvervain/out/libdoorvervain.a and the toolchain's liblibc_c.a, which asks malloc for memory.
 //
-// A path is bytes with a length, as "/a/b" with 4. It begins with a slash, and needs no byte 0 behind it. A name of
-// a snapshot is bytes with a length too. No call keeps a pointer of its caller.
+// A path is a pointer to bytes and a length, as "/a/b" and 4. It begins with a slash, and no byte 0 has to follow it. The
+// name of a snapshot is a pointer and a length too. No call keeps a pointer of its caller.
 //
-// Most calls answer a number. DOORVERVAIN_DONE (0) says that the call was done. Any other number is a refusal: the
-// call changed no volume, and wrote nothing into a buffer. Two calls of many changes, doorvervain_log_run and
-// doorvervain_log_replay, keep those before the one that is refused, and tell how many they are. A call that closes what
-// it was given, also where it is refused, says so. A call that looks and is refused gives 0 as its other results; where
-// the buffer is too short it gives the size, so that the caller can ask again.
+// Most calls return a number. DOORVERVAIN_DONE (0) means success. Any other number is an error: the call changed no
+// volume, and wrote nothing into a buffer. Two calls that make many changes, doorvervain_wal_apply and
+// doorvervain_wal_replay, keep the changes before the one that fails, and return how many they are. A call that closes its
+// argument even when it fails says so. A read-only call that fails sets its other results to 0; if the buffer is too
+// short, it returns the size, so that the caller can call again.
 //
-// A call that gives a text of any size (a listing, an image, the name of a snapshot) takes a buffer with its room.
-// `*size` is how many bytes the text has. They are written where the room is enough for all of them. A room of 0
-// asks for the size alone, and is answered by DOORVERVAIN_DONE; any other room that is too small by
-// DOORVERVAIN_ERANGE. Either leaves the buffer as it was.
+// A call that returns a text of any size (a listing, an image, the name of a snapshot) takes a buffer and its capacity.
+// `*size` is the length of the text in bytes. The text is written if the capacity is enough for all of it. With a capacity
+// of 0 the call returns the size alone, and DOORVERVAIN_DONE; with any other capacity that is too small it returns
+// DOORVERVAIN_ERANGE. Both leave the buffer unchanged.
 //
-// A null pointer is answered by DOORVERVAIN_NULL, also one to a volume, a tree, a printing or a loading. Only a pointer with
-// the length 0 beside it may be null. One of these that is closed is answered by DOORVERVAIN_CLOSED. A call writes at most as
-// many bytes into a buffer as the caller says that it has.
+// With a null pointer a call returns DOORVERVAIN_NULL, also if it is one to a volume, a frozen tree, a printer or a loader.
+// Only a pointer whose length is 0 may be null. If one of these four is closed, the call returns DOORVERVAIN_CLOSED. A call
+// writes no more bytes into a buffer than its capacity.
 //
-// What no check can see, and a caller has to keep:
-//   - Set `at` to null before the first use (`struct doorvervain fs = {0};`), and do not change it.
-//   - A copy of a struct is the same volume. Use no copy after a close: that is a use of freed memory.
-//   - One thread at a time is in a volume and in the trees frozen of it, which share its nodes: put one lock round
-//     them, or keep them on one thread. Two volumes that were opened have nothing in common.
-//   - A pointer with a length points to at least so many bytes. Bytes that a call writes overlap no bytes that it
+// Caller obligations, which no check can see:
+//   - Set `ptr` to null before the first use (`struct doorvervain fs = {0};`), and do not change it.
+//   - A copy of a struct is the same volume. Do not use a copy after a close: that is a use of freed memory.
+//   - A volume and the trees frozen from it share nodes, so only one thread at a time may call any of them: put one
+//     lock around them, or keep them on one thread. Two volumes that were opened separately share nothing.
+//   - A pointer with a length points to at least that many bytes. Bytes that a call writes overlap no bytes that it
 //     reads, and no other result.
-//   - No call is made from a signal handler, nor in the forked child of a process with threads.
+//   - Make no call from a signal handler, nor in the forked child of a process with threads.
 #ifndef DOORVERVAIN_H
 #define DOORVERVAIN_H
 
@@ -40,59 +40,59 @@
 extern "C" {
 #endif
 
-// A volume: a tree of directories and files, with snapshots. It is closed where `at` is null.
+// A volume: a tree of directories and files, with snapshots. It is closed if `ptr` is null.
 struct doorvervain {
-    void *at;
+    void *ptr;
 };
 
-// A tree that stands still: later changes of the volume do not touch it. It is closed where `at` is null.
+// A frozen tree: later changes of the volume do not affect it. It is closed if `ptr` is null.
 struct doorvervain_frozen {
-    void *at;
+    void *ptr;
 };
 
-// The image of a frozen tree on its way out, piece by piece. It is closed where `at` is null.
-struct doorvervain_printing {
-    void *at;
+// Prints the image of a frozen tree, one buffer at a time. It is closed if `ptr` is null.
+struct doorvervain_printer {
+    void *ptr;
 };
 
-// A volume that is loaded of an image piece by piece. It is closed where `at` is null.
-struct doorvervain_loading {
-    void *at;
+// Loads a volume from an image, one buffer at a time. It is closed if `ptr` is null.
+struct doorvervain_loader {
+    void *ptr;
 };
 
-// What a call answers. The numbers are this library's own; doorvervain_errno gives those of <errno.h>.
+// What a call returns. The numbers are this library's own; doorvervain_errno returns those of <errno.h>.
 enum {
     DOORVERVAIN_DONE = 0,
     DOORVERVAIN_ENOENT = 1,       // no such file, directory or snapshot
     DOORVERVAIN_ENOTDIR = 2,      // not a directory
     DOORVERVAIN_EISDIR = 3,       // a directory
-    DOORVERVAIN_EEXIST = 4,       // it stands there already
+    DOORVERVAIN_EEXIST = 4,       // the path or snapshot exists already
     DOORVERVAIN_ENOTEMPTY = 5,    // the directory is not empty
     DOORVERVAIN_EPERM = 6,        // not permitted: to unlink a directory
     DOORVERVAIN_EINVAL = 7,       // no path, name or shape; too many bytes; a move below itself
     DOORVERVAIN_ENAMETOOLONG = 8, // a name or path too long
     DOORVERVAIN_EFBIG = 9,        // a file too large
     DOORVERVAIN_EBUSY = 10,       // the root, which stays
-    DOORVERVAIN_ENOMEM = 11,      // memory was refused
+    DOORVERVAIN_ENOMEM = 11,      // allocation failure
     DOORVERVAIN_ENOSPC = 12,      // all 64 names of snapshots are taken
     DOORVERVAIN_ERANGE = 13,      // the buffer is too short, and nothing was written
     DOORVERVAIN_NULL = 254,       // a pointer is null
-    DOORVERVAIN_CLOSED = 255      // the volume, tree, printing or loading is closed
+    DOORVERVAIN_CLOSED = 255      // the volume, frozen tree, printer or loader is closed
 };
 
-// What stands at a path.
+// The kind of an entry.
 enum { DOORVERVAIN_DIRECTORY = 1, DOORVERVAIN_FILE = 2 };
 
-// The usual shape of a volume's trees, for who knows no better: how many children an inner node may have, how many
-// messages may wait in it, and how many entries a leaf may have.
+// The default shape of a volume's trees: how many children an inner node may have, how many messages may be pending
+// in it, and how many entries a leaf may have.
 enum { DOORVERVAIN_FANOUT = 16, DOORVERVAIN_PENDING = 256, DOORVERVAIN_LEAF = 256 };
 
-// ---- records: what an entry has beside its bytes
+// ---- attribute records: what an entry has besides its bytes
 
-// The name of the root below which records lie. No entry of a user has it.
+// The name in the root directory below which attribute records are stored. No entry of a user has it.
 #define DOORVERVAIN_RESERVED ".doorvervain"
 
-// What an entry is, beside DOORVERVAIN_DIRECTORY and DOORVERVAIN_FILE.
+// The kinds of an entry besides DOORVERVAIN_DIRECTORY and DOORVERVAIN_FILE.
 enum {
     DOORVERVAIN_SYMBOLIC_LINK = 3,    // its bytes are the target
     DOORVERVAIN_FIFO = 4,             // a pipe with a name
@@ -102,7 +102,7 @@ enum {
     DOORVERVAIN_OTHER_NAME = 8        // one of several names of a file
 };
 
-// What a record tells, but for extended attributes.
+// The content of an attribute record, except for extended attributes.
 struct doorvervain_attributes {
     uint32_t mode;        // permissions, set-user, set-group and sticky: twelve bits
     uint32_t user;        // the owner
@@ -111,13 +111,13 @@ struct doorvervain_attributes {
     uint64_t names;       // how many names it has
     uint64_t link;        // DOORVERVAIN_OTHER_NAME: the number of the file
     uint64_t device;      // a device: its number
-    uint64_t modified;    // the time that was set by hand, in nanoseconds since 1970
-    uint64_t held;        // the moment of the tree up to which it holds
-    uint8_t has_modified; // 1 where a time was set by hand
+    uint64_t modified;    // the mtime that was set explicitly (utimensat), in nanoseconds since 1970
+    uint64_t held;        // the mtime in the tree up to which `modified` is valid
+    uint8_t has_modified; // 1 if an mtime was set explicitly
 };
 
-// ---- the symbols of the archive. They take no null pointer; call the functions below them. On every way out each sets its other
-// results as those functions say, whatever stood there.
+// ---- the symbols of the archive. They take no null pointer: call the functions below instead. However a call ends, it sets its
+// other results as those functions say, whatever they were before.
 
 uint8_t doorvervain_raw_open(uint16_t fanout, uint16_t pending, uint16_t leaf, struct doorvervain *out);
 void doorvervain_raw_close(struct doorvervain fs);
@@ -133,114 +133,114 @@ uint8_t doorvervain_raw_truncate(
 uint8_t doorvervain_raw_write(struct doorvervain *fs, const uint8_t *path, size_t length, uint64_t offset,
     const uint8_t *bytes, size_t count, uint64_t at);
 uint8_t doorvervain_raw_read(struct doorvervain *fs, const uint8_t *path, size_t length, uint64_t offset,
-    uint8_t *out, size_t room, size_t *got);
+    uint8_t *out, size_t capacity, size_t *got);
 uint8_t doorvervain_raw_stat(
     struct doorvervain *fs, const uint8_t *path, size_t length, uint8_t *kind, uint64_t *size,
     uint64_t *modified);
 uint8_t doorvervain_raw_readdir(
-    struct doorvervain *fs, const uint8_t *path, size_t length, uint8_t *out, size_t room, size_t *size);
+    struct doorvervain *fs, const uint8_t *path, size_t length, uint8_t *out, size_t capacity, size_t *size);
 uint8_t doorvervain_raw_snapshot(struct doorvervain *fs, const uint8_t *name, size_t length);
-uint8_t doorvervain_raw_drop(struct doorvervain *fs, const uint8_t *name, size_t length);
+uint8_t doorvervain_raw_drop_snapshot(struct doorvervain *fs, const uint8_t *name, size_t length);
 uint8_t doorvervain_raw_restore(struct doorvervain *fs, const uint8_t *name, size_t length);
 uint8_t doorvervain_raw_snapshot_name(
-    struct doorvervain *fs, size_t index, uint8_t *out, size_t room, size_t *size);
+    struct doorvervain *fs, size_t index, uint8_t *out, size_t capacity, size_t *size);
 uint8_t doorvervain_raw_freeze(struct doorvervain *fs, struct doorvervain_frozen *out);
-uint8_t doorvervain_raw_frozen(
+uint8_t doorvervain_raw_open_snapshot(
     struct doorvervain *fs, const uint8_t *name, size_t length, struct doorvervain_frozen *out);
 uint8_t doorvervain_raw_frozen_read(struct doorvervain_frozen *tree, const uint8_t *path, size_t length,
-    uint64_t offset, uint8_t *out, size_t room, size_t *got);
+    uint64_t offset, uint8_t *out, size_t capacity, size_t *got);
 uint8_t doorvervain_raw_frozen_stat(
     struct doorvervain_frozen *tree, const uint8_t *path, size_t length, uint8_t *kind, uint64_t *size,
     uint64_t *modified);
 uint8_t doorvervain_raw_load(uint16_t fanout, uint16_t pending, uint16_t leaf, const uint8_t *text, size_t length,
     uint64_t *line, struct doorvervain *out);
-uint8_t doorvervain_raw_image(struct doorvervain_frozen *tree, uint8_t *out, size_t room, size_t *size);
+uint8_t doorvervain_raw_image(struct doorvervain_frozen *tree, uint8_t *out, size_t capacity, size_t *size);
 uint8_t doorvervain_raw_delta(struct doorvervain *fs, const uint8_t *from, size_t from_length, const uint8_t *to,
-    size_t to_length, uint8_t *out, size_t room, size_t *size);
-uint8_t doorvervain_raw_apply(struct doorvervain *fs, const uint8_t *text, size_t length, uint64_t *line);
-uint8_t doorvervain_raw_print_begin(struct doorvervain_frozen tree, struct doorvervain_printing *out);
-uint8_t doorvervain_raw_print_piece(
-    struct doorvervain_printing *printing, uint8_t *out, size_t room, size_t *size);
-void doorvervain_raw_print_end(struct doorvervain_printing printing);
+    size_t to_length, uint8_t *out, size_t capacity, size_t *size);
+uint8_t doorvervain_raw_apply_delta(struct doorvervain *fs, const uint8_t *text, size_t length, uint64_t *line);
+uint8_t doorvervain_raw_print_begin(struct doorvervain_frozen tree, struct doorvervain_printer *out);
+uint8_t doorvervain_raw_print_next(
+    struct doorvervain_printer *printer, uint8_t *out, size_t capacity, size_t *size);
+void doorvervain_raw_print_end(struct doorvervain_printer printer);
 uint8_t doorvervain_raw_load_begin(
-    uint16_t fanout, uint16_t pending, uint16_t leaf, struct doorvervain_loading *out);
-uint8_t doorvervain_raw_load_piece(
-    struct doorvervain_loading *loading, const uint8_t *text, size_t length, uint64_t *line);
-uint8_t doorvervain_raw_load_end(
-    struct doorvervain_loading loading, uint64_t *line, struct doorvervain *out);
-void doorvervain_raw_load_drop(struct doorvervain_loading loading);
+    uint16_t fanout, uint16_t pending, uint16_t leaf, struct doorvervain_loader *out);
+uint8_t doorvervain_raw_load_feed(
+    struct doorvervain_loader *loader, const uint8_t *text, size_t length, uint64_t *line);
+uint8_t doorvervain_raw_load_finish(
+    struct doorvervain_loader loader, uint64_t *line, struct doorvervain *out);
+void doorvervain_raw_load_abort(struct doorvervain_loader loader);
 uint8_t doorvervain_raw_frozen_readdir(
-    struct doorvervain_frozen *tree, const uint8_t *path, size_t length, uint8_t *out, size_t room, size_t *size);
-void doorvervain_raw_thaw(struct doorvervain_frozen tree);
-uint32_t doorvervain_raw_relieve(struct doorvervain *fs, uint32_t steps);
-uint8_t doorvervain_raw_mirror(const uint8_t *path, size_t length, uint8_t *out, size_t room, size_t *size);
-uint8_t doorvervain_raw_record_path(const uint8_t *path, size_t length, uint8_t *out, size_t room, size_t *size);
-uint8_t doorvervain_raw_record_print(const struct doorvervain_attributes *attributes, const uint8_t *extended,
-    size_t extended_length, uint8_t *out, size_t room, size_t *size);
-uint8_t doorvervain_raw_record_parse(const uint8_t *text, size_t length, struct doorvervain_attributes *attributes,
-    uint8_t *extended, size_t room, size_t *size);
+    struct doorvervain_frozen *tree, const uint8_t *path, size_t length, uint8_t *out, size_t capacity, size_t *size);
+void doorvervain_raw_frozen_close(struct doorvervain_frozen tree);
+uint32_t doorvervain_raw_compact(struct doorvervain *fs, uint32_t steps);
+uint8_t doorvervain_raw_attr_dir(const uint8_t *path, size_t length, uint8_t *out, size_t capacity, size_t *size);
+uint8_t doorvervain_raw_attr_path(const uint8_t *path, size_t length, uint8_t *out, size_t capacity, size_t *size);
+uint8_t doorvervain_raw_attr_encode(const struct doorvervain_attributes *attributes, const uint8_t *extended,
+    size_t extended_length, uint8_t *out, size_t capacity, size_t *size);
+uint8_t doorvervain_raw_attr_decode(const uint8_t *text, size_t length, struct doorvervain_attributes *attributes,
+    uint8_t *extended, size_t capacity, size_t *size);
 uint8_t doorvervain_raw_punch(struct doorvervain *fs, const uint8_t *path, size_t length, uint64_t offset,
     uint64_t count, uint64_t at);
-uint8_t doorvervain_raw_data(struct doorvervain *fs, const uint8_t *path, size_t length, uint64_t offset,
+uint8_t doorvervain_raw_next_extent(struct doorvervain *fs, const uint8_t *path, size_t length, uint64_t offset,
     uint64_t *from, uint64_t *to);
-uint8_t doorvervain_raw_frozen_data(struct doorvervain_frozen *tree, const uint8_t *path, size_t length,
+uint8_t doorvervain_raw_frozen_next_extent(struct doorvervain_frozen *tree, const uint8_t *path, size_t length,
     uint64_t offset, uint64_t *from, uint64_t *to);
-uint8_t doorvervain_raw_log_mkdir(
-    const uint8_t *path, size_t length, uint64_t at, uint8_t *out, size_t room, size_t *size);
-uint8_t doorvervain_raw_log_create(
-    const uint8_t *path, size_t length, uint64_t at, uint8_t *out, size_t room, size_t *size);
-uint8_t doorvervain_raw_log_unlink(
-    const uint8_t *path, size_t length, uint64_t at, uint8_t *out, size_t room, size_t *size);
-uint8_t doorvervain_raw_log_rmdir(
-    const uint8_t *path, size_t length, uint64_t at, uint8_t *out, size_t room, size_t *size);
-uint8_t doorvervain_raw_log_rmtree(
-    const uint8_t *path, size_t length, uint64_t at, uint8_t *out, size_t room, size_t *size);
-uint8_t doorvervain_raw_log_rename(const uint8_t *from, size_t from_length, const uint8_t *to, size_t to_length,
-    uint64_t at, uint8_t *out, size_t room, size_t *size);
-uint8_t doorvervain_raw_log_truncate(const uint8_t *path, size_t length, uint64_t bytes, uint64_t at, uint8_t *out,
-    size_t room, size_t *size);
-uint8_t doorvervain_raw_log_write(const uint8_t *path, size_t length, uint64_t offset, const uint8_t *bytes,
-    size_t count, uint64_t at, uint8_t *out, size_t room, size_t *size);
-uint8_t doorvervain_raw_log_punch(const uint8_t *path, size_t length, uint64_t offset, uint64_t count, uint64_t at,
-    uint8_t *out, size_t room, size_t *size);
-uint8_t doorvervain_raw_log_snapshot(const uint8_t *name, size_t length, uint8_t *out, size_t room, size_t *size);
-uint8_t doorvervain_raw_log_drop(const uint8_t *name, size_t length, uint8_t *out, size_t room, size_t *size);
-uint8_t doorvervain_raw_log_restore(const uint8_t *name, size_t length, uint8_t *out, size_t room, size_t *size);
-uint8_t doorvervain_raw_log_ends(
-    uint64_t number, const uint8_t *body, size_t length, uint8_t *out, size_t room, size_t *size);
-uint8_t doorvervain_raw_log_next(const uint8_t *log, size_t length, uint64_t number, size_t *size);
-uint8_t doorvervain_raw_log_lines(const uint8_t *body, size_t length, uint8_t *out, size_t room, size_t *size);
-uint8_t doorvervain_raw_log_run(struct doorvervain *fs, const uint8_t *body, size_t length, size_t *done);
-uint8_t doorvervain_raw_log_replay(struct doorvervain *fs, const uint8_t *log, size_t length, uint64_t number,
+uint8_t doorvervain_raw_wal_mkdir(
+    const uint8_t *path, size_t length, uint64_t at, uint8_t *out, size_t capacity, size_t *size);
+uint8_t doorvervain_raw_wal_create(
+    const uint8_t *path, size_t length, uint64_t at, uint8_t *out, size_t capacity, size_t *size);
+uint8_t doorvervain_raw_wal_unlink(
+    const uint8_t *path, size_t length, uint64_t at, uint8_t *out, size_t capacity, size_t *size);
+uint8_t doorvervain_raw_wal_rmdir(
+    const uint8_t *path, size_t length, uint64_t at, uint8_t *out, size_t capacity, size_t *size);
+uint8_t doorvervain_raw_wal_rmtree(
+    const uint8_t *path, size_t length, uint64_t at, uint8_t *out, size_t capacity, size_t *size);
+uint8_t doorvervain_raw_wal_rename(const uint8_t *from, size_t from_length, const uint8_t *to, size_t to_length,
+    uint64_t at, uint8_t *out, size_t capacity, size_t *size);
+uint8_t doorvervain_raw_wal_truncate(const uint8_t *path, size_t length, uint64_t bytes, uint64_t at, uint8_t *out,
+    size_t capacity, size_t *size);
+uint8_t doorvervain_raw_wal_write(const uint8_t *path, size_t length, uint64_t offset, const uint8_t *bytes,
+    size_t count, uint64_t at, uint8_t *out, size_t capacity, size_t *size);
+uint8_t doorvervain_raw_wal_punch(const uint8_t *path, size_t length, uint64_t offset, uint64_t count, uint64_t at,
+    uint8_t *out, size_t capacity, size_t *size);
+uint8_t doorvervain_raw_wal_snapshot(const uint8_t *name, size_t length, uint8_t *out, size_t capacity, size_t *size);
+uint8_t doorvervain_raw_wal_drop(const uint8_t *name, size_t length, uint8_t *out, size_t capacity, size_t *size);
+uint8_t doorvervain_raw_wal_restore(const uint8_t *name, size_t length, uint8_t *out, size_t capacity, size_t *size);
+uint8_t doorvervain_raw_wal_frame(
+    uint64_t number, const uint8_t *body, size_t length, uint8_t *out, size_t capacity, size_t *size);
+uint8_t doorvervain_raw_wal_next(const uint8_t *log, size_t length, uint64_t number, size_t *size);
+uint8_t doorvervain_raw_wal_dump(const uint8_t *body, size_t length, uint8_t *out, size_t capacity, size_t *size);
+uint8_t doorvervain_raw_wal_apply(struct doorvervain *fs, const uint8_t *body, size_t length, size_t *done);
+uint8_t doorvervain_raw_wal_replay(struct doorvervain *fs, const uint8_t *log, size_t length, uint64_t number,
     size_t *records, size_t *done, size_t *size);
 
-// ---- what the functions below answer by themselves
+// ---- errors
 
-// The refusal of a volume, or of a pointer to bytes; 0 where both are there.
-static inline uint8_t doorvervain_lacks(const struct doorvervain *fs, const uint8_t *bytes, size_t length) {
+// The error for a volume or a pointer to bytes that is null, or a volume that is closed; else 0.
+static inline uint8_t doorvervain_bad_args(const struct doorvervain *fs, const uint8_t *bytes, size_t length) {
     if (!fs) return DOORVERVAIN_NULL;
-    if (!fs->at) return DOORVERVAIN_CLOSED;
+    if (!fs->ptr) return DOORVERVAIN_CLOSED;
     return !bytes && length ? DOORVERVAIN_NULL : DOORVERVAIN_DONE;
 }
 
-// The refusal of a frozen tree, or of a pointer to bytes; 0 where both are there.
-static inline uint8_t doorvervain_frozen_lacks(
+// The error for a frozen tree or a pointer to bytes that is null, or a tree that is closed; else 0.
+static inline uint8_t doorvervain_frozen_bad_args(
     const struct doorvervain_frozen *tree, const uint8_t *bytes, size_t length) {
     if (!tree) return DOORVERVAIN_NULL;
-    if (!tree->at) return DOORVERVAIN_CLOSED;
+    if (!tree->ptr) return DOORVERVAIN_CLOSED;
     return !bytes && length ? DOORVERVAIN_NULL : DOORVERVAIN_DONE;
 }
 
-// Where no bytes lie, an address all the same.
-static inline const uint8_t *doorvervain_from(const uint8_t *bytes) { return bytes ? bytes : (const uint8_t *)""; }
+// A pointer that is not null, also for no bytes.
+static inline const uint8_t *doorvervain_in(const uint8_t *bytes) { return bytes ? bytes : (const uint8_t *)""; }
 
-// Where a buffer has no room, an address all the same.
-static inline uint8_t *doorvervain_into(uint8_t *out) {
+// A pointer that is not null, also for a buffer of the capacity 0.
+static inline uint8_t *doorvervain_out(uint8_t *out) {
     static uint8_t spare;
     return out ? out : &spare;
 }
 
-// The number of <errno.h> for what a call answered. 0 for DOORVERVAIN_DONE.
+// The number of <errno.h> for the number that a call returned. 0 for DOORVERVAIN_DONE.
 static inline int doorvervain_errno(uint8_t number) {
     switch (number) {
     case DOORVERVAIN_DONE: return 0;
@@ -264,122 +264,120 @@ static inline int doorvervain_errno(uint8_t number) {
 
 // ---- volumes
 
-// Makes a volume: the empty root directory, without snapshots. What `fs` held before is not freed. `fanout` is how
-// many children an inner node may have, from 4 to 64; `pending` how many messages may wait in it, from `fanout` to
-// 1,024; `leaf` how many entries a leaf may have, from 4 to 1,024. The shape changes no answer, only time: take
-// DOORVERVAIN_FANOUT, DOORVERVAIN_PENDING and DOORVERVAIN_LEAF where you know no better. EINVAL: no such shape.
-// ENOMEM. Where it is refused, the volume is closed.
+// Creates a volume: an empty root directory, without snapshots. What `fs` held before is not freed. `fanout` is how
+// many children an inner node may have, from 4 to 64; `pending` how many messages may be pending in it, from `fanout`
+// to 1,024; `leaf` how many entries a leaf may have, from 4 to 1,024. The shape changes no result, only time: the
+// defaults are DOORVERVAIN_FANOUT, DOORVERVAIN_PENDING and DOORVERVAIN_LEAF. EINVAL: no such shape. ENOMEM. If it
+// fails, the volume is closed.
 static inline uint8_t doorvervain_open(struct doorvervain *fs, uint16_t fanout, uint16_t pending, uint16_t leaf) {
     if (!fs) return DOORVERVAIN_NULL;
-    fs->at = NULL;
+    fs->ptr = NULL;
     return doorvervain_raw_open(fanout, pending, leaf, fs);
 }
 
-// Makes a volume of an image: text that doorvervain_image or `betr --image` wrote. An image of version 1, which tells no
-// moments, is taken too: each is 0 then. The shape is as doorvervain_open has it.
-// EINVAL: no such shape, and `line` is 0; or no image, and `line` is the first line with which it is none. ENOMEM. `line` is 0
-// with any other answer. Where it is refused, the volume is closed. What `fs` held before is not freed.
+// Loads a volume from an image: text that doorvervain_image or `betr --image` wrote. An image of version 1, which has no
+// timestamps, is accepted too: each mtime is 0 then. The shape is as in doorvervain_open.
+// EINVAL: no such shape, and `line` is 0; or not an image, and `line` is its first bad line. ENOMEM. `line` is 0 in every
+// other case. If it fails, the volume is closed. What `fs` held before is not freed.
 static inline uint8_t doorvervain_load(struct doorvervain *fs, uint16_t fanout, uint16_t pending, uint16_t leaf,
     const uint8_t *text, size_t length, uint64_t *line) {
-    if (fs) fs->at = NULL;
+    if (fs) fs->ptr = NULL;
     if (line) *line = 0;
     if (!fs || !line || (!text && length)) return DOORVERVAIN_NULL;
-    return doorvervain_raw_load(fanout, pending, leaf, doorvervain_from(text), length, line, fs);
+    return doorvervain_raw_load(fanout, pending, leaf, doorvervain_in(text), length, line, fs);
 }
 
-// Frees the volume with its snapshots, and closes it. Frozen trees stay. It does nothing to a volume that is
-// closed.
+// Frees the volume with its snapshots, and closes it. Frozen trees stay valid. A closed volume is left unchanged.
 static inline void doorvervain_close(struct doorvervain *fs) {
-    if (!fs || !fs->at) return;
+    if (!fs || !fs->ptr) return;
     doorvervain_raw_close(*fs);
-    fs->at = NULL;
+    fs->ptr = NULL;
 }
 
-// ---- calls that change a volume. Each may answer ENOMEM where memory is refused; then nothing has changed.
-// Each is done at the moment `at`, a number that need not rise: what is new, a file that is written or cut (a write of
-// no bytes is no change), and each directory that gets or loses an entry then has that moment.
-// A text that is no path is refused before anything else: ENOENT (empty), EINVAL or ENAMETOOLONG.
+// ---- calls that change a volume. Each returns ENOMEM if an allocation fails; then nothing has changed.
+// Each takes the timestamp `at`, a number that need not increase. It becomes the mtime of a new entry, of a file that is
+// written or truncated (a write of no bytes is no change), and of each directory to which an entry is added or from which
+// one is removed. A text that is not a path is rejected before anything else: ENOENT (empty), EINVAL or ENAMETOOLONG.
 
-// Makes an empty directory. ENOENT, ENOTDIR: what is above the path; EEXIST.
+// Creates an empty directory. ENOENT, ENOTDIR: about the parent; EEXIST.
 static inline uint8_t doorvervain_mkdir(struct doorvervain *fs, const uint8_t *path, size_t length, uint64_t at) {
-    uint8_t lacks = doorvervain_lacks(fs, path, length);
-    return lacks ? lacks : doorvervain_raw_mkdir(fs, doorvervain_from(path), length, at);
+    uint8_t err = doorvervain_bad_args(fs, path, length);
+    return err ? err : doorvervain_raw_mkdir(fs, doorvervain_in(path), length, at);
 }
 
-// Makes an empty file where nothing stands. ENOENT, ENOTDIR: what is above the path; EEXIST.
+// Creates an empty file. ENOENT, ENOTDIR: about the parent; EEXIST.
 static inline uint8_t doorvervain_create(struct doorvervain *fs, const uint8_t *path, size_t length, uint64_t at) {
-    uint8_t lacks = doorvervain_lacks(fs, path, length);
-    return lacks ? lacks : doorvervain_raw_create(fs, doorvervain_from(path), length, at);
+    uint8_t err = doorvervain_bad_args(fs, path, length);
+    return err ? err : doorvervain_raw_create(fs, doorvervain_in(path), length, at);
 }
 
-// Takes a file out. ENOENT, ENOTDIR; EPERM: a directory.
+// Removes a file. ENOENT, ENOTDIR; EPERM: a directory.
 static inline uint8_t doorvervain_unlink(struct doorvervain *fs, const uint8_t *path, size_t length, uint64_t at) {
-    uint8_t lacks = doorvervain_lacks(fs, path, length);
-    return lacks ? lacks : doorvervain_raw_unlink(fs, doorvervain_from(path), length, at);
+    uint8_t err = doorvervain_bad_args(fs, path, length);
+    return err ? err : doorvervain_raw_unlink(fs, doorvervain_in(path), length, at);
 }
 
-// Takes an empty directory out. ENOENT, ENOTDIR, ENOTEMPTY; EBUSY: the root.
+// Removes an empty directory. ENOENT, ENOTDIR, ENOTEMPTY; EBUSY: the root.
 static inline uint8_t doorvervain_rmdir(struct doorvervain *fs, const uint8_t *path, size_t length, uint64_t at) {
-    uint8_t lacks = doorvervain_lacks(fs, path, length);
-    return lacks ? lacks : doorvervain_raw_rmdir(fs, doorvervain_from(path), length, at);
+    uint8_t err = doorvervain_bad_args(fs, path, length);
+    return err ? err : doorvervain_raw_rmdir(fs, doorvervain_in(path), length, at);
 }
 
-// Takes a file out, or a directory with all below it. ENOENT, ENOTDIR; EBUSY: the root.
+// Removes a file, or a directory with everything below it. ENOENT, ENOTDIR; EBUSY: the root.
 static inline uint8_t doorvervain_rmtree(struct doorvervain *fs, const uint8_t *path, size_t length, uint64_t at) {
-    uint8_t lacks = doorvervain_lacks(fs, path, length);
-    return lacks ? lacks : doorvervain_raw_rmtree(fs, doorvervain_from(path), length, at);
+    uint8_t err = doorvervain_bad_args(fs, path, length);
+    return err ? err : doorvervain_raw_rmtree(fs, doorvervain_in(path), length, at);
 }
 
-// Moves what stands at the first path, with all below it, to the second, where it replaces a file by a file, or an
-// empty directory by a directory. ENOENT, ENOTDIR, EISDIR, ENOTEMPTY, ENAMETOOLONG; EINVAL: to below itself; EBUSY:
-// the root.
+// Moves the entry at the first path, with everything below it, to the second. A file replaces a file there, and a
+// directory an empty directory. ENOENT, ENOTDIR, EISDIR, ENOTEMPTY, ENAMETOOLONG; EINVAL: below itself; EBUSY: the
+// root.
 static inline uint8_t doorvervain_rename(
     struct doorvervain *fs, const uint8_t *from, size_t from_length, const uint8_t *to, size_t to_length, uint64_t at) {
-    uint8_t lacks = doorvervain_lacks(fs, from, from_length);
-    if (!lacks) lacks = doorvervain_lacks(fs, to, to_length);
-    return lacks ? lacks
+    uint8_t err = doorvervain_bad_args(fs, from, from_length);
+    if (!err) err = doorvervain_bad_args(fs, to, to_length);
+    return err ? err
                  : doorvervain_raw_rename(
-                       fs, doorvervain_from(from), from_length, doorvervain_from(to), to_length, at);
+                       fs, doorvervain_in(from), from_length, doorvervain_in(to), to_length, at);
 }
 
-// Cuts a file to `size` bytes, or lengthens it to them by zeros. ENOENT, ENOTDIR, EISDIR; EFBIG: more than 2^40.
+// Truncates a file to `size` bytes, or extends it to them with zeros. ENOENT, ENOTDIR, EISDIR; EFBIG: more than 2^40.
 static inline uint8_t doorvervain_truncate(
     struct doorvervain *fs, const uint8_t *path, size_t length, uint64_t size, uint64_t at) {
-    uint8_t lacks = doorvervain_lacks(fs, path, length);
-    return lacks ? lacks : doorvervain_raw_truncate(fs, doorvervain_from(path), length, size, at);
+    uint8_t err = doorvervain_bad_args(fs, path, length);
+    return err ? err : doorvervain_raw_truncate(fs, doorvervain_in(path), length, size, at);
 }
 
-// Lays `count` bytes over a file from the byte `offset` on, and lengthens it where they reach past its end: all of
-// them, or none. ENOENT, ENOTDIR, EISDIR; EFBIG: past 2^40 bytes.
+// Writes `count` bytes to a file at `offset`, and extends it if they reach past its end. The write is atomic. ENOENT,
+// ENOTDIR, EISDIR; EFBIG: past 2^40 bytes.
 static inline uint8_t doorvervain_write(struct doorvervain *fs, const uint8_t *path, size_t length, uint64_t offset,
     const uint8_t *bytes, size_t count, uint64_t at) {
-    uint8_t lacks = doorvervain_lacks(fs, path, length);
-    if (!lacks) lacks = doorvervain_lacks(fs, bytes, count);
-    return lacks
-               ? lacks
+    uint8_t err = doorvervain_bad_args(fs, path, length);
+    if (!err) err = doorvervain_bad_args(fs, bytes, count);
+    return err
+               ? err
                : doorvervain_raw_write(
-                     fs, doorvervain_from(path), length, offset, doorvervain_from(bytes), count, at);
+                     fs, doorvervain_in(path), length, offset, doorvervain_in(bytes), count, at);
 }
 
-// ---- calls that look
+// ---- read-only calls
 
-// Reads a file from the byte `offset` on into the front of `out`, at most `room` bytes and none past the file's
-// end. `*got` is how many it wrote; the rest of `out` stays as it was. ENOENT, ENOTDIR, EISDIR; EINVAL for a room
-// of more than 1,048,576 bytes.
+// Reads at most `capacity` bytes of a file from `offset` on into `out`, and none past the file's end. `*got` is how many
+// bytes it wrote; the rest of `out` is unchanged. ENOENT, ENOTDIR, EISDIR; EINVAL: a capacity of more than 1,048,576
+// bytes.
 static inline uint8_t doorvervain_read(struct doorvervain *fs, const uint8_t *path, size_t length, uint64_t offset,
-    uint8_t *out, size_t room, size_t *got) {
+    uint8_t *out, size_t capacity, size_t *got) {
     if (!got) return DOORVERVAIN_NULL;
     *got = 0;
-    uint8_t lacks = doorvervain_lacks(fs, path, length);
-    if (!lacks) lacks = doorvervain_lacks(fs, out, room);
-    return lacks
-               ? lacks
-               : doorvervain_raw_read(fs, doorvervain_from(path), length, offset, doorvervain_into(out), room, got);
+    uint8_t err = doorvervain_bad_args(fs, path, length);
+    if (!err) err = doorvervain_bad_args(fs, out, capacity);
+    return err
+               ? err
+               : doorvervain_raw_read(fs, doorvervain_in(path), length, offset, doorvervain_out(out), capacity, got);
 }
 
-// What stands at a path: DOORVERVAIN_DIRECTORY, or DOORVERVAIN_FILE with its size in bytes (0 for a directory),
-// and its moment of last change.
-// ENOENT, ENOTDIR.
+// Returns the kind of the entry at a path, DOORVERVAIN_DIRECTORY or DOORVERVAIN_FILE, its size in bytes (0 for a
+// directory), and its mtime. ENOENT, ENOTDIR.
 static inline uint8_t doorvervain_stat(
     struct doorvervain *fs, const uint8_t *path, size_t length, uint8_t *kind, uint64_t *size,
     uint64_t *modified) {
@@ -387,86 +385,85 @@ static inline uint8_t doorvervain_stat(
     if (size) *size = 0;
     if (modified) *modified = 0;
     if (!kind || !size || !modified) return DOORVERVAIN_NULL;
-    uint8_t lacks = doorvervain_lacks(fs, path, length);
-    return lacks ? lacks : doorvervain_raw_stat(fs, doorvervain_from(path), length, kind, size, modified);
+    uint8_t err = doorvervain_bad_args(fs, path, length);
+    return err ? err : doorvervain_raw_stat(fs, doorvervain_in(path), length, kind, size, modified);
 }
 
-// Lists a directory, in byte order of the names: for each entry `d` or `f`, its name and a byte 0. `*size` is how
-// many bytes that takes, also with ERANGE: the buffer is too short. ENOENT, ENOTDIR.
+// Lists a directory, in byte order of the names: for each entry `d` or `f`, its name and a byte 0. `*size` is the length
+// of the listing in bytes, also with ERANGE: the buffer is too short. ENOENT, ENOTDIR.
 static inline uint8_t doorvervain_readdir(
-    struct doorvervain *fs, const uint8_t *path, size_t length, uint8_t *out, size_t room, size_t *size) {
+    struct doorvervain *fs, const uint8_t *path, size_t length, uint8_t *out, size_t capacity, size_t *size) {
     if (!size) return DOORVERVAIN_NULL;
     *size = 0;
-    uint8_t lacks = doorvervain_lacks(fs, path, length);
-    if (!lacks) lacks = doorvervain_lacks(fs, out, room);
-    return lacks ? lacks
-                 : doorvervain_raw_readdir(fs, doorvervain_from(path), length, doorvervain_into(out), room, size);
+    uint8_t err = doorvervain_bad_args(fs, path, length);
+    if (!err) err = doorvervain_bad_args(fs, out, capacity);
+    return err ? err
+                 : doorvervain_raw_readdir(fs, doorvervain_in(path), length, doorvervain_out(out), capacity, size);
 }
 
 // ---- snapshots. A name has 1 to 64 bytes of ASCII letters, digits, `.`, `_` and `-`; any other text is EINVAL.
 
-// Keeps the tree as it stands under a name. EEXIST; ENOSPC: all 64 names are taken.
+// Takes a snapshot of the tree under a name. EEXIST; ENOSPC: all 64 names are taken.
 static inline uint8_t doorvervain_snapshot(struct doorvervain *fs, const uint8_t *name, size_t length) {
-    uint8_t lacks = doorvervain_lacks(fs, name, length);
-    return lacks ? lacks : doorvervain_raw_snapshot(fs, doorvervain_from(name), length);
+    uint8_t err = doorvervain_bad_args(fs, name, length);
+    return err ? err : doorvervain_raw_snapshot(fs, doorvervain_in(name), length);
 }
 
-// Removes the snapshot of that name. ENOENT.
-static inline uint8_t doorvervain_drop(struct doorvervain *fs, const uint8_t *name, size_t length) {
-    uint8_t lacks = doorvervain_lacks(fs, name, length);
-    return lacks ? lacks : doorvervain_raw_drop(fs, doorvervain_from(name), length);
+// Drops the snapshot of that name. ENOENT.
+static inline uint8_t doorvervain_drop_snapshot(struct doorvervain *fs, const uint8_t *name, size_t length) {
+    uint8_t err = doorvervain_bad_args(fs, name, length);
+    return err ? err : doorvervain_raw_drop_snapshot(fs, doorvervain_in(name), length);
 }
 
-// The volume's tree becomes that of the snapshot, which stays. ENOENT.
+// Restores the volume's tree from a snapshot, which is kept. ENOENT.
 static inline uint8_t doorvervain_restore(struct doorvervain *fs, const uint8_t *name, size_t length) {
-    uint8_t lacks = doorvervain_lacks(fs, name, length);
-    return lacks ? lacks : doorvervain_raw_restore(fs, doorvervain_from(name), length);
+    uint8_t err = doorvervain_bad_args(fs, name, length);
+    return err ? err : doorvervain_raw_restore(fs, doorvervain_in(name), length);
 }
 
-// The name of the snapshot with that number, in byte order of the names, counted from 0. `*size` is how many bytes it
-// has, also with ERANGE: the buffer is too short. 64 bytes are enough for any, and no byte 0 stands behind it. ENOENT:
-// there are not more. So all names are told by the numbers from 0 up to the first ENOENT.
+// Returns the name of the snapshot at an index, counted from 0, in byte order of the names. `*size` is its length in
+// bytes, also with ERANGE: the buffer is too short. 64 bytes are enough for any name, and no byte 0 follows it. ENOENT:
+// there are no more snapshots. So all names are found by counting up from 0 to the first ENOENT.
 static inline uint8_t doorvervain_snapshot_name(
-    struct doorvervain *fs, size_t index, uint8_t *out, size_t room, size_t *size) {
+    struct doorvervain *fs, size_t index, uint8_t *out, size_t capacity, size_t *size) {
     if (!size) return DOORVERVAIN_NULL;
     *size = 0;
-    uint8_t lacks = doorvervain_lacks(fs, out, room);
-    return lacks ? lacks : doorvervain_raw_snapshot_name(fs, index, doorvervain_into(out), room, size);
+    uint8_t err = doorvervain_bad_args(fs, out, capacity);
+    return err ? err : doorvervain_raw_snapshot_name(fs, index, doorvervain_out(out), capacity, size);
 }
 
 // ---- frozen trees
 
-// The tree as it stands, at any size at once. What `out` held before is not freed. ENOMEM. Where it is refused,
-// `out` is closed.
+// Freezes the current tree, in constant time. What `out` held before is not freed. ENOMEM. If it fails, `out` is closed.
 static inline uint8_t doorvervain_freeze(struct doorvervain *fs, struct doorvervain_frozen *out) {
     if (!out) return DOORVERVAIN_NULL;
-    out->at = NULL;
-    uint8_t lacks = doorvervain_lacks(fs, NULL, 0);
-    return lacks ? lacks : doorvervain_raw_freeze(fs, out);
+    out->ptr = NULL;
+    uint8_t err = doorvervain_bad_args(fs, NULL, 0);
+    return err ? err : doorvervain_raw_freeze(fs, out);
 }
 
-// The tree of the snapshot of that name. ENOENT, ENOMEM. Where it is refused, `out` is closed.
-static inline uint8_t doorvervain_frozen(
+// Opens the snapshot of that name for reading, as a frozen tree. ENOENT, ENOMEM. If it fails, `out` is closed.
+static inline uint8_t doorvervain_open_snapshot(
     struct doorvervain *fs, const uint8_t *name, size_t length, struct doorvervain_frozen *out) {
     if (!out) return DOORVERVAIN_NULL;
-    out->at = NULL;
-    uint8_t lacks = doorvervain_lacks(fs, name, length);
-    return lacks ? lacks : doorvervain_raw_frozen(fs, doorvervain_from(name), length, out);
+    out->ptr = NULL;
+    uint8_t err = doorvervain_bad_args(fs, name, length);
+    return err ? err : doorvervain_raw_open_snapshot(fs, doorvervain_in(name), length, out);
 }
 
-// Reads a file of a frozen tree, as doorvervain_read does of a volume.
+// Reads a file of a frozen tree, as doorvervain_read does for a volume.
 static inline uint8_t doorvervain_frozen_read(struct doorvervain_frozen *tree, const uint8_t *path, size_t length,
-    uint64_t offset, uint8_t *out, size_t room, size_t *got) {
+    uint64_t offset, uint8_t *out, size_t capacity, size_t *got) {
     if (!got) return DOORVERVAIN_NULL;
     *got = 0;
-    uint8_t lacks = doorvervain_frozen_lacks(tree, path, length);
-    if (!lacks) lacks = doorvervain_frozen_lacks(tree, out, room);
-    return lacks ? lacks
+    uint8_t err = doorvervain_frozen_bad_args(tree, path, length);
+    if (!err) err = doorvervain_frozen_bad_args(tree, out, capacity);
+    return err ? err
                  : doorvervain_raw_frozen_read(
-                       tree, doorvervain_from(path), length, offset, doorvervain_into(out), room, got);
+                       tree, doorvervain_in(path), length, offset, doorvervain_out(out), capacity, got);
 }
 
-// What stands at a path of a frozen tree, as doorvervain_stat says it of a volume.
+// Returns kind, size and mtime of an entry of a frozen tree, as doorvervain_stat does for a volume.
 static inline uint8_t doorvervain_frozen_stat(
     struct doorvervain_frozen *tree, const uint8_t *path, size_t length, uint8_t *kind, uint64_t *size,
     uint64_t *modified) {
@@ -474,453 +471,451 @@ static inline uint8_t doorvervain_frozen_stat(
     if (size) *size = 0;
     if (modified) *modified = 0;
     if (!kind || !size || !modified) return DOORVERVAIN_NULL;
-    uint8_t lacks = doorvervain_frozen_lacks(tree, path, length);
-    return lacks ? lacks : doorvervain_raw_frozen_stat(tree, doorvervain_from(path), length, kind, size, modified);
+    uint8_t err = doorvervain_frozen_bad_args(tree, path, length);
+    return err ? err : doorvervain_raw_frozen_stat(tree, doorvervain_in(path), length, kind, size, modified);
 }
 
-// Lists a directory of a frozen tree, as doorvervain_readdir does of a volume.
+// Lists a directory of a frozen tree, as doorvervain_readdir does for a volume.
 static inline uint8_t doorvervain_frozen_readdir(
-    struct doorvervain_frozen *tree, const uint8_t *path, size_t length, uint8_t *out, size_t room, size_t *size) {
+    struct doorvervain_frozen *tree, const uint8_t *path, size_t length, uint8_t *out, size_t capacity, size_t *size) {
     if (!size) return DOORVERVAIN_NULL;
     *size = 0;
-    uint8_t lacks = doorvervain_frozen_lacks(tree, path, length);
-    if (!lacks) lacks = doorvervain_frozen_lacks(tree, out, room);
-    return lacks ? lacks
+    uint8_t err = doorvervain_frozen_bad_args(tree, path, length);
+    if (!err) err = doorvervain_frozen_bad_args(tree, out, capacity);
+    return err ? err
                  : doorvervain_raw_frozen_readdir(
-                       tree, doorvervain_from(path), length, doorvervain_into(out), room, size);
+                       tree, doorvervain_in(path), length, doorvervain_out(out), capacity, size);
 }
 
-// Writes the image of a frozen tree: text that doorvervain_load takes. `*size` is how many bytes it has, also with
-// ERANGE: the buffer is too short. To ask for the size alone prints the image too, and drops it. ENOMEM.
-static inline uint8_t doorvervain_image(struct doorvervain_frozen *tree, uint8_t *out, size_t room, size_t *size) {
+// Writes the image of a frozen tree: text that doorvervain_load accepts. `*size` is its length in bytes, also with
+// ERANGE: the buffer is too short. A call for the size alone prints the image too, and drops it. ENOMEM.
+static inline uint8_t doorvervain_image(struct doorvervain_frozen *tree, uint8_t *out, size_t capacity, size_t *size) {
     if (!size) return DOORVERVAIN_NULL;
     *size = 0;
-    uint8_t lacks = doorvervain_frozen_lacks(tree, out, room);
-    return lacks ? lacks : doorvervain_raw_image(tree, doorvervain_into(out), room, size);
+    uint8_t err = doorvervain_frozen_bad_args(tree, out, capacity);
+    return err ? err : doorvervain_raw_image(tree, doorvervain_out(out), capacity, size);
 }
 
-// Frees the frozen tree, and closes it. It does nothing to a tree that is closed.
-static inline void doorvervain_thaw(struct doorvervain_frozen *tree) {
-    if (!tree || !tree->at) return;
-    doorvervain_raw_thaw(*tree);
-    tree->at = NULL;
+// Frees the frozen tree, and closes it. A closed tree is left unchanged.
+static inline void doorvervain_frozen_close(struct doorvervain_frozen *tree) {
+    if (!tree || !tree->ptr) return;
+    doorvervain_raw_frozen_close(*tree);
+    tree->ptr = NULL;
 }
 
-// ---- images by pieces, so that no image has to fit into memory
+// ---- images in several buffers, so that no image has to fit into memory
 
-// Begins to print the image of a frozen tree. It takes the tree, which is closed from then on, whatever is answered but
-// DOORVERVAIN_NULL: freeze once more where the tree is wanted beside it, which copies nothing. ENOMEM. Where it is refused, the
-// printing is closed.
+// Begins to print the image of a frozen tree. The call closes the tree, whatever it returns but DOORVERVAIN_NULL: freeze
+// once more if you need the tree besides, which copies nothing. ENOMEM. If it fails, the printer is closed.
 static inline uint8_t doorvervain_print_begin(
-    struct doorvervain_printing *printing, struct doorvervain_frozen *tree) {
-    if (printing) printing->at = NULL;
-    if (!printing || !tree) return DOORVERVAIN_NULL;
-    if (!tree->at) return DOORVERVAIN_CLOSED;
+    struct doorvervain_printer *printer, struct doorvervain_frozen *tree) {
+    if (printer) printer->ptr = NULL;
+    if (!printer || !tree) return DOORVERVAIN_NULL;
+    if (!tree->ptr) return DOORVERVAIN_CLOSED;
     struct doorvervain_frozen taken = *tree;
-    tree->at = NULL;
-    return doorvervain_raw_print_begin(taken, printing);
+    tree->ptr = NULL;
+    return doorvervain_raw_print_begin(taken, printer);
 }
 
-// Writes the next bytes of the image to the front of the buffer: `*size` says how many, 0 only at the end of the image and where `room`
-// is 0. They may be fewer than there is room for. ENOMEM: nothing was written, and the same may be asked again.
-static inline uint8_t doorvervain_print_piece(
-    struct doorvervain_printing *printing, uint8_t *out, size_t room, size_t *size) {
+// Writes the next bytes of the image into the buffer: `*size` is how many, 0 only at the end of the image or if `capacity` is 0. They
+// may be fewer than `capacity`. ENOMEM: nothing was written, and the call may be repeated.
+static inline uint8_t doorvervain_print_next(
+    struct doorvervain_printer *printer, uint8_t *out, size_t capacity, size_t *size) {
     if (!size) return DOORVERVAIN_NULL;
     *size = 0;
-    if (!printing || (!out && room)) return DOORVERVAIN_NULL;
-    if (!printing->at) return DOORVERVAIN_CLOSED;
-    return doorvervain_raw_print_piece(printing, doorvervain_into(out), room, size);
+    if (!printer || (!out && capacity)) return DOORVERVAIN_NULL;
+    if (!printer->ptr) return DOORVERVAIN_CLOSED;
+    return doorvervain_raw_print_next(printer, doorvervain_out(out), capacity, size);
 }
 
-// Frees a printing with its tree, wherever it stands, and closes it. It does nothing to one that is closed.
-static inline void doorvervain_print_end(struct doorvervain_printing *printing) {
-    if (!printing || !printing->at) return;
-    doorvervain_raw_print_end(*printing);
-    printing->at = NULL;
+// Frees a printer with its tree, at any point of the image, and closes it. A closed printer is left unchanged.
+static inline void doorvervain_print_end(struct doorvervain_printer *printer) {
+    if (!printer || !printer->ptr) return;
+    doorvervain_raw_print_end(*printer);
+    printer->ptr = NULL;
 }
 
-// Begins to load an image. The shape is as doorvervain_open has it. EINVAL: no such shape. ENOMEM. Where it is refused, the
-// loading is closed.
+// Begins to load an image. The shape is as in doorvervain_open. EINVAL: no such shape. ENOMEM. If it fails, the loader is
+// closed.
 static inline uint8_t doorvervain_load_begin(
-    struct doorvervain_loading *loading, uint16_t fanout, uint16_t pending, uint16_t leaf) {
-    if (!loading) return DOORVERVAIN_NULL;
-    loading->at = NULL;
-    return doorvervain_raw_load_begin(fanout, pending, leaf, loading);
+    struct doorvervain_loader *loader, uint16_t fanout, uint16_t pending, uint16_t leaf) {
+    if (!loader) return DOORVERVAIN_NULL;
+    loader->ptr = NULL;
+    return doorvervain_raw_load_begin(fanout, pending, leaf, loader);
 }
 
-// Takes the next bytes of the text, which may be cut anywhere. EINVAL: they are no image whatever follows, and `line` is the first line
-// with which they are none. ENOMEM. `line` is 0 with any other answer. What was refused stays refused: each later piece is answered the
-// same.
-static inline uint8_t doorvervain_load_piece(
-    struct doorvervain_loading *loading, const uint8_t *text, size_t length, uint64_t *line) {
+// Feeds the next bytes of the text, which may be split anywhere. EINVAL: the text is not an image, whatever follows, and `line` is its
+// first bad line. ENOMEM. `line` is 0 in every other case. After an error each later call returns the same error.
+static inline uint8_t doorvervain_load_feed(
+    struct doorvervain_loader *loader, const uint8_t *text, size_t length, uint64_t *line) {
     if (line) *line = 0;
-    if (!loading || !line || (!text && length)) return DOORVERVAIN_NULL;
-    if (!loading->at) return DOORVERVAIN_CLOSED;
-    return doorvervain_raw_load_piece(loading, doorvervain_from(text), length, line);
+    if (!loader || !line || (!text && length)) return DOORVERVAIN_NULL;
+    if (!loader->ptr) return DOORVERVAIN_CLOSED;
+    return doorvervain_raw_load_feed(loader, doorvervain_in(text), length, line);
 }
 
-// Ends the text, and makes the volume of it. It takes the loading, which is closed from then on, whatever is answered but
-// DOORVERVAIN_NULL. EINVAL: the text is no image, and `line` is the first line with which it is none. ENOMEM. `line` is 0 with any
-// other answer. Where it is refused, the volume is closed. What `fs` held before is not freed.
-static inline uint8_t doorvervain_load_end(
-    struct doorvervain *fs, struct doorvervain_loading *loading, uint64_t *line) {
-    if (fs) fs->at = NULL;
+// Ends the text, and creates the volume from it. The call closes the loader, whatever it returns but DOORVERVAIN_NULL. EINVAL: the
+// text is not an image, and `line` is its first bad line. ENOMEM. `line` is 0 in every other case. If it fails, the volume is closed.
+// What `fs` held before is not freed.
+static inline uint8_t doorvervain_load_finish(
+    struct doorvervain *fs, struct doorvervain_loader *loader, uint64_t *line) {
+    if (fs) fs->ptr = NULL;
     if (line) *line = 0;
-    if (!fs || !loading || !line) return DOORVERVAIN_NULL;
-    if (!loading->at) return DOORVERVAIN_CLOSED;
-    struct doorvervain_loading taken = *loading;
-    loading->at = NULL;
-    return doorvervain_raw_load_end(taken, line, fs);
+    if (!fs || !loader || !line) return DOORVERVAIN_NULL;
+    if (!loader->ptr) return DOORVERVAIN_CLOSED;
+    struct doorvervain_loader taken = *loader;
+    loader->ptr = NULL;
+    return doorvervain_raw_load_finish(taken, line, fs);
 }
 
-// Frees a loading with what it loaded, and closes it. It does nothing to one that is closed.
-static inline void doorvervain_load_drop(struct doorvervain_loading *loading) {
-    if (!loading || !loading->at) return;
-    doorvervain_raw_load_drop(*loading);
-    loading->at = NULL;
+// Frees a loader with what it loaded, and closes it. A closed loader is left unchanged.
+static inline void doorvervain_load_abort(struct doorvervain_loader *loader) {
+    if (!loader || !loader->ptr) return;
+    doorvervain_raw_load_abort(*loader);
+    loader->ptr = NULL;
 }
 
-// Prints the image of a frozen tree through a function of the caller, which takes all the bytes that it is given and answers 0, or another
-// number: then no more is printed, and `*failed` is that number; else it is 0. The bytes go through the buffer, which has to have room
-// for one at least (EINVAL). It takes the tree, which is closed from then on, whatever is answered but DOORVERVAIN_NULL. ENOMEM: a
-// beginning was printed.
-static inline uint8_t doorvervain_image_to(struct doorvervain_frozen *tree, uint8_t *buffer, size_t room,
+// Writes the image of a frozen tree through a callback, which consumes all bytes that it gets and returns 0. If it returns another
+// number, nothing more is written, and `*failed` is that number; else `*failed` is 0. The bytes pass through the buffer, whose capacity
+// is at least 1 (EINVAL). The call closes the tree, whatever it returns but DOORVERVAIN_NULL. ENOMEM: the image was written in part.
+static inline uint8_t doorvervain_image_write(struct doorvervain_frozen *tree, uint8_t *buffer, size_t capacity,
     int (*put)(void *context, const uint8_t *bytes, size_t count), void *context, int *failed) {
-    struct doorvervain_printing printing;
+    struct doorvervain_printer printer;
     size_t count = 0;
     if (failed) *failed = 0;
     if (!tree || !buffer || !put || !failed) return DOORVERVAIN_NULL;
-    uint8_t number = doorvervain_print_begin(&printing, tree);
-    if (!number && !room) number = DOORVERVAIN_EINVAL;
+    uint8_t number = doorvervain_print_begin(&printer, tree);
+    if (!number && !capacity) number = DOORVERVAIN_EINVAL;
     while (!number && !*failed) {
-        number = doorvervain_print_piece(&printing, buffer, room, &count);
+        number = doorvervain_print_next(&printer, buffer, capacity, &count);
         if (!count) break;
         *failed = put(context, buffer, count);
     }
-    doorvervain_print_end(&printing);
+    doorvervain_print_end(&printer);
     return number;
 }
 
-// Makes a volume of an image that a function of the caller gives: it puts at most `room` bytes into the buffer, says in `*got` how many,
-// 0 at the end of the text, and answers 0, or another number: then `*failed` is that number, the answer DOORVERVAIN_DONE, and the volume
-// closed. Else `*failed` is 0, and all is as doorvervain_load has it. A buffer without room is answered by EINVAL, and `line` is 0.
-static inline uint8_t doorvervain_load_from(struct doorvervain *fs, uint16_t fanout, uint16_t pending, uint16_t leaf,
-    uint8_t *buffer, size_t room, int (*get)(void *context, uint8_t *buffer, size_t room, size_t *got), void *context,
+// Loads a volume from an image that a callback reads: it writes at most `capacity` bytes into the buffer, sets `*got` to how many, 0 at
+// the end of the text, and returns 0. If it returns another number, `*failed` is that number, the call returns DOORVERVAIN_DONE, and the
+// volume is closed. Else `*failed` is 0, and the call is as doorvervain_load. EINVAL, and `line` is 0: the capacity is 0.
+static inline uint8_t doorvervain_load_read(struct doorvervain *fs, uint16_t fanout, uint16_t pending, uint16_t leaf,
+    uint8_t *buffer, size_t capacity, int (*get)(void *context, uint8_t *buffer, size_t capacity, size_t *got), void *context,
     int *failed, uint64_t *line) {
-    struct doorvervain_loading loading;
-    if (fs) fs->at = NULL;
+    struct doorvervain_loader loader;
+    if (fs) fs->ptr = NULL;
     if (failed) *failed = 0;
     if (line) *line = 0;
     if (!fs || !buffer || !get || !failed || !line) return DOORVERVAIN_NULL;
-    if (!room) return DOORVERVAIN_EINVAL;
-    uint8_t number = doorvervain_load_begin(&loading, fanout, pending, leaf);
+    if (!capacity) return DOORVERVAIN_EINVAL;
+    uint8_t number = doorvervain_load_begin(&loader, fanout, pending, leaf);
     while (!number) {
         size_t got = 0;
-        *failed = get(context, buffer, room, &got);
+        *failed = get(context, buffer, capacity, &got);
         if (*failed || !got) break;
-        number = doorvervain_load_piece(&loading, buffer, got < room ? got : room, line);
+        number = doorvervain_load_feed(&loader, buffer, got < capacity ? got : capacity, line);
     }
-    if (!number && !*failed) return doorvervain_load_end(fs, &loading, line);
-    doorvervain_load_drop(&loading);
+    if (!number && !*failed) return doorvervain_load_finish(fs, &loader, line);
+    doorvervain_load_abort(&loader);
     return number;
 }
 
-// ---- differences of two trees, as text (docs/FORMATS.md has its lines)
+// ---- deltas between two trees, as text (docs/FORMATS.md has its lines)
 
-// Writes what makes one tree of the volume of another: each is the snapshot of that name, or the live tree where the length is 0. `*size`
-// is how many bytes it has, also with ERANGE: the buffer is too short. To ask for the size alone prints it too, and drops it. ENOENT: no
-// such snapshot; EINVAL, ENAMETOOLONG: no name. ENOMEM.
+// Writes the delta from one tree of the volume to another: each is the snapshot of that name, or the live tree if the length is 0.
+// `*size` is its length in bytes, also with ERANGE: the buffer is too short. A call for the size alone prints the delta too, and drops
+// it. ENOENT: no such snapshot; EINVAL, ENAMETOOLONG: not a name. ENOMEM.
 static inline uint8_t doorvervain_delta(struct doorvervain *fs, const uint8_t *from, size_t from_length,
-    const uint8_t *to, size_t to_length, uint8_t *out, size_t room, size_t *size) {
+    const uint8_t *to, size_t to_length, uint8_t *out, size_t capacity, size_t *size) {
     if (!size) return DOORVERVAIN_NULL;
     *size = 0;
-    uint8_t lacks = doorvervain_lacks(fs, from, from_length);
-    if (!lacks) lacks = doorvervain_lacks(fs, to, to_length);
-    if (!lacks) lacks = doorvervain_lacks(fs, out, room);
-    return lacks ? lacks
-                 : doorvervain_raw_delta(fs, doorvervain_from(from), from_length, doorvervain_from(to), to_length,
-                       doorvervain_into(out), room, size);
+    uint8_t err = doorvervain_bad_args(fs, from, from_length);
+    if (!err) err = doorvervain_bad_args(fs, to, to_length);
+    if (!err) err = doorvervain_bad_args(fs, out, capacity);
+    return err ? err
+                 : doorvervain_raw_delta(fs, doorvervain_in(from), from_length, doorvervain_in(to), to_length,
+                       doorvervain_out(out), capacity, size);
 }
 
-// Makes the live tree the one that such a text makes of it. The volume is as one that was loaded then: **its snapshots are gone**.
-// ENOENT: the live tree is not the one that the text was printed of. EINVAL: the text is no difference, and `line` is its first bad line;
-// or `line` is 0, and what it makes is no tree. ENOMEM. `line` is 0 with any other answer.
-static inline uint8_t doorvervain_apply(struct doorvervain *fs, const uint8_t *text, size_t length, uint64_t *line) {
+// Applies a delta to the live tree. Afterwards the volume is like one that was just loaded: its snapshots are dropped. ENOENT: the
+// live tree is not the tree from which the delta was printed. EINVAL: the text is not a delta, and `line` is its first bad line; or
+// `line` is 0, and the result would not be a tree. ENOMEM. `line` is 0 in every other case.
+static inline uint8_t doorvervain_apply_delta(struct doorvervain *fs, const uint8_t *text, size_t length, uint64_t *line) {
     if (!line) return DOORVERVAIN_NULL;
     *line = 0;
-    uint8_t lacks = doorvervain_lacks(fs, text, length);
-    return lacks ? lacks : doorvervain_raw_apply(fs, doorvervain_from(text), length, line);
+    uint8_t err = doorvervain_bad_args(fs, text, length);
+    return err ? err : doorvervain_raw_apply_delta(fs, doorvervain_in(text), length, line);
 }
 
-// ---- upkeep
+// ---- compaction
 
-// Does at most `steps` steps that move waiting changes down, where most wait: how many it tried, fewer only where
-// nothing waits. No answer of any call changes by it. Call it now and then, or never. A volume that is closed, or no
-// volume: 0.
-static inline uint32_t doorvervain_relieve(struct doorvervain *fs, uint32_t steps) {
-    return doorvervain_lacks(fs, NULL, 0) ? 0 : doorvervain_raw_relieve(fs, steps);
+// Compacts the trees: does at most `steps` steps, each of which moves pending changes down from the fullest slot. Returns
+// how many steps it tried, fewer than `steps` only if nothing is pending. It changes no result of any call. Call it now
+// and then, or never. Returns 0 for a closed volume or a null pointer.
+static inline uint32_t doorvervain_compact(struct doorvervain *fs, uint32_t steps) {
+    return doorvervain_bad_args(fs, NULL, 0) ? 0 : doorvervain_raw_compact(fs, steps);
 }
 
-// ---- records. They take no volume, and may be called from any thread. docs/FORMATS.md has the text of a record.
-// A result is written where `room` is enough for all of it; `*size` is how many bytes it has. With less room the buffer stays as it
-// was: DOORVERVAIN_ERANGE, or DOORVERVAIN_DONE where `room` is 0, which asks for the size.
+// ---- attribute records. These calls take no volume, and may be made from any thread. docs/FORMATS.md has the text of a record.
+// A result is written if `capacity` is enough for all of it; `*size` is its length in bytes. With a smaller capacity the buffer is
+// unchanged: DOORVERVAIN_ERANGE, or DOORVERVAIN_DONE if `capacity` is 0, which asks for the size.
 
-// Whether a pointer to bytes, or one to a buffer, is null where it must not be.
-static inline int doorvervain_has_null(const uint8_t *bytes, size_t length, const uint8_t *out, size_t room) {
-    return (!bytes && length) || (!out && room);
+// Whether a pointer to bytes, or one to a buffer, is null but must not be.
+static inline int doorvervain_has_null(const uint8_t *bytes, size_t length, const uint8_t *out, size_t capacity) {
+    return (!bytes && length) || (!out && capacity);
 }
 
-// Where a path is mirrored below the reserved name: DOORVERVAIN_RESERVED, `tree`, and the names of the path, of which one that
-// begins with a byte 1 has one more in front. It has at most 1,023 bytes. A text that is no path: ENOENT (empty), EINVAL or
-// ENAMETOOLONG. EINVAL: the path is at or below the reserved name. ENAMETOOLONG: what mirrors it would have a name of more than
-// 255 bytes, or more than 1,023 bytes. ENOMEM.
-static inline uint8_t doorvervain_mirror(
-    const uint8_t *path, size_t length, uint8_t *out, size_t room, size_t *size) {
+// Returns the directory for the attribute record of a path, below the reserved name: DOORVERVAIN_RESERVED, `tree`, and the names of
+// the path; a name that begins with a byte 1 gets one more byte 1 before it. It has at most 1,023 bytes. A text that is not a path:
+// ENOENT (empty), EINVAL or ENAMETOOLONG. EINVAL: the path is at or below the reserved name. ENAMETOOLONG: the result would have a
+// name of more than 255 bytes, or more than 1,023 bytes. ENOMEM.
+static inline uint8_t doorvervain_attr_dir(
+    const uint8_t *path, size_t length, uint8_t *out, size_t capacity, size_t *size) {
     if (!size) return DOORVERVAIN_NULL;
     *size = 0;
-    if (doorvervain_has_null(path, length, out, room)) return DOORVERVAIN_NULL;
-    return doorvervain_raw_mirror(doorvervain_from(path), length, doorvervain_into(out), room, size);
+    if (doorvervain_has_null(path, length, out, capacity)) return DOORVERVAIN_NULL;
+    return doorvervain_raw_attr_dir(doorvervain_in(path), length, doorvervain_out(out), capacity, size);
 }
 
-// Where the record of a path lies: what doorvervain_mirror gives, and one name more, the byte 1. Refused likewise: a path whose
-// record has no place is refused here.
-static inline uint8_t doorvervain_record_path(
-    const uint8_t *path, size_t length, uint8_t *out, size_t room, size_t *size) {
+// Returns the path of the attribute record of a path: the result of doorvervain_attr_dir, and one more name, the byte 1. It fails as
+// doorvervain_attr_dir does, and also with ENAMETOOLONG if the result would have more than 1,023 bytes.
+static inline uint8_t doorvervain_attr_path(
+    const uint8_t *path, size_t length, uint8_t *out, size_t capacity, size_t *size) {
     if (!size) return DOORVERVAIN_NULL;
     *size = 0;
-    if (doorvervain_has_null(path, length, out, room)) return DOORVERVAIN_NULL;
-    return doorvervain_raw_record_path(doorvervain_from(path), length, doorvervain_into(out), room, size);
+    if (doorvervain_has_null(path, length, out, capacity)) return DOORVERVAIN_NULL;
+    return doorvervain_raw_attr_path(doorvervain_in(path), length, doorvervain_out(out), capacity, size);
 }
 
-// Writes the record of attributes. `extended` has the extended attributes side by side, in rising byte order of their names: of each
-// its name of 1 to 255 bytes, a byte 0, the length of its value in four bytes, least first, and the value of at most 65,536 bytes.
-// `link` counts with DOORVERVAIN_OTHER_NAME alone, `device` with devices, `modified` and `held` where `has_modified` is not 0.
-// EINVAL: no such kind, a mode of more than twelve bits, or other extended attributes. ENOMEM.
-static inline uint8_t doorvervain_record_print(const struct doorvervain_attributes *attributes, const uint8_t *extended,
-    size_t extended_length, uint8_t *out, size_t room, size_t *size) {
+// Encodes an attribute record. `extended` has the extended attributes one after the other, in increasing byte order of their names: the
+// name of 1 to 255 bytes, a byte 0, the length of the value in four bytes, least significant first, and the value of at most 65,536
+// bytes. `link` is used with DOORVERVAIN_OTHER_NAME alone, `device` with devices, `modified` and `held` if `has_modified` is not 0.
+// EINVAL: no such kind, a mode of more than twelve bits, or malformed extended attributes. ENOMEM.
+static inline uint8_t doorvervain_attr_encode(const struct doorvervain_attributes *attributes, const uint8_t *extended,
+    size_t extended_length, uint8_t *out, size_t capacity, size_t *size) {
     if (!size) return DOORVERVAIN_NULL;
     *size = 0;
-    if (!attributes || doorvervain_has_null(extended, extended_length, out, room)) return DOORVERVAIN_NULL;
-    return doorvervain_raw_record_print(
-        attributes, doorvervain_from(extended), extended_length, doorvervain_into(out), room, size);
+    if (!attributes || doorvervain_has_null(extended, extended_length, out, capacity)) return DOORVERVAIN_NULL;
+    return doorvervain_raw_attr_encode(
+        attributes, doorvervain_in(extended), extended_length, doorvervain_out(out), capacity, size);
 }
 
-// Reads a record. Fields that its kind does not have are 0. The extended attributes come side by side, as doorvervain_record_print
-// takes them; they have no more bytes than the record. EINVAL: a text that doorvervain_record_print never writes. ENOMEM. Where it
-// is refused, each field is 0.
-static inline uint8_t doorvervain_record_parse(const uint8_t *text, size_t length,
-    struct doorvervain_attributes *attributes, uint8_t *extended, size_t room, size_t *size) {
+// Decodes an attribute record. Fields that its kind does not have are 0. The extended attributes are written one after the other, as
+// doorvervain_attr_encode takes them; they have no more bytes than the record. EINVAL: a text that doorvervain_attr_encode never writes.
+// ENOMEM. If it fails, each field is 0.
+static inline uint8_t doorvervain_attr_decode(const uint8_t *text, size_t length,
+    struct doorvervain_attributes *attributes, uint8_t *extended, size_t capacity, size_t *size) {
     static struct doorvervain_attributes none; // each field is 0
     if (attributes) *attributes = none;
     if (size) *size = 0;
-    if (!attributes || !size || doorvervain_has_null(text, length, extended, room)) return DOORVERVAIN_NULL;
-    return doorvervain_raw_record_parse(doorvervain_from(text), length, attributes, doorvervain_into(extended), room, size);
+    if (!attributes || !size || doorvervain_has_null(text, length, extended, capacity)) return DOORVERVAIN_NULL;
+    return doorvervain_raw_attr_decode(doorvervain_in(text), length, attributes, doorvervain_out(extended), capacity, size);
 }
 
-// ---- what a number says, and the release
+// ---- the release
 
 // The release of the library that this header belongs to.
-#define DOORVERVAIN_VERSION "0.1.0"
+#define DOORVERVAIN_VERSION "0.2.0"
 
 // ---- holes
 
-// Makes zeros of `count` bytes of a file from the byte `offset` on, as far as the file reaches: what a write of as many
-// zeros makes of the tree. The file keeps its size. Blocks that lie whole among the zeros take no memory any more, and
-// however many they are, none is taken for them. Where no byte lies within the file nothing changes, and its moment
-// stays. ENOENT, ENOTDIR, EISDIR.
+// Punches a hole: sets `count` bytes of a file from `offset` on to zero, up to the file's end. The tree is the same as after a
+// write of zeros there. The file keeps its size. Blocks that are entirely in the hole use no memory afterwards, and the call
+// allocates none for them. If no byte of the range is within the file, nothing changes, and the file keeps its mtime. ENOENT,
+// ENOTDIR, EISDIR.
 static inline uint8_t doorvervain_punch(
     struct doorvervain *fs, const uint8_t *path, size_t length, uint64_t offset, uint64_t count, uint64_t at) {
-    uint8_t lacks = doorvervain_lacks(fs, path, length);
-    return lacks ? lacks : doorvervain_raw_punch(fs, doorvervain_from(path), length, offset, count, at);
+    uint8_t err = doorvervain_bad_args(fs, path, length);
+    return err ? err : doorvervain_raw_punch(fs, doorvervain_in(path), length, offset, count, at);
 }
 
-// The next run of stored bytes of a file at or behind the byte `offset`: they lie from `*from` up to and without `*to`,
-// within the file and not before `offset`. All bytes from `offset` to there are zeros. Where there is no such run both are
-// the file's size. ENOENT, ENOTDIR, EISDIR.
-static inline uint8_t doorvervain_data(struct doorvervain *fs, const uint8_t *path, size_t length, uint64_t offset,
+// Returns the next allocated extent of a file at or after `offset`: the bytes from `*from` to `*to`, without the latter,
+// within the file and not before `offset`. All bytes from `offset` to `*from` are zeros. If there is no such extent, both
+// are the file's size. ENOENT, ENOTDIR, EISDIR.
+static inline uint8_t doorvervain_next_extent(struct doorvervain *fs, const uint8_t *path, size_t length, uint64_t offset,
     uint64_t *from, uint64_t *to) {
     if (from) *from = 0;
     if (to) *to = 0;
     if (!from || !to) return DOORVERVAIN_NULL;
-    uint8_t lacks = doorvervain_lacks(fs, path, length);
-    return lacks ? lacks : doorvervain_raw_data(fs, doorvervain_from(path), length, offset, from, to);
+    uint8_t err = doorvervain_bad_args(fs, path, length);
+    return err ? err : doorvervain_raw_next_extent(fs, doorvervain_in(path), length, offset, from, to);
 }
 
-// The next run of stored bytes of a file of a frozen tree, as doorvervain_data says it of a volume.
-static inline uint8_t doorvervain_frozen_data(struct doorvervain_frozen *tree, const uint8_t *path, size_t length,
+// Returns the next allocated extent of a file of a frozen tree, as doorvervain_next_extent does for a volume.
+static inline uint8_t doorvervain_frozen_next_extent(struct doorvervain_frozen *tree, const uint8_t *path, size_t length,
     uint64_t offset, uint64_t *from, uint64_t *to) {
     if (from) *from = 0;
     if (to) *to = 0;
     if (!from || !to) return DOORVERVAIN_NULL;
-    uint8_t lacks = doorvervain_frozen_lacks(tree, path, length);
-    return lacks ? lacks : doorvervain_raw_frozen_data(tree, doorvervain_from(path), length, offset, from, to);
+    uint8_t err = doorvervain_frozen_bad_args(tree, path, length);
+    return err ? err : doorvervain_raw_frozen_next_extent(tree, doorvervain_in(path), length, offset, from, to);
 }
 
-// ---- the log of a store
+// ---- the write-ahead log (WAL) of a store
 
-// A log is records, one behind the other, whose numbers rise by one. A record is DOORVERVAIN_LOG_FRONT bytes, a body, and
-// DOORVERVAIN_LOG_BACK bytes. A body is what one request changed: an entry for each change, one behind the other. An entry has
-// DOORVERVAIN_LOG_ENTRY bytes and its texts: a path or a name, and behind it the second path of a rename or the bytes of a write.
-enum { DOORVERVAIN_LOG_FRONT = 24, DOORVERVAIN_LOG_BACK = 32, DOORVERVAIN_LOG_ENTRY = 48 };
+// A log is a sequence of records, whose numbers increase by one. A record is DOORVERVAIN_WAL_HEADER bytes, a body, and
+// DOORVERVAIN_WAL_TRAILER bytes. A body is what one request changed: a sequence of entries, one for each change. An entry has
+// DOORVERVAIN_WAL_ENTRY bytes and its texts: a path or a name, and after it the second path of a rename or the bytes of a write.
+enum { DOORVERVAIN_WAL_HEADER = 24, DOORVERVAIN_WAL_TRAILER = 32, DOORVERVAIN_WAL_ENTRY = 48 };
 
-// The pointer that is null: to a text, a buffer or a size; 0 where all are there.
-static inline uint8_t doorvervain_log_lacks(
-    const uint8_t *text, size_t length, const uint8_t *out, size_t room, size_t *size) {
+// The error for a text, a buffer or a size that is null; else 0.
+static inline uint8_t doorvervain_wal_bad_args(
+    const uint8_t *text, size_t length, const uint8_t *out, size_t capacity, size_t *size) {
     if (!size) return DOORVERVAIN_NULL;
     *size = 0;
-    return doorvervain_has_null(text, length, out, room) ? DOORVERVAIN_NULL : DOORVERVAIN_DONE;
+    return doorvervain_has_null(text, length, out, capacity) ? DOORVERVAIN_NULL : DOORVERVAIN_DONE;
 }
 
-// The entry of a directory that is made at the moment `at`. ENOENT, EINVAL, ENAMETOOLONG: a text that is no path. ENOMEM.
-static inline uint8_t doorvervain_log_mkdir(
-    const uint8_t *path, size_t length, uint64_t at, uint8_t *out, size_t room, size_t *size) {
-    uint8_t lacks = doorvervain_log_lacks(path, length, out, room, size);
-    return lacks ? lacks
-                 : doorvervain_raw_log_mkdir(doorvervain_from(path), length, at, doorvervain_into(out), room, size);
+// Encodes the entry of a mkdir with the timestamp `at`. ENOENT, EINVAL, ENAMETOOLONG: a text that is not a path. ENOMEM.
+static inline uint8_t doorvervain_wal_mkdir(
+    const uint8_t *path, size_t length, uint64_t at, uint8_t *out, size_t capacity, size_t *size) {
+    uint8_t err = doorvervain_wal_bad_args(path, length, out, capacity, size);
+    return err ? err
+                 : doorvervain_raw_wal_mkdir(doorvervain_in(path), length, at, doorvervain_out(out), capacity, size);
 }
 
-// The same of a file that is made.
-static inline uint8_t doorvervain_log_create(
-    const uint8_t *path, size_t length, uint64_t at, uint8_t *out, size_t room, size_t *size) {
-    uint8_t lacks = doorvervain_log_lacks(path, length, out, room, size);
-    return lacks ? lacks
-                 : doorvervain_raw_log_create(doorvervain_from(path), length, at, doorvervain_into(out), room, size);
+// Encodes the entry of a create, as doorvervain_wal_mkdir does.
+static inline uint8_t doorvervain_wal_create(
+    const uint8_t *path, size_t length, uint64_t at, uint8_t *out, size_t capacity, size_t *size) {
+    uint8_t err = doorvervain_wal_bad_args(path, length, out, capacity, size);
+    return err ? err
+                 : doorvervain_raw_wal_create(doorvervain_in(path), length, at, doorvervain_out(out), capacity, size);
 }
 
-// The same of a file that is taken out.
-static inline uint8_t doorvervain_log_unlink(
-    const uint8_t *path, size_t length, uint64_t at, uint8_t *out, size_t room, size_t *size) {
-    uint8_t lacks = doorvervain_log_lacks(path, length, out, room, size);
-    return lacks ? lacks
-                 : doorvervain_raw_log_unlink(doorvervain_from(path), length, at, doorvervain_into(out), room, size);
+// Encodes the entry of an unlink, as doorvervain_wal_mkdir does.
+static inline uint8_t doorvervain_wal_unlink(
+    const uint8_t *path, size_t length, uint64_t at, uint8_t *out, size_t capacity, size_t *size) {
+    uint8_t err = doorvervain_wal_bad_args(path, length, out, capacity, size);
+    return err ? err
+                 : doorvervain_raw_wal_unlink(doorvervain_in(path), length, at, doorvervain_out(out), capacity, size);
 }
 
-// The same of an empty directory that is taken out.
-static inline uint8_t doorvervain_log_rmdir(
-    const uint8_t *path, size_t length, uint64_t at, uint8_t *out, size_t room, size_t *size) {
-    uint8_t lacks = doorvervain_log_lacks(path, length, out, room, size);
-    return lacks ? lacks
-                 : doorvervain_raw_log_rmdir(doorvervain_from(path), length, at, doorvervain_into(out), room, size);
+// Encodes the entry of an rmdir, as doorvervain_wal_mkdir does.
+static inline uint8_t doorvervain_wal_rmdir(
+    const uint8_t *path, size_t length, uint64_t at, uint8_t *out, size_t capacity, size_t *size) {
+    uint8_t err = doorvervain_wal_bad_args(path, length, out, capacity, size);
+    return err ? err
+                 : doorvervain_raw_wal_rmdir(doorvervain_in(path), length, at, doorvervain_out(out), capacity, size);
 }
 
-// The same of what is taken out with all below it.
-static inline uint8_t doorvervain_log_rmtree(
-    const uint8_t *path, size_t length, uint64_t at, uint8_t *out, size_t room, size_t *size) {
-    uint8_t lacks = doorvervain_log_lacks(path, length, out, room, size);
-    return lacks ? lacks
-                 : doorvervain_raw_log_rmtree(doorvervain_from(path), length, at, doorvervain_into(out), room, size);
+// Encodes the entry of an rmtree, as doorvervain_wal_mkdir does.
+static inline uint8_t doorvervain_wal_rmtree(
+    const uint8_t *path, size_t length, uint64_t at, uint8_t *out, size_t capacity, size_t *size) {
+    uint8_t err = doorvervain_wal_bad_args(path, length, out, capacity, size);
+    return err ? err
+                 : doorvervain_raw_wal_rmtree(doorvervain_in(path), length, at, doorvervain_out(out), capacity, size);
 }
 
-// The entry of a move from the first path to the second.
-static inline uint8_t doorvervain_log_rename(const uint8_t *from, size_t from_length, const uint8_t *to,
-    size_t to_length, uint64_t at, uint8_t *out, size_t room, size_t *size) {
-    uint8_t lacks = doorvervain_log_lacks(from, from_length, out, room, size);
-    if (!lacks) lacks = doorvervain_log_lacks(to, to_length, out, room, size);
-    return lacks ? lacks
-                 : doorvervain_raw_log_rename(doorvervain_from(from), from_length, doorvervain_from(to), to_length, at,
-                       doorvervain_into(out), room, size);
+// Encodes the entry of a rename from the first path to the second.
+static inline uint8_t doorvervain_wal_rename(const uint8_t *from, size_t from_length, const uint8_t *to,
+    size_t to_length, uint64_t at, uint8_t *out, size_t capacity, size_t *size) {
+    uint8_t err = doorvervain_wal_bad_args(from, from_length, out, capacity, size);
+    if (!err) err = doorvervain_wal_bad_args(to, to_length, out, capacity, size);
+    return err ? err
+                 : doorvervain_raw_wal_rename(doorvervain_in(from), from_length, doorvervain_in(to), to_length, at,
+                       doorvervain_out(out), capacity, size);
 }
 
-// The entry of a file that is cut or lengthened to so many bytes.
-static inline uint8_t doorvervain_log_truncate(const uint8_t *path, size_t length, uint64_t bytes, uint64_t at,
-    uint8_t *out, size_t room, size_t *size) {
-    uint8_t lacks = doorvervain_log_lacks(path, length, out, room, size);
-    return lacks
-               ? lacks
-               : doorvervain_raw_log_truncate(doorvervain_from(path), length, bytes, at, doorvervain_into(out), room, size);
+// Encodes the entry of a truncate to the given number of bytes.
+static inline uint8_t doorvervain_wal_truncate(const uint8_t *path, size_t length, uint64_t bytes, uint64_t at,
+    uint8_t *out, size_t capacity, size_t *size) {
+    uint8_t err = doorvervain_wal_bad_args(path, length, out, capacity, size);
+    return err
+               ? err
+               : doorvervain_raw_wal_truncate(doorvervain_in(path), length, bytes, at, doorvervain_out(out), capacity, size);
 }
 
-// The entry of bytes that are laid over a file from the byte `offset` on.
-static inline uint8_t doorvervain_log_write(const uint8_t *path, size_t length, uint64_t offset, const uint8_t *bytes,
-    size_t count, uint64_t at, uint8_t *out, size_t room, size_t *size) {
-    uint8_t lacks = doorvervain_log_lacks(path, length, out, room, size);
-    if (!lacks) lacks = doorvervain_log_lacks(bytes, count, out, room, size);
-    return lacks ? lacks
-                 : doorvervain_raw_log_write(doorvervain_from(path), length, offset, doorvervain_from(bytes), count, at,
-                       doorvervain_into(out), room, size);
+// Encodes the entry of a write at `offset`.
+static inline uint8_t doorvervain_wal_write(const uint8_t *path, size_t length, uint64_t offset, const uint8_t *bytes,
+    size_t count, uint64_t at, uint8_t *out, size_t capacity, size_t *size) {
+    uint8_t err = doorvervain_wal_bad_args(path, length, out, capacity, size);
+    if (!err) err = doorvervain_wal_bad_args(bytes, count, out, capacity, size);
+    return err ? err
+                 : doorvervain_raw_wal_write(doorvervain_in(path), length, offset, doorvervain_in(bytes), count, at,
+                       doorvervain_out(out), capacity, size);
 }
 
-// The entry of a hole of `count` bytes from the byte `offset` on.
-static inline uint8_t doorvervain_log_punch(const uint8_t *path, size_t length, uint64_t offset, uint64_t count,
-    uint64_t at, uint8_t *out, size_t room, size_t *size) {
-    uint8_t lacks = doorvervain_log_lacks(path, length, out, room, size);
-    return lacks ? lacks
-                 : doorvervain_raw_log_punch(
-                       doorvervain_from(path), length, offset, count, at, doorvervain_into(out), room, size);
+// Encodes the entry of a punch of `count` bytes at `offset`.
+static inline uint8_t doorvervain_wal_punch(const uint8_t *path, size_t length, uint64_t offset, uint64_t count,
+    uint64_t at, uint8_t *out, size_t capacity, size_t *size) {
+    uint8_t err = doorvervain_wal_bad_args(path, length, out, capacity, size);
+    return err ? err
+                 : doorvervain_raw_wal_punch(
+                       doorvervain_in(path), length, offset, count, at, doorvervain_out(out), capacity, size);
 }
 
-// The entry of a snapshot that is taken. EINVAL: a text that is no name. ENOMEM.
-static inline uint8_t doorvervain_log_snapshot(const uint8_t *name, size_t length, uint8_t *out, size_t room, size_t *size) {
-    uint8_t lacks = doorvervain_log_lacks(name, length, out, room, size);
-    return lacks ? lacks
-                 : doorvervain_raw_log_snapshot(doorvervain_from(name), length, doorvervain_into(out), room, size);
+// Encodes the entry of a snapshot that is taken. EINVAL: a text that is not a name. ENOMEM.
+static inline uint8_t doorvervain_wal_snapshot(const uint8_t *name, size_t length, uint8_t *out, size_t capacity, size_t *size) {
+    uint8_t err = doorvervain_wal_bad_args(name, length, out, capacity, size);
+    return err ? err
+                 : doorvervain_raw_wal_snapshot(doorvervain_in(name), length, doorvervain_out(out), capacity, size);
 }
 
-// The same of one that is removed.
-static inline uint8_t doorvervain_log_drop(const uint8_t *name, size_t length, uint8_t *out, size_t room, size_t *size) {
-    uint8_t lacks = doorvervain_log_lacks(name, length, out, room, size);
-    return lacks ? lacks
-                 : doorvervain_raw_log_drop(doorvervain_from(name), length, doorvervain_into(out), room, size);
+// Encodes the entry of a snapshot that is dropped, as doorvervain_wal_snapshot does.
+static inline uint8_t doorvervain_wal_drop(const uint8_t *name, size_t length, uint8_t *out, size_t capacity, size_t *size) {
+    uint8_t err = doorvervain_wal_bad_args(name, length, out, capacity, size);
+    return err ? err
+                 : doorvervain_raw_wal_drop(doorvervain_in(name), length, doorvervain_out(out), capacity, size);
 }
 
-// The same of one that is restored.
-static inline uint8_t doorvervain_log_restore(const uint8_t *name, size_t length, uint8_t *out, size_t room, size_t *size) {
-    uint8_t lacks = doorvervain_log_lacks(name, length, out, room, size);
-    return lacks ? lacks
-                 : doorvervain_raw_log_restore(doorvervain_from(name), length, doorvervain_into(out), room, size);
+// Encodes the entry of a snapshot that is restored, as doorvervain_wal_snapshot does.
+static inline uint8_t doorvervain_wal_restore(const uint8_t *name, size_t length, uint8_t *out, size_t capacity, size_t *size) {
+    uint8_t err = doorvervain_wal_bad_args(name, length, out, capacity, size);
+    return err ? err
+                 : doorvervain_raw_wal_restore(doorvervain_in(name), length, doorvervain_out(out), capacity, size);
 }
 
-// What stands round a body in the record of a number: DOORVERVAIN_LOG_FRONT bytes before it, and DOORVERVAIN_LOG_BACK bytes
-// behind it. ENOMEM.
-static inline uint8_t doorvervain_log_ends(
-    uint64_t number, const uint8_t *body, size_t length, uint8_t *out, size_t room, size_t *size) {
-    uint8_t lacks = doorvervain_log_lacks(body, length, out, room, size);
-    return lacks ? lacks
-                 : doorvervain_raw_log_ends(number, doorvervain_from(body), length, doorvervain_into(out), room, size);
+// Encodes the frame of a body in the record of a number: the DOORVERVAIN_WAL_HEADER bytes before the body, and then the
+// DOORVERVAIN_WAL_TRAILER bytes after it. ENOMEM.
+static inline uint8_t doorvervain_wal_frame(
+    uint64_t number, const uint8_t *body, size_t length, uint8_t *out, size_t capacity, size_t *size) {
+    uint8_t err = doorvervain_wal_bad_args(body, length, out, capacity, size);
+    return err ? err
+                 : doorvervain_raw_wal_frame(number, doorvervain_in(body), length, doorvervain_out(out), capacity, size);
 }
 
-// How many bytes the body has of the record of a number with which a log begins. ENOENT: it begins with no such record. Where
-// bytes are left there, the record is cut off or damaged.
-static inline uint8_t doorvervain_log_next(const uint8_t *log, size_t length, uint64_t number, size_t *size) {
-    uint8_t lacks = doorvervain_log_lacks(log, length, NULL, 0, size);
-    return lacks ? lacks : doorvervain_raw_log_next(doorvervain_from(log), length, number, size);
+// Returns the length of the body of a log's first record, which must have the given number. ENOENT: the log does not begin with such
+// a record. If bytes are left there, the record is truncated or corrupt.
+static inline uint8_t doorvervain_wal_next(const uint8_t *log, size_t length, uint64_t number, size_t *size) {
+    uint8_t err = doorvervain_wal_bad_args(log, length, NULL, 0, size);
+    return err ? err : doorvervain_raw_wal_next(doorvervain_in(log), length, number, size);
 }
 
-// The lines of a script that ask for the changes of a body, in their order and each at its moment. A hole is told by a note without
-// its moment, since scripts have no line for it: "# punch PATH OFFSET COUNT". EINVAL: the bytes are no body. EFBIG: a write of it
+// Dumps a body as the lines of a script that makes its changes, in their order and each with its timestamp. A punch is a comment without
+// its timestamp, since scripts have no line for it: "# punch PATH OFFSET COUNT". EINVAL: the bytes are not a body. EFBIG: a write
 // reaches past 2^64. ENOMEM.
-static inline uint8_t doorvervain_log_lines(
-    const uint8_t *body, size_t length, uint8_t *out, size_t room, size_t *size) {
-    uint8_t lacks = doorvervain_log_lacks(body, length, out, room, size);
-    return lacks ? lacks
-                 : doorvervain_raw_log_lines(doorvervain_from(body), length, doorvervain_into(out), room, size);
+static inline uint8_t doorvervain_wal_dump(
+    const uint8_t *body, size_t length, uint8_t *out, size_t capacity, size_t *size) {
+    uint8_t err = doorvervain_wal_bad_args(body, length, out, capacity, size);
+    return err ? err
+                 : doorvervain_raw_wal_dump(doorvervain_in(body), length, doorvervain_out(out), capacity, size);
 }
 
-// Does the changes of a body, up to the first that is refused: the answer is why, and `*done` how many were done before it. `*done`
-// is 0 where none is refused, and where the body could not be read, so that nothing was done: EINVAL, the bytes are no body; ENOMEM.
-static inline uint8_t doorvervain_log_run(
+// Applies the changes of a body, up to the first that fails: the call returns its error, and `*done` is how many were applied before it.
+// `*done` is 0 if none fails, and if the body could not be decoded, so that nothing was applied: EINVAL, the bytes are not a body;
+// ENOMEM.
+static inline uint8_t doorvervain_wal_apply(
     struct doorvervain *fs, const uint8_t *body, size_t length, size_t *done) {
     if (!done) return DOORVERVAIN_NULL;
     *done = 0;
-    uint8_t lacks = doorvervain_lacks(fs, body, length);
-    return lacks ? lacks : doorvervain_raw_log_run(fs, doorvervain_from(body), length, done);
+    uint8_t err = doorvervain_bad_args(fs, body, length);
+    return err ? err : doorvervain_raw_wal_apply(fs, doorvervain_in(body), length, done);
 }
 
-// Does the changes of a log's records, the first of which has this number, as far as they count. `*records` is how many were
-// done, and `*size` how many bytes they take. Where a change is refused the answer is why, and `*done` how many of its record
-// were done. EINVAL: its body is none, or a number of the log may pass 2^64.
-static inline uint8_t doorvervain_log_replay(struct doorvervain *fs, const uint8_t *log, size_t length,
+// Replays the valid records of a log, the first of which has the given number. `*records` is how many records were replayed, and
+// `*size` how many bytes they have. If a change fails, the call returns its error, and `*done` is how many changes of its record were
+// applied. EINVAL: the body of a record is not valid, or a number of the log may exceed 2^64.
+static inline uint8_t doorvervain_wal_replay(struct doorvervain *fs, const uint8_t *log, size_t length,
     uint64_t number, size_t *records, size_t *done, size_t *size) {
     if (records) *records = 0;
     if (done) *done = 0;
     if (size) *size = 0;
     if (!records || !done || !size) return DOORVERVAIN_NULL;
-    uint8_t lacks = doorvervain_lacks(fs, log, length);
-    return lacks ? lacks : doorvervain_raw_log_replay(fs, doorvervain_from(log), length, number, records, done, size);
+    uint8_t err = doorvervain_bad_args(fs, log, length);
+    return err ? err : doorvervain_raw_wal_replay(fs, doorvervain_in(log), length, number, records, done, size);
 }
 
-// The word and a sentence for what a call answered, as "ENOENT: no such file or directory". It never answers null. The
-// text is constant: nobody frees it.
+// The name and the message of the number that a call returned, as "ENOENT: no such file or directory". Never null. The text is
+// constant: do not free it.
 static inline const char *doorvervain_strerror(uint8_t number) {
     switch (number) {
     case DOORVERVAIN_DONE: return "DONE: the call was done";
@@ -943,12 +938,12 @@ static inline const char *doorvervain_strerror(uint8_t number) {
     }
 }
 
-// The release that the program was compiled for, as "0.1.0". The text is constant: nobody frees it.
+// The release that the program was compiled for, as "0.2.0". The text is constant: do not free it.
 static inline const char *doorvervain_version(void) { return DOORVERVAIN_VERSION; }
 
-// What the library that is linked was built from, as "0.1.0, commit 0123456789ab, proved": the release, the commit, and whether the
-// library was proved as it was built (`proved` or `unproved`). The text is constant: do not free it. An installed library has this
-// function; the archive of a clone, crates/doorvervain/out/libdoorvervain.a, has not.
+// What the linked library was built from, as "0.2.0, commit 0123456789ab, proved": the release, the commit, and whether the library was
+// proved when it was built (`proved` or `unproved`). The text is constant: do not free it. An installed library has this function; the
+// archive of a clone, crates/doorvervain/out/libdoorvervain.a, does not.
 extern const char *doorvervain_build(void);
 
 #ifdef __cplusplus

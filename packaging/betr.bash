@@ -3,10 +3,10 @@ _betr() {
     local word=${COMP_WORDS[COMP_CWORD]} before=${COMP_WORDS[COMP_CWORD - 1]}
     case $before in
     --flushers | --steps | --fanout | --pending | --leaf) return ;;
-    --load | --trees) word=${word#=} ;;
+    --load | --dot) word=${word#=} ;;
     *)
         if [[ $word == -* ]]; then
-            mapfile -t COMPREPLY < <(compgen -W "--flushers --steps --fanout --pending --leaf --load --image --trees --help --version" -- "$word")
+            mapfile -t COMPREPLY < <(compgen -W "--flushers --steps --fanout --pending --leaf --load --image --dot --help --version" -- "$word")
             return
         fi
         ;;

@@ -152,12 +152,12 @@ def tag() -> str:
 
 
 def write_wheel(folder: str, files: Dict[str, bytes]) -> str:
-    told = f"{PACKAGE}-{release()}.dist-info"
-    files[f"{told}/METADATA"] = metadata().encode()
-    files[f"{told}/WHEEL"] = f"Wheel-Version: 1.0\nGenerator: backend.py\nRoot-Is-Purelib: false\nTag: {tag()}\n".encode()
-    files[f"{told}/entry_points.txt"] = ENTRY_POINTS.encode()
-    rows = [row_of(name, data) for name, data in files.items()] + [f"{told}/RECORD,,"]
-    files[f"{told}/RECORD"] = ("\n".join(rows) + "\n").encode()
+    dist_info = f"{PACKAGE}-{release()}.dist-info"
+    files[f"{dist_info}/METADATA"] = metadata().encode()
+    files[f"{dist_info}/WHEEL"] = f"Wheel-Version: 1.0\nGenerator: backend.py\nRoot-Is-Purelib: false\nTag: {tag()}\n".encode()
+    files[f"{dist_info}/entry_points.txt"] = ENTRY_POINTS.encode()
+    rows = [row_of(name, data) for name, data in files.items()] + [f"{dist_info}/RECORD,,"]
+    files[f"{dist_info}/RECORD"] = ("\n".join(rows) + "\n").encode()
     wheel = f"{PACKAGE}-{release()}-{tag()}.whl"
     with zipfile.ZipFile(os.path.join(folder, wheel), "w", zipfile.ZIP_DEFLATED) as archive:
         for name, data in files.items():
@@ -192,10 +192,10 @@ def build_sdist(sdist_directory, config_settings=None):
     with tarfile.open(os.path.join(sdist_directory, f"{name}.tar.gz"), "w:gz") as archive:
         for inside, path in files:
             archive.add(path, f"{name}/{inside}")
-        told = tarfile.TarInfo(f"{name}/PKG-INFO")
+        member = tarfile.TarInfo(f"{name}/PKG-INFO")
         text = metadata().encode()
-        told.size = len(text)
-        archive.addfile(told, io.BytesIO(text))
+        member.size = len(text)
+        archive.addfile(member, io.BytesIO(text))
     return f"{name}.tar.gz"
 
 

@@ -6,7 +6,7 @@
 
 Each row is the least of the runs, in processor time of this process, so that what else runs counts little. What one of the
 others has no call for is done as one does it there: a snapshot is a copy of all, and going back puts a copy of that copy in
-place. `relieved` is a volume that moves its waiting changes down, once all files are written.
+place. `compacted` is a volume that is compacted once, after all files are written.
 """
 import os
 import shutil
@@ -41,7 +41,7 @@ class Ours:
         self.remove = self.files.unlink
         self.remove_tree = self.files.rmtree
 
-    def upkeep(self):
+    def compact(self):
         pass
 
     def snapshot(self):
@@ -54,11 +54,11 @@ class Ours:
         self.files.close()
 
 
-class OursRelieved(Ours):
-    name = "relieved"
+class OursCompacted(Ours):
+    name = "compacted"
 
-    def upkeep(self):
-        self.files.relieve()
+    def compact(self):
+        self.files.compact()
 
 
 class OfPyFilesystem:
@@ -255,7 +255,7 @@ def rows(kind, paths, folders):
     timed("create", len(paths), each(files.create))
     timed("write 100 bytes", len(paths), each(files.write, DATA))
     if isinstance(files, Ours):
-        timed("relieve", 1, files.upkeep)
+        timed("compact", 1, files.compact)
     timed("read", len(paths), each(files.read))
     timed("stat", len(paths), each(files.stat))
     timed("list", len(folders), of_folders(files.list))
@@ -276,21 +276,21 @@ def main():
     turns = int(sys.argv[2]) if len(sys.argv) > 2 else 3
     folders = [f"/t/d{number:02}" for number in range(100)]
     paths = [f"{folders[number * 37 % 100]}/file{number:06}" for number in range(count)]
-    kinds = [Ours, OursRelieved, OursByPyFilesystem, MemoryOfPyFilesystem, OursByFsspec, MemoryOfFsspec, Tmpfs]
+    kinds = [Ours, OursCompacted, OursByPyFilesystem, MemoryOfPyFilesystem, OursByFsspec, MemoryOfFsspec, Tmpfs]
     named = sys.argv[3:] or [kind.name for kind in kinds]
-    told = {}
+    columns = {}
     for kind in (kind for kind in kinds if kind.name in named):
         try:
             runs = [rows(kind, paths, folders) for _ in range(turns)]
         except ImportError as error:
             print(f"{kind.name} is not tried: {error.name} is not installed")
             continue
-        told[kind.name] = {row: min(run[row][0] for run in runs) / runs[0][row][1] for row in runs[0]}
+        columns[kind.name] = {row: min(run[row][0] for run in runs) / runs[0][row][1] for row in runs[0]}
     print(f"{count} files, microseconds a call")
-    print("| Work | " + " | ".join(told) + " |")
-    print("|---|" + "---|" * len(told))
-    for row in next(iter(told.values()), {}):
-        print(f"| {row} | " + " | ".join(f"{took[row] * 1e6:,.1f}" if row in took else "" for took in told.values()) + " |")
+    print("| Work | " + " | ".join(columns) + " |")
+    print("|---|" + "---|" * len(columns))
+    for row in next(iter(columns.values()), {}):
+        print(f"| {row} | " + " | ".join(f"{took[row] * 1e6:,.1f}" if row in took else "" for took in columns.values()) + " |")
 
 
 if __name__ == "__main__":

@@ -33,7 +33,7 @@ class Cache:
     def keep(self) -> None:
         """Keeps the tree under the name of its branch."""
         if self.branch in self.volume.snapshots():
-            self.volume.drop(self.branch)
+            self.volume.drop_snapshot(self.branch)
         self.volume.snapshot(self.branch)
 
     def build(self, sources: Dict[str, bytes]) -> int:

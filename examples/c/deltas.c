@@ -1,15 +1,15 @@
-// Prints what changed between trees of a volume, and makes the one of the other. It prints what it finds; examples/run compares that with
-// deltas.expected, which is written by hand.
+// Prints deltas between trees of a volume, and applies them. It prints what it finds; examples/run compares that with
+// deltas.expected, which was written by hand.
 //
-// Built with -DREFUSE (examples/run does so), it also has each request for memory of a call refused in turn.
+// Built with -DREFUSE (examples/run does so), it also has each allocation of a call fail in turn.
 #include "doorvervain.h"
 #include <stdio.h>
 #include <stdlib.h>
 #include <string.h>
 
-enum { ROOM = 4096, OLD = 99 };
+enum { CAPACITY = 4096, OLD = 99 };
 
-static uint8_t text[ROOM];
+static uint8_t text[CAPACITY];
 
 static const uint8_t *bytes_of(const char *words) { return (const uint8_t *)words; }
 
@@ -19,31 +19,31 @@ static uint8_t load(struct doorvervain *fs, const char *image) {
         fs, DOORVERVAIN_FANOUT, DOORVERVAIN_PENDING, DOORVERVAIN_LEAF, bytes_of(image), strlen(image), &line);
 }
 
-static uint8_t delta(struct doorvervain *fs, const char *from, const char *to, size_t room, size_t *size) {
-    return doorvervain_delta(fs, bytes_of(from), strlen(from), bytes_of(to), strlen(to), text, room, size);
+static uint8_t delta(struct doorvervain *fs, const char *from, const char *to, size_t capacity, size_t *size) {
+    return doorvervain_delta(fs, bytes_of(from), strlen(from), bytes_of(to), strlen(to), text, capacity, size);
 }
 
 static uint8_t apply(struct doorvervain *fs, const char *words, uint64_t *line) {
-    return doorvervain_apply(fs, bytes_of(words), strlen(words), line);
+    return doorvervain_apply_delta(fs, bytes_of(words), strlen(words), line);
 }
 
 static void say_delta(struct doorvervain *fs, const char *from, const char *to) {
     size_t size = OLD;
-    uint8_t number = delta(fs, from, to, ROOM, &size);
+    uint8_t number = delta(fs, from, to, CAPACITY, &size);
     printf("from '%s' to '%s': %d\n%.*s", from, to, number, (int)size, (const char *)text);
 }
 
 static void say_image(struct doorvervain *fs) {
-    static uint8_t image[ROOM];
+    static uint8_t image[CAPACITY];
     struct doorvervain_frozen tree = {0};
     size_t size = 0;
     uint8_t number = doorvervain_freeze(fs, &tree);
     if (!number) number = doorvervain_image(&tree, image, sizeof image, &size);
-    doorvervain_thaw(&tree);
+    doorvervain_frozen_close(&tree);
     printf("image: %d\n%.*s", number, (int)size, (const char *)image);
 }
 
-// A snapshot, a change behind it, and what they differ in.
+// A snapshot, a change after it, and the delta between them.
 static void differences(struct doorvervain *fs) {
     printf("load: %d\n", load(fs, "D / 5\nF /a 3 7\nb 0 616263\nD /d 8\nF /d/x 1 9\nb 0 31\nF /z 0 3\n"));
     printf("snapshot: %d\n", doorvervain_snapshot(fs, bytes_of("s"), 1));
@@ -53,28 +53,28 @@ static void differences(struct doorvervain *fs) {
     say_delta(fs, "s", "");
 }
 
-// The text is written where it fits, and its size is told.
+// The text is written if it fits, and its size is returned.
 static void rooms(struct doorvervain *fs) {
     size_t size = OLD;
     uint8_t none = delta(fs, "s", "", 0, &size);
-    printf("no room: %d, size %zu\n", none, size);
-    memset(text, 'x', ROOM);
+    printf("no capacity: %d, size %zu\n", none, size);
+    memset(text, 'x', CAPACITY);
     printf("a byte too little: %d", delta(fs, "s", "", size - 1, &size));
     printf(", size %zu, %s\n", size, text[0] == 'x' ? "nothing written" : "written");
     uint8_t enough = delta(fs, "s", "", size, &size);
     printf("just enough: %d, size %zu, %s\n", enough, size, text[size] == 'x' ? "nothing behind" : "written behind");
 }
 
-// It makes of a volume that has the first tree one that has the second, without snapshots; and nothing of another.
+// Applied to a volume with the first tree, the delta makes the second, without snapshots. With another tree it fails.
 static void applied(struct doorvervain *fs) {
     size_t size = OLD;
     uint64_t line = OLD;
-    uint8_t number = delta(fs, "s", "", ROOM, &size);
+    uint8_t number = delta(fs, "s", "", CAPACITY, &size);
     printf("delta: %d\n", number);
-    number = doorvervain_apply(fs, text, size, &line);
+    number = doorvervain_apply_delta(fs, text, size, &line);
     printf("to the tree that it makes: %d, line %llu\n", number, (unsigned long long)line);
     printf("restore: %d\n", doorvervain_restore(fs, bytes_of("s"), 1));
-    number = doorvervain_apply(fs, text, size, &line);
+    number = doorvervain_apply_delta(fs, text, size, &line);
     printf("to the tree that it is of: %d, line %llu\n", number, (unsigned long long)line);
     say_image(fs);
     printf("restore: %d\n", doorvervain_restore(fs, bytes_of("s"), 1));
@@ -82,11 +82,11 @@ static void applied(struct doorvervain *fs) {
 
 static void say_refusal(struct doorvervain *fs, const char *what, const char *words) {
     uint64_t line = OLD;
-    uint8_t number = doorvervain_raw_apply(fs, bytes_of(words), strlen(words), &line);
+    uint8_t number = doorvervain_raw_apply_delta(fs, bytes_of(words), strlen(words), &line);
     printf("%s: %d, line %llu\n", what, number, (unsigned long long)line);
 }
 
-// The first line of a difference of the tree of FIRST.
+// The first line of a delta from the tree of FIRST.
 #define FIRST "delta 1 e00440c4873f9dacaf51b6b07e14b86dec6351ba50cc8f6e10515de683a2b4c1\n"
 
 static void refusals(struct doorvervain *fs) {
@@ -100,21 +100,21 @@ static void refusals(struct doorvervain *fs) {
     say_refusal(fs, "too few lines", FIRST "= 6\nend\n");
     say_refusal(fs, "no root", FIRST "- 7\nend\n");
     say_refusal(fs, "all stays", FIRST "= 7\nend\n");
-    uint8_t number = doorvervain_raw_delta(fs, bytes_of("no"), 2, text, 0, text, ROOM, &size);
+    uint8_t number = doorvervain_raw_delta(fs, bytes_of("no"), 2, text, 0, text, CAPACITY, &size);
     printf("no snapshot: %d, size %zu\n", number, size);
-    printf("no name: %d", delta(fs, "", "a/b", ROOM, &size));
+    printf("no name: %d", delta(fs, "", "a/b", CAPACITY, &size));
     printf(", size %zu\n", size);
-    printf("no volume: %d, %d\n", delta(NULL, "", "", ROOM, &size), apply(NULL, "", &line));
-    printf("a closed volume: %d, %d\n", delta(&closed, "", "", ROOM, &size), apply(&closed, "", &line));
-    printf("a null name: %d, %d\n", doorvervain_delta(fs, NULL, 1, NULL, 0, text, ROOM, &size),
-        doorvervain_delta(fs, NULL, 0, NULL, 1, text, ROOM, &size));
+    printf("no volume: %d, %d\n", delta(NULL, "", "", CAPACITY, &size), apply(NULL, "", &line));
+    printf("a closed volume: %d, %d\n", delta(&closed, "", "", CAPACITY, &size), apply(&closed, "", &line));
+    printf("a null name: %d, %d\n", doorvervain_delta(fs, NULL, 1, NULL, 0, text, CAPACITY, &size),
+        doorvervain_delta(fs, NULL, 0, NULL, 1, text, CAPACITY, &size));
     printf("a null text: %d, %d\n", doorvervain_delta(fs, NULL, 0, NULL, 0, NULL, 1, &size),
-        doorvervain_apply(fs, NULL, 1, &line));
-    printf("a null result: %d, %d\n", doorvervain_delta(fs, NULL, 0, NULL, 0, text, ROOM, NULL), apply(fs, "", NULL));
+        doorvervain_apply_delta(fs, NULL, 1, &line));
+    printf("a null result: %d, %d\n", doorvervain_delta(fs, NULL, 0, NULL, 0, text, CAPACITY, NULL), apply(fs, "", NULL));
 }
 
 #ifdef REFUSE
-// Which request for memory from now on is refused; none where it is 0.
+// Which allocation from now on fails; none if it is 0.
 static long refused_request;
 
 void *__real_malloc(size_t size);
@@ -132,7 +132,7 @@ static int has(struct doorvervain *fs, uint64_t length) {
     return !doorvervain_stat(fs, bytes_of("/a"), 2, &kind, &size, &modified) && size == length;
 }
 
-// Has each request of both calls refused in turn: the answer is ENOMEM, and the volume is as it was.
+// Makes each allocation of both calls fail in turn: they return ENOMEM, and the volume is unchanged.
 static void refused_memory(struct doorvervain *fs) {
     size_t size = OLD;
     uint64_t line = OLD;
@@ -144,7 +144,7 @@ static void refused_memory(struct doorvervain *fs) {
     printf("truncate: %d\n", doorvervain_truncate(fs, bytes_of("/a"), 2, 1, 9));
     while (number == DOORVERVAIN_ENOMEM && right) {
         refused_request = ++count;
-        number = delta(fs, "s", "", ROOM, &size);
+        number = delta(fs, "s", "", CAPACITY, &size);
         refused_request = 0;
         right = number == DOORVERVAIN_DONE || (number == DOORVERVAIN_ENOMEM && !size);
     }
@@ -153,7 +153,7 @@ static void refused_memory(struct doorvervain *fs) {
     number = DOORVERVAIN_ENOMEM;
     for (count = 0; number == DOORVERVAIN_ENOMEM && right;) {
         refused_request = ++count;
-        number = doorvervain_apply(fs, text, size, &line);
+        number = doorvervain_apply_delta(fs, text, size, &line);
         refused_request = 0;
         right = !line && (number == DOORVERVAIN_DONE ? has(fs, 1) : number == DOORVERVAIN_ENOMEM && has(fs, 3));
     }

@@ -1,21 +1,21 @@
-// A program in C over the library. It prints what each call answers; examples/run compares that with
+// A program in C over the library. It prints what each call returns; examples/run compares that with
 // hello.expected.
 //
-// Two volumes are open all the time, so that an answer from the other one shows. Each buffer has guard bytes behind
-// it. Built with -DREFUSE (examples/run does so), it also has each request for memory of a call refused in turn.
+// Two volumes are open all the time, so that a result from the other one shows. Guard bytes follow each
+// buffer. Built with -DREFUSE (examples/run does so), it also has each allocation of a call fail in turn.
 #include "doorvervain.h"
 #include <stdio.h>
 #include <stdlib.h>
 #include <string.h>
 
-enum { ROOM = 64, GUARD = 0xa5 };
+enum { CAPACITY = 64, GUARD = 0xa5 };
 
-// A buffer with guard bytes behind the room that a call is told of.
-static uint8_t buffer[2 * ROOM];
+// A buffer with guard bytes after the capacity that a call gets.
+static uint8_t buffer[2 * CAPACITY];
 
 static const uint8_t *bytes_of(const char *text) { return (const uint8_t *)text; }
 
-// Says what a call answered.
+// Prints what a call returned.
 static void say(const char *what, uint8_t number) { printf("%s: %d\n", what, number); }
 
 static uint8_t make(struct doorvervain *fs, const char *path) {
@@ -33,7 +33,7 @@ static int guarded(size_t from) {
     return from == sizeof buffer;
 }
 
-// Says what was written at the front of the buffer, a byte 0 as a space, and whether all behind it is as it was.
+// Prints what was written into the buffer, a byte 0 as a space, and whether all after it is unchanged.
 static void say_bytes(const char *what, uint8_t number, size_t count, size_t written) {
     printf("%s: %d, %zu bytes '", what, number, count);
     for (size_t i = 0; i < written; i++)
@@ -41,32 +41,32 @@ static void say_bytes(const char *what, uint8_t number, size_t count, size_t wri
     printf("'%s\n", guarded(written) ? "" : ", and more was written");
 }
 
-static void say_read(const char *what, struct doorvervain *fs, const char *path, uint64_t offset, size_t room) {
+static void say_read(const char *what, struct doorvervain *fs, const char *path, uint64_t offset, size_t capacity) {
     size_t got = 99;
     memset(buffer, GUARD, sizeof buffer);
-    uint8_t number = doorvervain_read(fs, bytes_of(path), strlen(path), offset, buffer, room, &got);
+    uint8_t number = doorvervain_read(fs, bytes_of(path), strlen(path), offset, buffer, capacity, &got);
     say_bytes(what, number, got, got);
 }
 
 static void say_frozen_read(const char *what, struct doorvervain_frozen *tree, const char *path) {
     size_t got = 99;
     memset(buffer, GUARD, sizeof buffer);
-    uint8_t number = doorvervain_frozen_read(tree, bytes_of(path), strlen(path), 0, buffer, ROOM, &got);
+    uint8_t number = doorvervain_frozen_read(tree, bytes_of(path), strlen(path), 0, buffer, CAPACITY, &got);
     say_bytes(what, number, got, got);
 }
 
-static void say_entries(const char *what, struct doorvervain *fs, const char *path, size_t room) {
+static void say_entries(const char *what, struct doorvervain *fs, const char *path, size_t capacity) {
     size_t size = 99;
     memset(buffer, GUARD, sizeof buffer);
-    uint8_t number = doorvervain_readdir(fs, bytes_of(path), strlen(path), buffer, room, &size);
-    say_bytes(what, number, size, size <= room ? size : 0);
+    uint8_t number = doorvervain_readdir(fs, bytes_of(path), strlen(path), buffer, capacity, &size);
+    say_bytes(what, number, size, size <= capacity ? size : 0);
 }
 
 static void say_stat(const char *what, struct doorvervain *fs, const char *path) {
     uint8_t kind = 99;
     uint64_t size = 99, modified = 99;
     uint8_t number = doorvervain_stat(fs, bytes_of(path), strlen(path), &kind, &size, &modified);
-    printf("%s: %d, kind %d, %llu bytes, moment %llu\n", what, number, kind, (unsigned long long)size,
+    printf("%s: %d, kind %d, %llu bytes, mtime %llu\n", what, number, kind, (unsigned long long)size,
         (unsigned long long)modified);
 }
 
@@ -78,15 +78,15 @@ static void calls(struct doorvervain *one, struct doorvervain *other) {
     say("write /d/x", put(one, "/d/x", 0, "hello, world"));
     say_stat("stat /d/x", one, "/d/x");
     say_stat("stat /d/x of the other", other, "/d/x");
-    say_entries("readdir / of the other", other, "/", ROOM);
+    say_entries("readdir / of the other", other, "/", CAPACITY);
     say("rename /d/x /y", doorvervain_rename(one, bytes_of("/d/x"), 4, bytes_of("/y"), 2, 7));
     say("truncate /y", doorvervain_truncate(one, bytes_of("/y"), 2, 5, 9));
-    say_read("read /y", one, "/y", 0, ROOM);
+    say_read("read /y", one, "/y", 0, CAPACITY);
     say("unlink /d", doorvervain_unlink(one, bytes_of("/d"), 2, 0));
     say("unlink /y", doorvervain_unlink(one, bytes_of("/y"), 2, 0));
     say("rmdir /d", doorvervain_rmdir(one, bytes_of("/d"), 2, 0));
     say("rmtree /d", doorvervain_rmtree(one, bytes_of("/d"), 2, 0));
-    say_entries("readdir /", one, "/", ROOM);
+    say_entries("readdir /", one, "/", CAPACITY);
 }
 
 // What a read or a listing writes, and that it writes no more.
@@ -96,32 +96,32 @@ static void buffers(struct doorvervain *one, struct doorvervain *other) {
     say("write the other", put(other, "/long", 0, "and the other has those"));
     say_read("read 9 of one", one, "/long", 4, 9);
     say_read("read 9 of the other", other, "/long", 4, 9);
-    say_read("read past the end", one, "/long", 32, ROOM);
-    say_read("read over the end", one, "/long", 27, ROOM);
-    say_read("read into no room", one, "/long", 0, 0);
-    say_entries("readdir into too little room", one, "/", 5);
-    say_entries("readdir with room", one, "/", 6);
+    say_read("read past the end", one, "/long", 32, CAPACITY);
+    say_read("read over the end", one, "/long", 27, CAPACITY);
+    say_read("read into no capacity", one, "/long", 0, 0);
+    say_entries("readdir into too little capacity", one, "/", 5);
+    say_entries("readdir with capacity", one, "/", 6);
 }
 
-// What is answered to null pointers, closed volumes, and texts that are no path.
+// What calls return for null pointers, closed volumes, and texts that are not paths.
 static void refusals(struct doorvervain *one) {
     struct doorvervain closed = {0};
-    struct doorvervain_frozen thawed = {0};
+    struct doorvervain_frozen closed_tree = {0};
     size_t got = 99;
     say("a null path", doorvervain_mkdir(one, NULL, 3, 0));
     say("a null path of no bytes", doorvervain_mkdir(one, NULL, 0, 0));
     say("a null buffer", doorvervain_read(one, bytes_of("/long"), 5, 0, NULL, 9, &got));
-    say("a null buffer without room", doorvervain_read(one, bytes_of("/long"), 5, 0, NULL, 0, &got));
+    say("a null buffer without capacity", doorvervain_read(one, bytes_of("/long"), 5, 0, NULL, 0, &got));
     say("a null count", doorvervain_read(one, bytes_of("/long"), 5, 0, buffer, 9, NULL));
     say("no volume", doorvervain_mkdir(NULL, bytes_of("/d"), 2, 0));
     say("a closed volume", doorvervain_mkdir(&closed, bytes_of("/d"), 2, 0));
-    say("a thawed tree", doorvervain_frozen_read(&thawed, bytes_of("/long"), 5, 0, buffer, 9, &got));
+    say("a closed tree", doorvervain_frozen_read(&closed_tree, bytes_of("/long"), 5, 0, buffer, 9, &got));
     say("no path", doorvervain_mkdir(one, bytes_of("d"), 1, 0));
     say("no name", doorvervain_snapshot(one, bytes_of("a/b"), 3));
     say("no shape", doorvervain_open(&closed, 1, DOORVERVAIN_PENDING, DOORVERVAIN_LEAF));
     say("as errno", (uint8_t)(doorvervain_errno(DOORVERVAIN_NULL) == EFAULT && doorvervain_errno(11) == ENOMEM));
     doorvervain_close(&closed);
-    doorvervain_thaw(&thawed);
+    doorvervain_frozen_close(&closed_tree);
 }
 
 // A snapshot and a frozen tree stay as they were while the volume goes on.
@@ -132,42 +132,42 @@ static void moments(struct doorvervain *one, struct doorvervain *other) {
     say("write", put(one, "/long", 0, "THE FIRST"));
     say("freeze", doorvervain_freeze(one, &live));
     say("unlink", doorvervain_unlink(one, bytes_of("/long"), 5, 0));
-    say("frozen s", doorvervain_frozen(one, bytes_of("s"), 1, &kept));
-    say("frozen s of the other", doorvervain_frozen(other, bytes_of("s"), 1, &(struct doorvervain_frozen){0}));
+    say("frozen s", doorvervain_open_snapshot(one, bytes_of("s"), 1, &kept));
+    say("frozen s of the other", doorvervain_open_snapshot(other, bytes_of("s"), 1, &(struct doorvervain_frozen){0}));
     say_frozen_read("read of s", &kept, "/long");
     say_frozen_read("read of what was frozen", &live, "/long");
     say_stat("stat", one, "/long");
     say("restore s", doorvervain_restore(one, bytes_of("s"), 1));
-    say_read("read", one, "/long", 0, ROOM);
-    say("drop s", doorvervain_drop(one, bytes_of("s"), 1));
+    say_read("read", one, "/long", 0, CAPACITY);
+    say("drop s", doorvervain_drop_snapshot(one, bytes_of("s"), 1));
     say("restore s again", doorvervain_restore(one, bytes_of("s"), 1));
     say_frozen_read("read of s that was dropped", &kept, "/long");
-    doorvervain_thaw(&kept);
-    doorvervain_thaw(&live);
+    doorvervain_frozen_close(&kept);
+    doorvervain_frozen_close(&live);
 }
 
-// Many files, so that trees grow and are freed; steps between the calls change no answer.
+// Many files, so that trees grow and are freed; steps of compaction between the calls change no result.
 static void many(struct doorvervain *one) {
     char path[16];
     int refused = 0, found = 0;
     for (int i = 0; i < 2000; i++) {
         refused += make(one, (snprintf(path, sizeof path, "/f%d", i), path)) != 0;
         refused += put(one, path, 0, path) != 0;
-        if (i % 10 == 0) doorvervain_relieve(one, 4);
+        if (i % 10 == 0) doorvervain_compact(one, 4);
     }
     for (int i = 0; i < 2000; i++) {
         size_t got = 0, length = (size_t)snprintf(path, sizeof path, "/f%d", i);
-        uint8_t number = doorvervain_read(one, bytes_of(path), length, 0, buffer, ROOM, &got);
+        uint8_t number = doorvervain_read(one, bytes_of(path), length, 0, buffer, CAPACITY, &got);
         found += !number && got == length && !memcmp(buffer, path, length);
     }
     printf("many: %d refused, %d found\n", refused, found);
-    while (doorvervain_relieve(one, 100) == 100)
+    while (doorvervain_compact(one, 100) == 100)
         continue;
-    printf("relieved: %u\n", doorvervain_relieve(one, 1));
+    printf("compacted: %u\n", doorvervain_compact(one, 1));
 }
 
 #ifdef REFUSE
-// Which request for memory from now on is refused; none where it is 0.
+// Which allocation from now on fails; none if it is 0.
 static long refused_request;
 
 void *__real_malloc(size_t size);
@@ -179,7 +179,7 @@ void *__wrap_malloc(size_t size) { return refuses() ? NULL : __real_malloc(size)
 
 void *__wrap_realloc(void *old, size_t size) { return refuses() ? NULL : __real_realloc(old, size); }
 
-// Has each request of a write refused in turn: it answers ENOMEM, and the volume is there and as it was.
+// Makes each allocation of a write fail in turn: it returns ENOMEM, and the volume is open and unchanged.
 static void refused_memory(struct doorvervain *one) {
     int refusals = 0, changed = 0;
     uint8_t number = DOORVERVAIN_ENOMEM;
@@ -188,7 +188,7 @@ static void refused_memory(struct doorvervain *one) {
         refused_request = request;
         number = put(one, "/long", 0, "WITHOUT MEMORY");
         refused_request = 0;
-        uint8_t read = doorvervain_read(one, bytes_of("/long"), 5, 0, buffer, ROOM, &got);
+        uint8_t read = doorvervain_read(one, bytes_of("/long"), 5, 0, buffer, CAPACITY, &got);
         if (number == DOORVERVAIN_ENOMEM)
             refusals++, changed += read || got != 32 || memcmp(buffer, "the first", 9);
     }
@@ -207,7 +207,7 @@ static uint8_t load(struct doorvervain *fs, const uint8_t *text, size_t length, 
     return doorvervain_load(fs, DOORVERVAIN_FANOUT, DOORVERVAIN_PENDING, DOORVERVAIN_LEAF, text, length, line);
 }
 
-// An image is loaded, and the volume then has that image. A text that is none is told by its line.
+// An image is loaded, and the volume then has that image. For a text that is not an image its first bad line is returned.
 static void images(void) {
     static const char text[] = "D / 5\nD /a 9\nF /a/f 3 7\nb 0 616263\n";
     struct doorvervain fs = {0};
@@ -215,12 +215,12 @@ static void images(void) {
     uint64_t line = 0;
     size_t size = 0;
     say("load", load(&fs, bytes_of(text), strlen(text), &line));
-    say_read("read", &fs, "/a/f", 0, ROOM);
+    say_read("read", &fs, "/a/f", 0, CAPACITY);
     say("freeze", doorvervain_freeze(&fs, &tree));
-    uint8_t number = doorvervain_image(&tree, buffer, ROOM, &size);
+    uint8_t number = doorvervain_image(&tree, buffer, CAPACITY, &size);
     int is_same = size == strlen(text) && memcmp(buffer, text, size) == 0;
     printf("image: %d, %s\n", number, is_same ? "the same" : "another one");
-    doorvervain_thaw(&tree);
+    doorvervain_frozen_close(&tree);
     doorvervain_close(&fs);
     say("load of no image", load(&fs, bytes_of("d /\nx\n"), 6, &line));
     printf("at line %d\n", (int)line);
@@ -238,7 +238,7 @@ int main(void) {
     images();
     many(&other);
     doorvervain_close(&one);
-    say_read("read of the other, alone", &other, "/long", 0, ROOM);
+    say_read("read of the other, alone", &other, "/long", 0, CAPACITY);
     say("mkdir in one that is closed", doorvervain_mkdir(&one, bytes_of("/d"), 2, 0));
     doorvervain_close(&other);
     doorvervain_close(&other);

@@ -1,7 +1,7 @@
-// Makes zeros of parts of a file, and reads what is stored of it before and after. It prints what it finds; examples/run
-// compares that with holes.expected, whose numbers are reckoned by hand.
+// Punches holes into a file, and reads its allocated extents before and after. It prints what it finds; examples/run
+// compares that with holes.expected, whose numbers are computed independently.
 //
-// Built with -DREFUSE (examples/run does so), it also has each request for memory of a call refused in turn.
+// Built with -DREFUSE (examples/run does so), it also has each allocation of a call fail in turn.
 #include "doorvervain.h"
 #include <stdio.h>
 #include <stdlib.h>
@@ -15,11 +15,11 @@ static uint8_t hole(struct doorvervain *fs, const char *path, uint64_t offset, u
     return doorvervain_punch(fs, bytes_of(path), strlen(path), offset, count, 7);
 }
 
-// Says which bytes of a file are stored, as runs.
+// Prints the allocated extents of a file.
 static void say_runs(const char *what, struct doorvervain *fs, const char *path) {
     uint64_t from = 0, to = 0;
     printf("%s:", what);
-    while (!doorvervain_data(fs, bytes_of(path), strlen(path), to, &from, &to) && from < to)
+    while (!doorvervain_next_extent(fs, bytes_of(path), strlen(path), to, &from, &to) && from < to)
         printf(" %llu to %llu", (unsigned long long)from, (unsigned long long)to);
     printf(", size %llu\n", (unsigned long long)to);
 }
@@ -27,12 +27,12 @@ static void say_runs(const char *what, struct doorvervain *fs, const char *path)
 static void say_frozen_runs(const char *what, struct doorvervain_frozen *tree, const char *path) {
     uint64_t from = 0, to = 0;
     printf("%s:", what);
-    while (!doorvervain_frozen_data(tree, bytes_of(path), strlen(path), to, &from, &to) && from < to)
+    while (!doorvervain_frozen_next_extent(tree, bytes_of(path), strlen(path), to, &from, &to) && from < to)
         printf(" %llu to %llu", (unsigned long long)from, (unsigned long long)to);
     printf(", size %llu\n", (unsigned long long)to);
 }
 
-// Says the bytes of a file as runs of one byte, and its moment.
+// Prints the bytes of a file as runs of one byte, and its mtime.
 static void say_bytes(struct doorvervain *fs, const char *path) {
     static uint8_t buffer[LENGTH + 1];
     size_t got = 0;
@@ -46,7 +46,7 @@ static void say_bytes(struct doorvervain *fs, const char *path) {
         printf(" %zu of %c", to - from, buffer[from] ? buffer[from] : '0');
     }
     number = doorvervain_stat(fs, bytes_of(path), strlen(path), &kind, &size, &modified);
-    printf("; stat %d, moment %llu\n", number, (unsigned long long)modified);
+    printf("; stat %d, mtime %llu\n", number, (unsigned long long)modified);
 }
 
 // Three blocks of a, b and c, and ten bytes d.
@@ -79,9 +79,9 @@ static void holes(struct doorvervain *fs) {
     say_hole(fs, "/f", 2 * BLOCK - 1, 2);
     say_hole(fs, "/f", 2 * BLOCK, UINT64_MAX);
     say_hole(fs, "/f", 0, (uint64_t)1 << 40);
-    printf("frozen: %d\n", doorvervain_frozen(fs, bytes_of("s"), 1, &kept));
+    printf("frozen: %d\n", doorvervain_open_snapshot(fs, bytes_of("s"), 1, &kept));
     say_frozen_runs("stored of the snapshot", &kept, "/f");
-    doorvervain_thaw(&kept);
+    doorvervain_frozen_close(&kept);
     printf("restore: %d\n", doorvervain_restore(fs, bytes_of("s"), 1));
     say_bytes(fs, "/f");
 }
@@ -96,17 +96,17 @@ static void sparse(struct doorvervain *fs) {
     say_runs("stored", fs, "/large");
 }
 
-// What is answered where no file stands, and what is left in the results then.
+// What calls return if there is no file, and what is left in the results then.
 static void say_refusal(struct doorvervain *fs, const char *path) {
     uint64_t from = OLD, to = OLD;
     uint8_t punched = doorvervain_raw_punch(fs, bytes_of(path), strlen(path), 0, 1, 7);
-    uint8_t told = doorvervain_raw_data(fs, bytes_of(path), strlen(path), 0, &from, &to);
-    printf("%s: %d, %d, %llu to %llu\n", path, punched, told, (unsigned long long)from, (unsigned long long)to);
+    uint8_t number = doorvervain_raw_next_extent(fs, bytes_of(path), strlen(path), 0, &from, &to);
+    printf("%s: %d, %d, %llu to %llu\n", path, punched, number, (unsigned long long)from, (unsigned long long)to);
 }
 
 static void refusals(struct doorvervain *fs) {
     struct doorvervain closed = {0};
-    struct doorvervain_frozen thawed = {0};
+    struct doorvervain_frozen closed_tree = {0};
     uint64_t from = OLD, to = OLD;
     printf("mkdir: %d\n", doorvervain_mkdir(fs, bytes_of("/d"), 2, 1));
     say_refusal(fs, "/");
@@ -114,17 +114,17 @@ static void refusals(struct doorvervain *fs) {
     say_refusal(fs, "/d/x");
     say_refusal(fs, "/f/x");
     say_refusal(fs, "f");
-    printf("no volume: %d, %d\n", hole(NULL, "/f", 0, 1), doorvervain_data(NULL, bytes_of("/f"), 2, 0, &from, &to));
+    printf("no volume: %d, %d\n", hole(NULL, "/f", 0, 1), doorvervain_next_extent(NULL, bytes_of("/f"), 2, 0, &from, &to));
     printf("a closed volume: %d, %d\n", hole(&closed, "/f", 0, 1),
-        doorvervain_data(&closed, bytes_of("/f"), 2, 0, &from, &to));
-    printf("a thawed tree: %d\n", doorvervain_frozen_data(&thawed, bytes_of("/f"), 2, 0, &from, &to));
-    printf("a null path: %d, %d\n", doorvervain_punch(fs, NULL, 2, 0, 1, 7), doorvervain_data(fs, NULL, 2, 0, &from, &to));
-    printf("a null result: %d, %d\n", doorvervain_data(fs, bytes_of("/f"), 2, 0, NULL, &to),
-        doorvervain_data(fs, bytes_of("/f"), 2, 0, &from, NULL));
+        doorvervain_next_extent(&closed, bytes_of("/f"), 2, 0, &from, &to));
+    printf("a closed tree: %d\n", doorvervain_frozen_next_extent(&closed_tree, bytes_of("/f"), 2, 0, &from, &to));
+    printf("a null path: %d, %d\n", doorvervain_punch(fs, NULL, 2, 0, 1, 7), doorvervain_next_extent(fs, NULL, 2, 0, &from, &to));
+    printf("a null result: %d, %d\n", doorvervain_next_extent(fs, bytes_of("/f"), 2, 0, NULL, &to),
+        doorvervain_next_extent(fs, bytes_of("/f"), 2, 0, &from, NULL));
 }
 
 #ifdef REFUSE
-// Which request for memory from now on is refused; none where it is 0.
+// Which allocation from now on fails; none if it is 0.
 static long refused_request;
 
 void *__real_malloc(size_t size);
@@ -136,7 +136,7 @@ void *__wrap_malloc(size_t size) { return refuses() ? NULL : __real_malloc(size)
 
 void *__wrap_realloc(void *old, size_t size) { return refuses() ? NULL : __real_realloc(old, size); }
 
-// Has each request of a hole, and of what is stored, refused in turn: the answer is ENOMEM, and the file is as it was.
+// Makes each allocation of a punch and of the search for extents fail in turn: they return ENOMEM, and the file is unchanged.
 static void refused_memory(struct doorvervain *fs) {
     uint8_t number = DOORVERVAIN_ENOMEM;
     uint64_t from = OLD, to = OLD;
@@ -145,14 +145,14 @@ static void refused_memory(struct doorvervain *fs) {
         refused_request = request;
         number = hole(fs, "/f", 10, 2 * BLOCK);
         refused_request = 0;
-        changed += number && (doorvervain_data(fs, bytes_of("/f"), 2, 0, &from, &to) || from != 0 || to != LENGTH);
+        changed += number && (doorvervain_next_extent(fs, bytes_of("/f"), 2, 0, &from, &to) || from != 0 || to != LENGTH);
         refusals += number != 0;
     }
     printf("a hole without memory: %s, %d changed, then %d\n", refusals ? "refused" : "not refused", changed, number);
     number = DOORVERVAIN_ENOMEM;
     for (long request = 1; number == DOORVERVAIN_ENOMEM; request++) {
         refused_request = request;
-        number = doorvervain_data(fs, bytes_of("/f"), 2, 0, &from, &to);
+        number = doorvervain_next_extent(fs, bytes_of("/f"), 2, 0, &from, &to);
         refused_request = 0;
         changed += number && (from || to);
     }

@@ -1,19 +1,19 @@
-// Reads each number of the header against the archive, and what a refused call leaves in its other results. It prints what
+// Compares each number of the header with the archive, and prints what a call that fails leaves in its other results. It prints what
 // it finds; examples/run compares that with numbers.expected, and the numbers there with those of the header.
 //
 // It calls the symbols of the archive where it can: the functions of the header set most results before they call. It is
-// linked with --wrap=malloc and --wrap=realloc, so that it can refuse memory.
+// linked with --wrap=malloc and --wrap=realloc, so that it can make allocations fail.
 #include "doorvervain.h"
 #include <stdbool.h>
 #include <stdio.h>
 #include <string.h>
 
-enum { ROOM = 64, SNAPSHOTS = 64, LONGEST_NAME = 255, OLD = 99, GUARD = 0xA5 };
+enum { CAPACITY = 64, SNAPSHOTS = 64, LONGEST_NAME = 255, OLD = 99, GUARD = 0xA5 };
 
 // The greatest length of a file.
 static const uint64_t GREATEST = (uint64_t)1 << 40;
 
-// Whether each request for memory is refused.
+// Whether each allocation fails.
 static bool refused;
 
 void *__real_malloc(size_t size);
@@ -23,7 +23,7 @@ void *__wrap_malloc(size_t size) { return refused ? NULL : __real_malloc(size); 
 
 void *__wrap_realloc(void *old, size_t size) { return refused ? NULL : __real_realloc(old, size); }
 
-// Gives memory again, and hands the answer on.
+// Lets allocations succeed again, and returns its argument.
 static uint8_t without_memory(uint8_t answer) {
     refused = false;
     return answer;
@@ -47,7 +47,7 @@ static uint8_t cut(struct doorvervain *fs, const char *path, uint64_t size) {
     return doorvervain_raw_truncate(fs, bytes_of(path), strlen(path), size, 9);
 }
 
-// What stands at a path, as DOORVERVAIN_DIRECTORY or DOORVERVAIN_FILE.
+// The kind of the entry at a path, DOORVERVAIN_DIRECTORY or DOORVERVAIN_FILE.
 static uint8_t kind_of(struct doorvervain *fs, const char *path) {
     uint8_t kind = OLD;
     uint64_t size, modified;
@@ -62,7 +62,7 @@ static const char *too_long(void) {
     return path;
 }
 
-// Takes snapshots until all names are taken, and says how many: what one more is answered.
+// Takes snapshots until all names are taken, and prints how many: returns what one more returned.
 static uint8_t one_snapshot_more(struct doorvervain *fs) {
     char name[8];
     int taken = 0;
@@ -76,7 +76,7 @@ static uint8_t one_snapshot_more(struct doorvervain *fs) {
     return number;
 }
 
-// A listing of the root into a buffer with room for one byte.
+// A listing of the root into a buffer of one byte.
 static uint8_t list_into_a_byte(struct doorvervain *fs) {
     uint8_t byte;
     size_t size;
@@ -90,14 +90,14 @@ static uint8_t open_usual(struct doorvervain *fs) {
 
 // ---- the numbers of the header
 
-// Says a number of the header, and whether it is the one that the archive answers.
+// Prints a number of the header, and whether it is the one that the archive returns.
 static void read_number(const char *name, uint8_t header, uint8_t answer) {
     printf("DOORVERVAIN_%s = %d", name, header);
     if (answer != header) printf(", and %d was answered", answer);
     printf("\n");
 }
 
-// The same of a number that tells an outcome, and whether the system's number is the one of that name.
+// Prints the number of an outcome in the same way, and whether the system's number is the one of that name.
 static void read_outcome(const char *name, uint8_t header, int system, uint8_t answer) {
     if (doorvervain_errno(header) != system) printf("not the system's: ");
     read_number(name, header, answer);
@@ -135,7 +135,7 @@ static void say_shape(void) {
     printf("DOORVERVAIN_LEAF = %d\n", DOORVERVAIN_LEAF);
 }
 
-// ---- what calls that look leave in their results
+// ---- what read-only calls leave in their results
 
 static void say_stat(const char *what, struct doorvervain *fs, struct doorvervain_frozen *tree, const char *path) {
     uint8_t kind = OLD;
@@ -143,84 +143,84 @@ static void say_stat(const char *what, struct doorvervain *fs, struct doorvervai
     size_t length = strlen(path);
     uint8_t number = tree ? doorvervain_raw_frozen_stat(tree, bytes_of(path), length, &kind, &size, &modified)
                           : doorvervain_raw_stat(fs, bytes_of(path), length, &kind, &size, &modified);
-    printf("%s: %d, kind %d, %llu bytes, moment %llu\n", what, number, kind, (unsigned long long)size,
+    printf("%s: %d, kind %d, %llu bytes, mtime %llu\n", what, number, kind, (unsigned long long)size,
         (unsigned long long)modified);
 }
 
 static void say_count(const char *what, uint8_t number, size_t count) { printf("%s: %d, %zu bytes\n", what, number, count); }
 
 static void look(struct doorvervain *fs, struct doorvervain_frozen *tree) {
-    uint8_t buffer[ROOM];
+    uint8_t buffer[CAPACITY];
     size_t count = OLD;
     say_stat("stat of a directory", fs, NULL, "/d");
     say_stat("stat of a file", fs, NULL, "/d/f");
     say_stat("stat of nothing", fs, NULL, "/none");
     say_stat("frozen stat of a directory", fs, tree, "/d");
     say_stat("frozen stat of nothing", fs, tree, "/none");
-    uint8_t number = doorvervain_raw_read(fs, bytes_of("/d"), 2, 0, buffer, ROOM, &count);
+    uint8_t number = doorvervain_raw_read(fs, bytes_of("/d"), 2, 0, buffer, CAPACITY, &count);
     say_count("read of a directory", number, count);
     count = OLD;
-    number = doorvervain_raw_frozen_read(tree, bytes_of("/d"), 2, 0, buffer, ROOM, &count);
+    number = doorvervain_raw_frozen_read(tree, bytes_of("/d"), 2, 0, buffer, CAPACITY, &count);
     say_count("frozen read of a directory", number, count);
     count = OLD;
-    number = doorvervain_raw_readdir(fs, bytes_of("/d/f"), 4, buffer, ROOM, &count);
+    number = doorvervain_raw_readdir(fs, bytes_of("/d/f"), 4, buffer, CAPACITY, &count);
     say_count("readdir of a file", number, count);
     count = OLD;
-    number = doorvervain_raw_frozen_readdir(tree, bytes_of("/d/f"), 4, buffer, ROOM, &count);
+    number = doorvervain_raw_frozen_readdir(tree, bytes_of("/d/f"), 4, buffer, CAPACITY, &count);
     say_count("frozen readdir of a file", number, count);
     count = OLD;
     refused = true;
-    number = without_memory(doorvervain_raw_image(tree, buffer, ROOM, &count));
+    number = without_memory(doorvervain_raw_image(tree, buffer, CAPACITY, &count));
     say_count("image without memory", number, count);
 }
 
-// ---- texts that go into a buffer with enough room, with too little, and with none
+// ---- texts that go into a buffer with enough capacity, with too little, and with none
 
-// What asks for a text: a listing, an image, or the name of a snapshot.
+// A call that returns a text: a listing, an image, or the name of a snapshot.
 struct asked {
     const char *what;
-    uint8_t (*call)(void *at, uint8_t *out, size_t room, size_t *size);
+    uint8_t (*call)(void *at, uint8_t *out, size_t capacity, size_t *size);
     void *at;
 };
 
-static uint8_t list_root(void *at, uint8_t *out, size_t room, size_t *size) {
-    return doorvervain_raw_readdir(at, bytes_of("/"), 1, out, room, size);
+static uint8_t list_root(void *at, uint8_t *out, size_t capacity, size_t *size) {
+    return doorvervain_raw_readdir(at, bytes_of("/"), 1, out, capacity, size);
 }
 
-static uint8_t list_frozen_root(void *at, uint8_t *out, size_t room, size_t *size) {
-    return doorvervain_raw_frozen_readdir(at, bytes_of("/"), 1, out, room, size);
+static uint8_t list_frozen_root(void *at, uint8_t *out, size_t capacity, size_t *size) {
+    return doorvervain_raw_frozen_readdir(at, bytes_of("/"), 1, out, capacity, size);
 }
 
-static uint8_t print(void *at, uint8_t *out, size_t room, size_t *size) {
-    return doorvervain_raw_image(at, out, room, size);
+static uint8_t print(void *at, uint8_t *out, size_t capacity, size_t *size) {
+    return doorvervain_raw_image(at, out, capacity, size);
 }
 
-static uint8_t name_first(void *at, uint8_t *out, size_t room, size_t *size) {
-    return doorvervain_raw_snapshot_name(at, 0, out, room, size);
+static uint8_t name_first(void *at, uint8_t *out, size_t capacity, size_t *size) {
+    return doorvervain_raw_snapshot_name(at, 0, out, capacity, size);
 }
 
 // How many bytes at the front of a buffer are no longer its guards.
 static size_t changed_in(const uint8_t *buffer) {
-    size_t count = ROOM;
+    size_t count = CAPACITY;
     while (count && buffer[count - 1] == GUARD) count--;
     return count;
 }
 
-static void say_room(struct asked asked, const char *which, size_t room) {
-    uint8_t buffer[ROOM];
+static void say_capacity(struct asked asked, const char *which, size_t capacity) {
+    uint8_t buffer[CAPACITY];
     size_t size = OLD;
     memset(buffer, GUARD, sizeof buffer);
-    uint8_t number = asked.call(asked.at, buffer, room, &size);
+    uint8_t number = asked.call(asked.at, buffer, capacity, &size);
     printf("%s with %s: %d, %zu bytes, %zu written\n", asked.what, which, number, size, changed_in(buffer));
 }
 
 static void say_rooms(struct asked asked) {
     size_t size = OLD;
     (void)asked.call(asked.at, (uint8_t *)&size, 0, &size);
-    say_room(asked, "no room", 0);
-    say_room(asked, "a byte too little", size - 1);
-    say_room(asked, "just enough room", size);
-    say_room(asked, "more room", ROOM);
+    say_capacity(asked, "no capacity", 0);
+    say_capacity(asked, "a byte too little", size - 1);
+    say_capacity(asked, "just enough capacity", size);
+    say_capacity(asked, "more capacity", CAPACITY);
 }
 
 static void fill_buffers(struct doorvervain *fs, struct doorvervain_frozen *tree) {
@@ -230,9 +230,9 @@ static void fill_buffers(struct doorvervain *fs, struct doorvervain_frozen *tree
     say_rooms((struct asked){"name of a snapshot", name_first, fs});
 }
 
-// The first names of the snapshots in order, and what is answered past the last.
+// The first names of the snapshots in order, and what is returned past the last.
 static void say_names(struct doorvervain *fs) {
-    uint8_t name[ROOM];
+    uint8_t name[CAPACITY];
     size_t count = 0, size = OLD;
     printf("names:");
     while (!doorvervain_snapshot_name(fs, count, name, sizeof name, &size)) {
@@ -247,7 +247,7 @@ static void say_names(struct doorvervain *fs) {
     printf("last number: %d, %zu bytes\n", number, size);
 }
 
-// ---- what calls that make a volume or a tree leave in their places
+// ---- what calls that create a volume or a tree leave in their out-parameters
 
 static const char *state_of(const void *at) { return at ? "open" : "closed"; }
 
@@ -255,7 +255,7 @@ static void say_open(const char *what, uint16_t fanout, uint16_t pending, uint16
     struct doorvervain fs = {&fs};
     refused = no_memory;
     uint8_t number = without_memory(doorvervain_raw_open(fanout, pending, leaf, &fs));
-    printf("%s: %d, %s\n", what, number, state_of(fs.at));
+    printf("%s: %d, %s\n", what, number, state_of(fs.ptr));
     if (!number) doorvervain_close(&fs);
 }
 
@@ -264,7 +264,7 @@ static void say_load(const char *what, const char *text, uint16_t fanout, uint16
     uint64_t line = OLD;
     refused = no_memory;
     uint8_t number = without_memory(doorvervain_raw_load(fanout, pending, leaf, bytes_of(text), strlen(text), &line, &fs));
-    printf("%s: %d at line %llu, %s\n", what, number, (unsigned long long)line, state_of(fs.at));
+    printf("%s: %d at line %llu, %s\n", what, number, (unsigned long long)line, state_of(fs.ptr));
     if (!number) doorvervain_close(&fs);
 }
 
@@ -286,33 +286,33 @@ static void make(void) {
     say_load("load without memory", image, 16, 256, 256, true);
 }
 
-// ---- images by pieces
+// ---- images in several buffers
 
 static void say_begin(const char *what, uint16_t fanout, uint16_t pending, uint16_t leaf, bool no_memory) {
-    struct doorvervain_loading loading = {&loading};
+    struct doorvervain_loader loading = {&loading};
     refused = no_memory;
     uint8_t number = without_memory(doorvervain_raw_load_begin(fanout, pending, leaf, &loading));
-    printf("%s: %d, %s\n", what, number, state_of(loading.at));
-    if (!number) doorvervain_load_drop(&loading);
+    printf("%s: %d, %s\n", what, number, state_of(loading.ptr));
+    if (!number) doorvervain_load_abort(&loading);
 }
 
-static void say_piece(const char *what, struct doorvervain_loading *loading, const char *text) {
+static void say_piece(const char *what, struct doorvervain_loader *loading, const char *text) {
     uint64_t line = OLD;
-    uint8_t number = doorvervain_raw_load_piece(loading, bytes_of(text), strlen(text), &line);
+    uint8_t number = doorvervain_raw_load_feed(loading, bytes_of(text), strlen(text), &line);
     printf("%s: %d at line %llu\n", what, number, (unsigned long long)line);
 }
 
-static void say_end(const char *what, struct doorvervain_loading loading, bool no_memory) {
+static void say_end(const char *what, struct doorvervain_loader loading, bool no_memory) {
     struct doorvervain fs = {&fs};
     uint64_t line = OLD;
     refused = no_memory;
-    uint8_t number = without_memory(doorvervain_raw_load_end(loading, &line, &fs));
-    printf("%s: %d at line %llu, %s\n", what, number, (unsigned long long)line, state_of(fs.at));
+    uint8_t number = without_memory(doorvervain_raw_load_finish(loading, &line, &fs));
+    printf("%s: %d at line %llu, %s\n", what, number, (unsigned long long)line, state_of(fs.ptr));
     if (!number) doorvervain_close(&fs);
 }
 
 static void load_pieces(void) {
-    struct doorvervain_loading loading = {0};
+    struct doorvervain_loader loading = {0};
     say_begin("begin of a load", 16, 256, 256, false);
     say_begin("begin with too few children", 3, 256, 256, false);
     say_begin("begin with too few messages", 16, 15, 256, false);
@@ -332,69 +332,69 @@ static void load_pieces(void) {
 
 static void print_pieces(struct doorvervain *fs) {
     struct doorvervain_frozen tree = {0};
-    struct doorvervain_printing printing = {&printing};
-    uint8_t buffer[ROOM];
+    struct doorvervain_printer printing = {&printing};
+    uint8_t buffer[CAPACITY];
     size_t size = OLD;
     (void)doorvervain_freeze(fs, &tree);
     refused = true;
     uint8_t number = without_memory(doorvervain_raw_print_begin(tree, &printing));
-    printf("begin of a print without memory: %d, %s\n", number, state_of(printing.at));
+    printf("begin of a print without memory: %d, %s\n", number, state_of(printing.ptr));
     (void)doorvervain_freeze(fs, &tree);
     number = doorvervain_raw_print_begin(tree, &printing);
-    printf("begin of a print: %d, %s\n", number, state_of(printing.at));
-    number = doorvervain_raw_print_piece(&printing, buffer, 0, &size);
-    say_count("piece without room", number, size);
-    number = doorvervain_raw_print_piece(&printing, buffer, ROOM, &size);
+    printf("begin of a print: %d, %s\n", number, state_of(printing.ptr));
+    number = doorvervain_raw_print_next(&printing, buffer, 0, &size);
+    say_count("piece without capacity", number, size);
+    number = doorvervain_raw_print_next(&printing, buffer, CAPACITY, &size);
     printf("first piece: %d, begins as %.4s\n", number, (const char *)buffer);
     size = OLD;
     refused = true;
-    number = without_memory(doorvervain_raw_print_piece(&printing, buffer, ROOM, &size));
+    number = without_memory(doorvervain_raw_print_next(&printing, buffer, CAPACITY, &size));
     say_count("piece without memory", number, size);
-    number = doorvervain_raw_print_piece(&printing, buffer, 3, &size);
+    number = doorvervain_raw_print_next(&printing, buffer, 3, &size);
     say_count("the same with memory", number, size);
     doorvervain_print_end(&printing);
 }
 
 static void freeze(struct doorvervain *fs) {
     struct doorvervain_frozen tree = {&tree};
-    uint8_t number = doorvervain_raw_frozen(fs, bytes_of("none"), 4, &tree);
-    printf("frozen of no snapshot: %d, %s\n", number, state_of(tree.at));
-    tree.at = &tree;
+    uint8_t number = doorvervain_raw_open_snapshot(fs, bytes_of("none"), 4, &tree);
+    printf("frozen of no snapshot: %d, %s\n", number, state_of(tree.ptr));
+    tree.ptr = &tree;
     refused = true;
     number = without_memory(doorvervain_raw_freeze(fs, &tree));
-    printf("freeze without memory: %d, %s\n", number, state_of(tree.at));
-    number = doorvervain_raw_frozen(fs, bytes_of("s0"), 2, &tree);
-    printf("frozen of a snapshot: %d, %s\n", number, state_of(tree.at));
-    doorvervain_thaw(&tree);
+    printf("freeze without memory: %d, %s\n", number, state_of(tree.ptr));
+    number = doorvervain_raw_open_snapshot(fs, bytes_of("s0"), 2, &tree);
+    printf("frozen of a snapshot: %d, %s\n", number, state_of(tree.ptr));
+    doorvervain_frozen_close(&tree);
 }
 
-// ---- what the functions of the header leave in their results where another one is null
+// ---- what the functions of the header leave in their results if another one is null
 
 static void leave_out(struct doorvervain *fs) {
     struct doorvervain loaded = {&loaded};
     uint8_t kind = OLD;
     uint64_t size = OLD, line = OLD;
     uint8_t number = doorvervain_stat(fs, bytes_of("/d"), 2, &kind, &size, NULL);
-    printf("stat without a moment: %d, kind %d, %llu bytes\n", number, kind, (unsigned long long)size);
+    printf("stat without a mtime: %d, kind %d, %llu bytes\n", number, kind, (unsigned long long)size);
     number = doorvervain_load(&loaded, 16, 256, 256, NULL, 9, &line);
-    printf("load of a null text: %d at line %llu, %s\n", number, (unsigned long long)line, state_of(loaded.at));
-    loaded.at = &loaded;
+    printf("load of a null text: %d at line %llu, %s\n", number, (unsigned long long)line, state_of(loaded.ptr));
+    loaded.ptr = &loaded;
     number = doorvervain_load(&loaded, 16, 256, 256, bytes_of("D / 5\n"), 6, NULL);
-    printf("load without a line: %d, %s\n", number, state_of(loaded.at));
+    printf("load without a line: %d, %s\n", number, state_of(loaded.ptr));
 }
 
-// What is answered where there is no volume, and no tree, and where one is closed.
+// What is returned for a null volume or tree, and for a closed one.
 static void lack(void) {
     struct doorvervain closed = {0};
-    struct doorvervain_frozen thawed = {0};
-    uint8_t buffer[ROOM];
+    struct doorvervain_frozen closed_tree = {0};
+    uint8_t buffer[CAPACITY];
     size_t size = OLD;
     printf("no volume: %d and %u steps, and a closed one: %d and %u steps\n", doorvervain_snapshot(NULL, buffer, 1),
-        doorvervain_relieve(NULL, 1), doorvervain_snapshot(&closed, buffer, 1), doorvervain_relieve(&closed, 1));
-    printf("no tree: %d, and a closed one: %d\n", doorvervain_image(NULL, buffer, ROOM, &size),
-        doorvervain_image(&thawed, buffer, ROOM, &size));
-    printf("name in a closed volume: %d, %zu bytes\n", doorvervain_snapshot_name(&closed, 0, buffer, ROOM, &size), size);
-    printf("name without a size: %d\n", doorvervain_snapshot_name(&closed, 0, buffer, ROOM, NULL));
+        doorvervain_compact(NULL, 1), doorvervain_snapshot(&closed, buffer, 1), doorvervain_compact(&closed, 1));
+    printf("no tree: %d, and a closed one: %d\n", doorvervain_image(NULL, buffer, CAPACITY, &size),
+        doorvervain_image(&closed_tree, buffer, CAPACITY, &size));
+    printf("name in a closed volume: %d, %zu bytes\n", doorvervain_snapshot_name(&closed, 0, buffer, CAPACITY, &size), size);
+    printf("name without a size: %d\n", doorvervain_snapshot_name(&closed, 0, buffer, CAPACITY, NULL));
 }
 
 int main(void) {
@@ -413,7 +413,7 @@ int main(void) {
     freeze(&fs);
     leave_out(&fs);
     lack();
-    doorvervain_thaw(&tree);
+    doorvervain_frozen_close(&tree);
     doorvervain_close(&fs);
     return 0;
 }

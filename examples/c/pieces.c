@@ -1,16 +1,16 @@
-// Writes and reads images by pieces. It prints what it finds; examples/run compares that with pieces.expected, which was written by hand.
+// Writes and reads images in several buffers. It prints what it finds; examples/run compares that with pieces.expected, which was written by hand.
 //
-// Built with -DREFUSE (examples/run does so), it also has each request for memory of a print and of a load refused in turn.
+// Built with -DREFUSE (examples/run does so), it also has each allocation of a print and of a load fail in turn.
 #include "doorvervain.h"
 #include <stdio.h>
 #include <stdlib.h>
 #include <string.h>
 
-enum { ROOM = 200000, BLOCK = 4096, LONG = 20 * BLOCK, OLD = 99, STOPPED = 5 };
+enum { CAPACITY = 200000, BLOCK = 4096, LONG = 20 * BLOCK, OLD = 99, STOPPED = 5 };
 
-// A text that a function of the caller writes to or reads from, and how many bytes it moves before it stops.
+// A text that a callback writes to or reads from, and how many bytes it moves before it stops.
 struct text {
-    uint8_t bytes[ROOM];
+    uint8_t bytes[CAPACITY];
     size_t length, at, most;
 };
 
@@ -24,16 +24,16 @@ static int put(void *context, const uint8_t *bytes, size_t count) {
     return 0;
 }
 
-static int get(void *context, uint8_t *out, size_t room, size_t *got) {
+static int get(void *context, uint8_t *out, size_t capacity, size_t *got) {
     struct text *text = context;
     if (text->at >= text->most) return STOPPED;
-    *got = text->length - text->at < room ? text->length - text->at : room;
+    *got = text->length - text->at < capacity ? text->length - text->at : capacity;
     memcpy(out, text->bytes + text->at, *got);
     text->at += *got;
     return 0;
 }
 
-// A folder, a file of 20 full blocks, and one behind it.
+// A directory, a file of 20 full blocks, and one after it.
 static uint8_t fill(struct doorvervain *fs) {
     static uint8_t bytes[LONG];
     memset(bytes, 'x', sizeof bytes);
@@ -43,44 +43,44 @@ static uint8_t fill(struct doorvervain *fs) {
     return number ? number : doorvervain_create(fs, bytes_of("/z"), 2, 4);
 }
 
-// The image of the live tree in pieces of so many bytes.
-static uint8_t image_by(struct doorvervain *fs, size_t room, struct text *text, int *failed) {
-    static uint8_t buffer[ROOM];
+// The image of the live tree in pieces of the given number of bytes.
+static uint8_t image_by(struct doorvervain *fs, size_t capacity, struct text *text, int *failed) {
+    static uint8_t buffer[CAPACITY];
     struct doorvervain_frozen tree = {0};
     text->length = text->at = 0;
     uint8_t number = doorvervain_freeze(fs, &tree);
-    if (!number) number = doorvervain_image_to(&tree, buffer, room, put, text, failed);
-    return tree.at ? OLD : number;
+    if (!number) number = doorvervain_image_write(&tree, buffer, capacity, put, text, failed);
+    return tree.ptr ? OLD : number;
 }
 
-static uint8_t load_by(struct doorvervain *fs, size_t room, struct text *text, int *failed, uint64_t *line) {
-    static uint8_t buffer[ROOM];
+static uint8_t load_by(struct doorvervain *fs, size_t capacity, struct text *text, int *failed, uint64_t *line) {
+    static uint8_t buffer[CAPACITY];
     text->at = 0;
-    return doorvervain_load_from(fs, 16, 256, 256, buffer, room, get, text, failed, line);
+    return doorvervain_load_read(fs, 16, 256, 256, buffer, capacity, get, text, failed, line);
 }
 
-// The image at once, the same in pieces, and the image of what is loaded in such pieces.
-static void goes(struct doorvervain *fs, size_t room) {
+// The image at once, the image in pieces, and the image of what is loaded from such pieces.
+static void goes(struct doorvervain *fs, size_t capacity) {
     static struct text whole, pieces, again;
     struct doorvervain_frozen tree = {0};
     struct doorvervain loaded = {0};
     int failed = OLD;
     uint64_t line = OLD;
-    whole.most = pieces.most = again.most = ROOM;
+    whole.most = pieces.most = again.most = CAPACITY;
     uint8_t number = doorvervain_freeze(fs, &tree);
-    if (!number) number = doorvervain_image(&tree, whole.bytes, ROOM, &whole.length);
-    doorvervain_thaw(&tree);
-    printf("in pieces of %zu: %d", room, number);
-    printf(", printed %d", image_by(fs, room, &pieces, &failed));
+    if (!number) number = doorvervain_image(&tree, whole.bytes, CAPACITY, &whole.length);
+    doorvervain_frozen_close(&tree);
+    printf("in pieces of %zu: %d", capacity, number);
+    printf(", printed %d", image_by(fs, capacity, &pieces, &failed));
     printf(", %s", pieces.length == whole.length && !memcmp(pieces.bytes, whole.bytes, whole.length) ? "the same" : "another one");
-    printf(", loaded %d", load_by(&loaded, room, &pieces, &failed, &line));
+    printf(", loaded %d", load_by(&loaded, capacity, &pieces, &failed, &line));
     printf(" at line %llu", (unsigned long long)line);
-    printf(", printed %d", image_by(&loaded, ROOM, &again, &failed));
+    printf(", printed %d", image_by(&loaded, CAPACITY, &again, &failed));
     printf(", %s\n", again.length == whole.length && !memcmp(again.bytes, whole.bytes, whole.length) ? "the same" : "another one");
     doorvervain_close(&loaded);
 }
 
-// Functions of the caller that stop.
+// Callbacks that stop.
 static void stops(struct doorvervain *fs) {
     static struct text text;
     struct doorvervain loaded = {&loaded};
@@ -89,62 +89,62 @@ static void stops(struct doorvervain *fs) {
     text.most = 100;
     uint8_t number = image_by(fs, 64, &text, &failed);
     printf("stopped print: %d, stopped by %d behind %zu bytes\n", number, failed, text.length);
-    text.most = ROOM;
+    text.most = CAPACITY;
     (void)image_by(fs, 64, &text, &failed);
     text.most = 100;
     number = load_by(&loaded, 64, &text, &failed, &line);
     printf("stopped load: %d, stopped by %d, line %llu, %s\n", number, failed, (unsigned long long)line,
-        loaded.at ? "open" : "closed");
+        loaded.ptr ? "open" : "closed");
     number = image_by(fs, 0, &text, &failed);
-    printf("no room: %d, %d\n", number, load_by(&loaded, 0, &text, &failed, &line));
+    printf("no capacity: %d, %d\n", number, load_by(&loaded, 0, &text, &failed, &line));
 }
 
-// A text that is no image, piece by piece.
+// A text that is not an image, piece by piece.
 static void refusals(void) {
     struct doorvervain fs = {&fs};
-    struct doorvervain_loading loading = {0};
+    struct doorvervain_loader loading = {0};
     uint64_t line = OLD;
     uint8_t number = doorvervain_load_begin(&loading, 3, 256, 256);
-    printf("a bad shape: %d, %s\n", number, loading.at ? "open" : "closed");
+    printf("a bad shape: %d, %s\n", number, loading.ptr ? "open" : "closed");
     printf("begin: %d", doorvervain_load_begin(&loading, 16, 256, 256));
-    number = doorvervain_load_piece(&loading, bytes_of("D / 0\nD /"), 9, &line);
+    number = doorvervain_load_feed(&loading, bytes_of("D / 0\nD /"), 9, &line);
     printf(", a piece: %d at line %llu", number, (unsigned long long)line);
-    number = doorvervain_load_piece(&loading, bytes_of("a 0\nx\nD"), 7, &line);
+    number = doorvervain_load_feed(&loading, bytes_of("a 0\nx\nD"), 7, &line);
     printf(", a bad one: %d at line %llu", number, (unsigned long long)line);
-    number = doorvervain_load_piece(&loading, bytes_of("D / 0\n"), 6, &line);
+    number = doorvervain_load_feed(&loading, bytes_of("D / 0\n"), 6, &line);
     printf(", one behind it: %d at line %llu", number, (unsigned long long)line);
-    number = doorvervain_load_end(&fs, &loading, &line);
-    printf(", the end: %d at line %llu, %s, %s\n", number, (unsigned long long)line, fs.at ? "open" : "closed",
-        loading.at ? "open" : "closed");
+    number = doorvervain_load_finish(&fs, &loading, &line);
+    printf(", the end: %d at line %llu, %s, %s\n", number, (unsigned long long)line, fs.ptr ? "open" : "closed",
+        loading.ptr ? "open" : "closed");
     (void)doorvervain_load_begin(&loading, 16, 256, 256);
-    (void)doorvervain_load_piece(&loading, bytes_of("D / 0\nD /a"), 10, &line);
-    number = doorvervain_load_end(&fs, &loading, &line);
+    (void)doorvervain_load_feed(&loading, bytes_of("D / 0\nD /a"), 10, &line);
+    number = doorvervain_load_finish(&fs, &loading, &line);
     printf("a line that is cut: %d at line %llu\n", number, (unsigned long long)line);
     (void)doorvervain_load_begin(&loading, 16, 256, 256);
-    doorvervain_load_drop(&loading);
-    printf("dropped: %s\n", loading.at ? "open" : "closed");
+    doorvervain_load_abort(&loading);
+    printf("dropped: %s\n", loading.ptr ? "open" : "closed");
 }
 
-// What is answered where something is null or closed.
+// What is returned if something is null or closed.
 static void lacks(void) {
     struct doorvervain fs = {0};
-    struct doorvervain_frozen thawed = {0};
-    struct doorvervain_printing printing = {0};
-    struct doorvervain_loading loading = {0};
+    struct doorvervain_frozen closed_tree = {0};
+    struct doorvervain_printer printing = {0};
+    struct doorvervain_loader loading = {0};
     uint8_t buffer[1];
     size_t size = OLD;
     uint64_t line = OLD;
-    printf("null: %d, %d, %d, %d\n", doorvervain_print_begin(NULL, &thawed), doorvervain_print_piece(NULL, buffer, 1, &size),
-        doorvervain_load_piece(NULL, buffer, 1, &line), doorvervain_load_end(NULL, &loading, &line));
-    printf("closed: %d, %d, %d, %d\n", doorvervain_print_begin(&printing, &thawed),
-        doorvervain_print_piece(&printing, buffer, 1, &size), doorvervain_load_piece(&loading, buffer, 1, &line),
-        doorvervain_load_end(&fs, &loading, &line));
+    printf("null: %d, %d, %d, %d\n", doorvervain_print_begin(NULL, &closed_tree), doorvervain_print_next(NULL, buffer, 1, &size),
+        doorvervain_load_feed(NULL, buffer, 1, &line), doorvervain_load_finish(NULL, &loading, &line));
+    printf("closed: %d, %d, %d, %d\n", doorvervain_print_begin(&printing, &closed_tree),
+        doorvervain_print_next(&printing, buffer, 1, &size), doorvervain_load_feed(&loading, buffer, 1, &line),
+        doorvervain_load_finish(&fs, &loading, &line));
     doorvervain_print_end(&printing);
-    doorvervain_load_drop(&loading);
+    doorvervain_load_abort(&loading);
 }
 
 #ifdef REFUSE
-// Which request for memory from now on is refused; none where it is 0.
+// Which allocation from now on fails; none if it is 0.
 static long refused_request;
 
 void *__real_malloc(size_t size);
@@ -156,16 +156,16 @@ void *__wrap_malloc(size_t size) { return refuses() ? NULL : __real_malloc(size)
 
 void *__wrap_realloc(void *old, size_t size) { return refuses() ? NULL : __real_realloc(old, size); }
 
-// Has each request of a print refused in turn. A piece that was refused is asked for again: the image is the same.
+// Makes each allocation of a print fail in turn. A call that failed is repeated: the image is the same.
 static void print_without_memory(struct doorvervain *fs) {
     static struct text whole, pieces;
-    static uint8_t buffer[ROOM];
+    static uint8_t buffer[CAPACITY];
     int failed, refusals = 0, others = 0;
-    whole.most = pieces.most = ROOM;
-    (void)image_by(fs, ROOM, &whole, &failed);
+    whole.most = pieces.most = CAPACITY;
+    (void)image_by(fs, CAPACITY, &whole, &failed);
     for (long request = 1; request <= 400; request++) {
         struct doorvervain_frozen tree = {0};
-        struct doorvervain_printing printing = {0};
+        struct doorvervain_printer printing = {0};
         size_t count = OLD;
         pieces.length = 0;
         (void)doorvervain_freeze(fs, &tree);
@@ -174,11 +174,11 @@ static void print_without_memory(struct doorvervain *fs) {
         if (number) {
             refusals++;
             refused_request = 0;
-            others += number != DOORVERVAIN_ENOMEM || printing.at || tree.at;
+            others += number != DOORVERVAIN_ENOMEM || printing.ptr || tree.ptr;
             continue;
         }
         while (count) {
-            number = doorvervain_print_piece(&printing, buffer, BLOCK, &count);
+            number = doorvervain_print_next(&printing, buffer, BLOCK, &count);
             refusals += number != 0;
             others += number && (number != DOORVERVAIN_ENOMEM || count);
             if (number) count = OLD;
@@ -191,21 +191,21 @@ static void print_without_memory(struct doorvervain *fs) {
     printf("a print without memory: %s, %d others\n", refusals ? "refused" : "not refused", others);
 }
 
-// Has each request of a load refused in turn: the answer is ENOMEM, and there is no volume.
+// Makes each allocation of a load fail in turn: it returns ENOMEM, and there is no volume.
 static void load_without_memory(struct doorvervain *fs) {
     static struct text text;
     struct doorvervain loaded = {0};
     uint8_t number = DOORVERVAIN_ENOMEM;
     int failed, refusals = 0, others = 0;
     uint64_t line = OLD;
-    text.most = ROOM;
-    (void)image_by(fs, ROOM, &text, &failed);
+    text.most = CAPACITY;
+    (void)image_by(fs, CAPACITY, &text, &failed);
     for (long request = 1; number == DOORVERVAIN_ENOMEM; request++) {
         refused_request = request;
         number = load_by(&loaded, BLOCK, &text, &failed, &line);
         refused_request = 0;
         refusals += number != 0;
-        others += number && (loaded.at || line || failed);
+        others += number && (loaded.ptr || line || failed);
     }
     printf("a load without memory: %s, %d others, then %d\n", refusals ? "refused" : "not refused", others, number);
     doorvervain_close(&loaded);
@@ -227,7 +227,7 @@ int main(void) {
     goes(&fs, 1);
     goes(&fs, 7);
     goes(&fs, BLOCK);
-    goes(&fs, ROOM);
+    goes(&fs, CAPACITY);
     stops(&fs);
     refusals();
     lacks();

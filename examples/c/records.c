@@ -1,16 +1,16 @@
-// Asks the archive where the records of paths lie, prints records and reads them again. It prints what it is answered; examples/run
-// compares that with records.expected, which was reckoned by hand, and the kinds there with those of the header.
+// Asks the archive for the paths of attribute records, encodes records and decodes them. It prints what is returned; examples/run
+// compares that with records.expected, which was computed independently, and the kinds there with those of the header.
 //
 // It calls the symbols of the archive, with other numbers in their results. It is linked with --wrap=malloc and --wrap=realloc, so
-// that it can refuse memory.
+// that it can make allocations fail.
 #include "doorvervain.h"
 #include <stdbool.h>
 #include <stdio.h>
 #include <string.h>
 
-enum { ROOM = 512, OLD = 99 };
+enum { CAPACITY = 512, OLD = 99 };
 
-// Whether each request for memory is refused.
+// Whether each allocation fails.
 static bool refused;
 
 void *__real_malloc(size_t size);
@@ -20,7 +20,7 @@ void *__wrap_malloc(size_t size) { return refused ? NULL : __real_malloc(size); 
 
 void *__wrap_realloc(void *old, size_t size) { return refused ? NULL : __real_realloc(old, size); }
 
-// Gives memory again, and hands the answer on.
+// Lets allocations succeed again, and returns its argument.
 static uint8_t without_memory(uint8_t answer) {
     refused = false;
     return answer;
@@ -28,7 +28,7 @@ static uint8_t without_memory(uint8_t answer) {
 
 static const uint8_t *bytes_of(const char *text) { return (const uint8_t *)text; }
 
-// Says bytes, with those that are not seen as two digits.
+// Prints bytes, those that are not printable as two digits.
 static void say_bytes(const uint8_t *bytes, size_t count) {
     for (size_t i = 0; i < count; i++) {
         if (bytes[i] == '\n' || (bytes[i] >= ' ' && bytes[i] <= '~')) putchar(bytes[i]);
@@ -36,30 +36,30 @@ static void say_bytes(const uint8_t *bytes, size_t count) {
     }
 }
 
-// ---- where records lie
+// ---- paths of attribute records
 
 static void say_place(const char *what, uint8_t number, const uint8_t *out, size_t size) {
     printf("  %s: %d, %zu bytes ", what, number, size);
-    if (!number && size <= ROOM) say_bytes(out, size);
+    if (!number && size <= CAPACITY) say_bytes(out, size);
     printf("\n");
 }
 
 static void say_places(const char *path) {
-    uint8_t out[ROOM];
+    uint8_t out[CAPACITY];
     size_t size = OLD;
     say_bytes(bytes_of(path), strlen(path));
     printf("\n");
-    uint8_t number = doorvervain_raw_mirror(bytes_of(path), strlen(path), out, ROOM, &size);
-    say_place("mirror", number, out, size);
+    uint8_t number = doorvervain_raw_attr_dir(bytes_of(path), strlen(path), out, CAPACITY, &size);
+    say_place("record directory", number, out, size);
     size = OLD;
-    number = doorvervain_raw_record_path(bytes_of(path), strlen(path), out, ROOM, &size);
+    number = doorvervain_raw_attr_path(bytes_of(path), strlen(path), out, CAPACITY, &size);
     say_place("record", number, out, size);
 }
 
-// A path with one name of so many bytes.
+// A path with one name of the given number of bytes.
 static const char *long_path(size_t count) {
-    static char path[ROOM];
-    memset(path, 0, ROOM);
+    static char path[CAPACITY];
+    memset(path, 0, CAPACITY);
     memset(path, 'n', count + 1);
     path[0] = '/';
     return path;
@@ -68,20 +68,20 @@ static const char *long_path(size_t count) {
 static void say_size_alone(const char *path) {
     uint8_t out[1] = {OLD};
     size_t size = OLD;
-    uint8_t number = doorvervain_raw_record_path(bytes_of(path), strlen(path), out, 0, &size);
-    printf("without room: %d, %zu bytes, and %d is left\n", number, size, out[0]);
+    uint8_t number = doorvervain_raw_attr_path(bytes_of(path), strlen(path), out, 0, &size);
+    printf("without capacity: %d, %zu bytes, and %d is left\n", number, size, out[0]);
 }
 
 static void say_without_memory(void) {
-    uint8_t out[ROOM];
+    uint8_t out[CAPACITY];
     size_t size = OLD;
     const char *path = long_path(200);
     refused = true;
-    uint8_t number = without_memory(doorvervain_raw_record_path(bytes_of(path), strlen(path), out, ROOM, &size));
+    uint8_t number = without_memory(doorvervain_raw_attr_path(bytes_of(path), strlen(path), out, CAPACITY, &size));
     printf("without memory: %d, %zu bytes\n", number, size);
 }
 
-// ---- what records say
+// ---- the content of attribute records
 
 static void say_attributes(const struct doorvervain_attributes *a) {
     printf("  kind %d, mode %o, user %u, group %u, names %llu, link %llu, device %llu, modified %llu, held %llu, %d\n", a->kind,
@@ -92,23 +92,23 @@ static void say_attributes(const struct doorvervain_attributes *a) {
 static void fill(struct doorvervain_attributes *a) { memset(a, OLD, sizeof *a); }
 
 static void read_again(const uint8_t *text, size_t length) {
-    struct doorvervain_attributes told;
-    uint8_t extended[ROOM];
+    struct doorvervain_attributes decoded;
+    uint8_t extended[CAPACITY];
     size_t size = OLD;
-    fill(&told);
-    uint8_t number = doorvervain_raw_record_parse(text, length, &told, extended, ROOM, &size);
+    fill(&decoded);
+    uint8_t number = doorvervain_raw_attr_decode(text, length, &decoded, extended, CAPACITY, &size);
     printf("  read: %d, %zu bytes ", number, size);
-    if (!number && size <= ROOM) say_bytes(extended, size);
+    if (!number && size <= CAPACITY) say_bytes(extended, size);
     printf("\n");
-    say_attributes(&told);
+    say_attributes(&decoded);
 }
 
 static void say_record(const char *what, const struct doorvervain_attributes *a, const char *extended, size_t length) {
-    uint8_t text[ROOM];
+    uint8_t text[CAPACITY];
     size_t size = OLD;
-    uint8_t number = doorvervain_raw_record_print(a, bytes_of(extended), length, text, ROOM, &size);
+    uint8_t number = doorvervain_raw_attr_encode(a, bytes_of(extended), length, text, CAPACITY, &size);
     printf("%s: %d, %zu bytes\n", what, number, size);
-    if (number || size > ROOM) return;
+    if (number || size > CAPACITY) return;
     say_bytes(text, size);
     read_again(text, size);
 }
@@ -143,16 +143,16 @@ static void say_records(void) {
     say_record("no kind", &a, "", 0);
 }
 
-// Says a kind of the header, and whether it is the one that a record of that word has.
+// Prints a kind of the header, and whether it is the one of a record with that word.
 static void read_kind(const char *name, uint8_t header, const char *word) {
-    struct doorvervain_attributes told;
-    char text[ROOM];
+    struct doorvervain_attributes decoded;
+    char text[CAPACITY];
     size_t size = OLD;
     int length = snprintf(text, sizeof text, "doorvervain record 1\nkind %s\nmode 0000\nuser 0\ngroup 0\nnames 1\n", word);
-    fill(&told);
-    uint8_t number = doorvervain_raw_record_parse(bytes_of(text), (size_t)length, &told, (uint8_t *)text, 0, &size);
+    fill(&decoded);
+    uint8_t number = doorvervain_raw_attr_decode(bytes_of(text), (size_t)length, &decoded, (uint8_t *)text, 0, &size);
     printf("DOORVERVAIN_%s = %d", name, header);
-    if (number || told.kind != header) printf(", and %d was answered, by %d", told.kind, number);
+    if (number || decoded.kind != header) printf(", and %d was answered, by %d", decoded.kind, number);
     printf("\n");
 }
 
@@ -166,12 +166,12 @@ static void read_kinds(void) {
 }
 
 static void say_null(void) {
-    struct doorvervain_attributes told;
+    struct doorvervain_attributes decoded;
     size_t size = OLD;
-    fill(&told);
-    uint8_t number = doorvervain_record_parse(NULL, 5, &told, NULL, 0, &size);
+    fill(&decoded);
+    uint8_t number = doorvervain_attr_decode(NULL, 5, &decoded, NULL, 0, &size);
     printf("a null text: %d, %zu bytes\n", number, size);
-    say_attributes(&told);
+    say_attributes(&decoded);
 }
 
 int main(void) {

@@ -2,13 +2,13 @@
 _doorvervain_mount() {
     local word=${COMP_WORDS[COMP_CWORD]} before=${COMP_WORDS[COMP_CWORD - 1]}
     case $before in
-    --size | --log-size | --steps | --awake | --restore | --changes | --send | --replica | --prefix | --user) return ;;
-    --load | --image | --record | --pipe | --authority | --certificate | --key | --password) mapfile -t COMPREPLY < <(compgen -f -- "$word") ;;
+    --size | --log-size | --steps | --busy-poll | --restore | --diff | --send | --replica | --prefix | --user) return ;;
+    --load | --image | --trace | --pipe | --cacert | --cert | --key | --password-file) mapfile -t COMPREPLY < <(compgen -f -- "$word") ;;
     *)
         if [[ $word == -* ]]; then
-            mapfile -t COMPREPLY < <(compgen -W "--store --sync --log-size --replica --prefix --authority --certificate \
-                --key --user --password --pipe --load --image --size --record --steps --awake --trust \
-                --allow-other --foreground --restore --changes --send --receive --unmount --lines --version --help" -- "$word")
+            mapfile -t COMPREPLY < <(compgen -W "--store --sync --log-size --replica --prefix --cacert --cert \
+                --key --user --password-file --pipe --load --image --size --trace --steps --busy-poll --trust-attributes \
+                --allow-other --foreground --restore --diff --send --receive --unmount --dump-log --version --help" -- "$word")
             return
         fi
         mapfile -t COMPREPLY < <(compgen -d -- "$word")

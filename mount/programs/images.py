@@ -139,7 +139,7 @@ def an_image_that_was_cut_is_refused(folder: Path):
 @case
 def only_the_owner_may_read_images_and_records(folder: Path):
     (folder / "image").touch(mode=0o644)
-    file = keep_tree(folder, "--record", folder / "log")
+    file = keep_tree(folder, "--trace", folder / "log")
     for name in ("image", "image.sum", "log.in", "log.out"):
         assert stat.S_IMODE((folder / name).stat().st_mode) == 0o600, name
     assert is_whole(file)
@@ -148,7 +148,7 @@ def only_the_owner_may_read_images_and_records(folder: Path):
 @case
 def an_older_record_is_not_cut(folder: Path):
     (folder / "log.in").write_text("older")
-    mount = Mount(folder, "--record", folder / "log")
+    mount = Mount(folder, "--trace", folder / "log")
     assert not mount.stands and "log.in" in mount.said()
     assert (folder / "log.in").read_text() == "older"
 
@@ -160,7 +160,7 @@ def a_record_that_cannot_be_written_ends_with_whole_lines(folder: Path):
     if os.getuid() or subprocess.run(["mount", "-t", "tmpfs", "-o", "size=200K", "none", disk]).returncode:
         return
     try:
-        mount = Mount(folder, "--record", disk / "log")
+        mount = Mount(folder, "--trace", disk / "log")
         for i in range(200):
             (mount.point / f"file{i}").write_bytes(os.urandom(1000))
         assert mount.end() == 1 and "the record ends" in mount.said()

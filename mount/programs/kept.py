@@ -8,7 +8,7 @@ from own_mount import MOUNT, Mount
 from seen import alike, seen
 
 # Owners, set-user bits and devices of an image hold where root asks for that.
-TRUST = ["--trust"] if os.getuid() == 0 else []
+TRUST = ["--trust-attributes"] if os.getuid() == 0 else []
 
 
 def restore(mount: Mount, snapshot: str) -> None:

@@ -90,7 +90,7 @@ def processor_time(process: int) -> float:
 
 @case
 def a_mount_that_is_asked_little_sleeps(folder: Path):
-    for options in (["--awake", "0"], [], ["--awake", "1000"]):
+    for options in (["--busy-poll", "0"], [], ["--busy-poll", "1000"]):
         mount = Mount(folder, *options)
         for i in range(1000):
             (mount.point / f"file{i}").touch()
@@ -103,10 +103,10 @@ def a_mount_that_is_asked_little_sleeps(folder: Path):
 
 
 @case
-def an_awake_that_is_none_is_refused(folder: Path):
+def a_bad_busy_poll_is_refused(folder: Path):
     for word in ("1001", "-1", "x", ""):
-        refusal = subprocess.run([MOUNT, "--awake", word, folder], capture_output=True, text=True)
-        assert refusal.returncode == 2 and "--awake takes 0 to 1000, not" in refusal.stderr
+        refusal = subprocess.run([MOUNT, "--busy-poll", word, folder], capture_output=True, text=True)
+        assert refusal.returncode == 2 and "--busy-poll takes 0 to 1000, not" in refusal.stderr
 
 
 run_cases()

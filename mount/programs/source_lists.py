@@ -3,9 +3,9 @@ from importlib.machinery import SourceFileLoader
 from importlib.util import module_from_spec, spec_from_loader
 from pathlib import Path
 
-loader = SourceFileLoader("judge", str(Path(__file__).resolve().parent.parent / "judge"))
-judge = module_from_spec(spec_from_loader("judge", loader))
-loader.exec_module(judge)
+loader = SourceFileLoader("run_programs", str(Path(__file__).resolve().parent.parent / "run-programs"))
+run_programs = module_from_spec(spec_from_loader("run_programs", loader))
+loader.exec_module(run_programs)
 
 LINES = """\
 # deb http://one.example/debian old main
@@ -27,11 +27,11 @@ Suites: stable
 Components: main
 Enabled: no
 """
-assert judge.source_lines(LINES) == """\
+assert run_programs.source_lines(LINES) == """\
 deb-src [signed-by=/k.gpg] http://one.example/debian stable main
 deb-src http://two.example/debian stable main contrib
 """
-assert judge.source_parts(PARTS) == PARTS.replace("Types: deb\n", "Types: deb-src\n").replace(
+assert run_programs.source_parts(PARTS) == PARTS.replace("Types: deb\n", "Types: deb-src\n").replace(
     "types: deb deb-src\n", "Types: deb-src\n")
-written = Path(judge.__file__ if hasattr(judge, "__file__") else loader.path).read_text()
-assert "://" not in written, "the judge names a host"
+written = Path(run_programs.__file__ if hasattr(run_programs, "__file__") else loader.path).read_text()
+assert "://" not in written, "the run_programs names a host"

@@ -303,19 +303,19 @@ def script_lines(text: str) -> list[str]:
 
 @case
 def its_logs_are_told_as_the_lines_of_what_was_done(folder: Path):
-    mount = store_mount(folder, "--record", folder / "record")
+    mount = store_mount(folder, "--trace", folder / "record")
     for step, _ in itertools.islice(store_states.steps(7), 400):
         store_states.do(mount.point, step)
     (mount.point / "large").write_bytes(WORKS.randbytes(300_000))
     (mount.point / ".snapshots/one").mkdir()
     os.setxattr(mount.point / "large", "user.color", b"blue")
-    assert subprocess.run([MOUNT, "--lines", folder / "store"], capture_output=True).returncode == 1
+    assert subprocess.run([MOUNT, "--dump-log", folder / "store"], capture_output=True).returncode == 1
     end_well(mount)
-    told = subprocess.run([MOUNT, "--lines", folder / "store"], capture_output=True, text=True, check=True).stdout
+    told = subprocess.run([MOUNT, "--dump-log", folder / "store"], capture_output=True, text=True, check=True).stdout
     record = [(folder / f"record.{it}").read_text() for it in ("in", "out")]
     wanted = changes_in(script_lines(record[0]), lines_of_replies(record[1]))
     assert changes_in(script_lines(told)) == wanted and len(wanted) > 400, len(wanted)
-    assert subprocess.run([MOUNT, "--lines", folder / "gone"], capture_output=True).returncode == 1
+    assert subprocess.run([MOUNT, "--dump-log", folder / "gone"], capture_output=True).returncode == 1
     assert not (folder / "gone").exists()
 
 

@@ -260,7 +260,7 @@ def its_texts_are_differences_one_of_the_other(folder: Path):
     for name, text in texts(folder, 1):
         image = list(applied(image, text))
         (folder / "image").write_bytes(b"".join(image))
-        mount = stands(Mount(folder, "--load", folder / "image", "--trust"))
+        mount = stands(Mount(folder, "--load", folder / "image", "--trust-attributes"))
         same(state(mount.point), wanted[name])
         end_well(mount)
         size += sum(map(len, text))

@@ -1,3 +1,8 @@
+// Replies to the kernel that may have to wait for the store's disk.
+//
+// Invariant: each request gets exactly one reply. It is sent at once, or by the store's thread when what it waits for
+// has come; then `waiting` counts it until it is sent. A failed sync is reported once to each open file
+// (`errseq_seen`), as Linux does.
 #include "answers.h"
 #include <errno.h>
 #include <stdatomic.h>
@@ -6,17 +11,17 @@
 static _Atomic unsigned waiting;
 
 // A failure that the open file was not told is told once. It may be one of the timer's.
-static int fault_of_sync(const struct answer *answer) {
+static int err_of_sync(const struct answer *answer) {
     struct mount *mount = fuse_req_userdata(answer->req);
-    uint64_t failures = store_failures(mount->store);
-    if (answer->told && atomic_exchange(answer->told, failures) != failures) return EIO;
-    return answer->fault;
+    uint64_t errseq = store_sync_errseq(mount->store);
+    if (answer->errseq_seen && atomic_exchange(answer->errseq_seen, errseq) != errseq) return EIO;
+    return answer->err;
 }
 
 static void send(const struct answer *answer) {
-    int fault = answer->kind == ANSWER_SYNCED ? fault_of_sync(answer) : answer->fault;
-    if (fault) {
-        fuse_reply_err(answer->req, fault);
+    int err = answer->kind == ANSWER_SYNCED ? err_of_sync(answer) : answer->err;
+    if (err) {
+        fuse_reply_err(answer->req, err);
         return;
     }
     switch (answer->kind) {
@@ -30,54 +35,54 @@ static void send(const struct answer *answer) {
     }
 }
 
-static void note_fault(struct answer *answer, int fault) {
-    if (!answer->fault) answer->fault = fault;
+static void note_err(struct answer *answer, int err) {
+    if (!answer->err) answer->err = err;
 }
 
-static void drop(struct answer *kept) {
-    free(kept);
+static void free_copy(struct answer *copy) {
+    free(copy);
     waiting--;
 }
 
-static void send_late(struct waiter *waiter, int fault) {
+static void send_late(struct waiter *waiter, int err) {
     struct answer *answer = (struct answer *)waiter;
-    note_fault(answer, fault);
+    note_err(answer, err);
     send(answer);
-    drop(answer);
+    free_copy(answer);
 }
 
 // The same answer, for another thread; null where memory is wanting.
-static struct answer *keep(const struct answer *answer) {
-    struct answer *kept = malloc(sizeof *kept);
-    if (!kept) return 0;
-    *kept = *answer;
-    kept->waiter = (struct waiter){.answer = send_late};
+static struct answer *copy_answer(const struct answer *answer) {
+    struct answer *copy = malloc(sizeof *copy);
+    if (!copy) return 0;
+    *copy = *answer;
+    copy->waiter = (struct waiter){.answer = send_late};
     waiting++;
-    return kept;
+    return copy;
 }
 
 // Whether another thread answers. Without memory for that this one waits for the disk.
 static bool waits_for_sync(struct store *store, struct answer *answer) {
-    int fault = 0;
-    bool is_synced = store_syncs_soon(store, &fault);
-    struct answer *kept = is_synced ? 0 : keep(answer);
-    if (kept) store_wait_for_sync(store, &kept->waiter);
-    else note_fault(answer, is_synced ? fault : store_sync(store));
-    return kept;
+    int err = 0;
+    bool is_synced = store_try_sync(store, &err);
+    struct answer *copy = is_synced ? 0 : copy_answer(answer);
+    if (copy) store_wait_for_sync(store, &copy->waiter);
+    else note_err(answer, is_synced ? err : store_sync(store));
+    return copy;
 }
 
-static bool waits_for_room(struct store *store, const struct answer *answer) {
-    struct answer *kept = store_is_full(store) ? keep(answer) : 0;
-    if (!kept) return false;
-    if (store_waits_for_room(store, &kept->waiter)) return true;
-    drop(kept);
+static bool waits_for_space(struct store *store, const struct answer *answer) {
+    struct answer *copy = store_is_full(store) ? copy_answer(answer) : 0;
+    if (!copy) return false;
+    if (store_wait_for_space(store, &copy->waiter)) return true;
+    free_copy(copy);
     return false;
 }
 
 void answer_change(struct store *store, struct answer *answer, bool has_changed) {
     bool waits = false;
     if (store && has_changed && store_syncs_each(store)) waits = waits_for_sync(store, answer);
-    else if (store && has_changed) waits = waits_for_room(store, answer);
+    else if (store && has_changed) waits = waits_for_space(store, answer);
     if (!waits) send(answer);
 }
 

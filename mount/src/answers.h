@@ -1,4 +1,5 @@
-// Answers to the kernel that may have to wait for the disk: that of an fsync(2), with --sync that of each change, and that
+// Answers to the kernel that may have to wait for the disk: that of an fsync(2), with --sync that of each change, and
+// that
 // of a change behind which a store has too much to write. The thread that serves requests does not wait: another thread
 // answers.
 #ifndef ANSWERS_H
@@ -14,21 +15,21 @@ enum answer_kind {
     ANSWER_OPENED,     // `info`
     ANSWER_ATTRIBUTES, // `stat`, which is known for some seconds
     ANSWER_WRITTEN,    // `written`
-    ANSWER_SYNCED,     // `told`
+    ANSWER_SYNCED,     // `errseq_seen`
 };
 
 struct answer {
     struct waiter waiter; // the first: it is all that a store knows
     enum answer_kind kind;
     fuse_req_t req;
-    int fault; // 0: the request was done
+    int err; // 0: the request was done
     struct fuse_entry_param entry;
     struct fuse_file_info info;
     struct stat stat;
     double seconds;
     size_t written;
     // How many failed syncs the open file was told, for as long as it is open; null: memory was wanting.
-    _Atomic uint64_t *told;
+    _Atomic uint64_t *errseq_seen;
 };
 
 // Answers a request that may have changed something. Called with no lock.

@@ -1,3 +1,6 @@
+// A buffer of bytes that grows.
+//
+// Invariant: `length` is at most `capacity`, and a function that fails leaves the bytes as they were.
 #include "bytes.h"
 #include <errno.h>
 #include <stdarg.h>
@@ -7,12 +10,12 @@
 #include <unistd.h>
 
 int bytes_reserve(struct bytes *bytes, size_t more) {
-    if (bytes->room - bytes->length >= more) return 0;
-    size_t room = bytes->room * 2 > bytes->length + more ? bytes->room * 2 : bytes->length + more;
-    char *at = realloc(bytes->at, room);
+    if (bytes->capacity - bytes->length >= more) return 0;
+    size_t capacity = bytes->capacity * 2 > bytes->length + more ? bytes->capacity * 2 : bytes->length + more;
+    char *at = realloc(bytes->at, capacity);
     if (!at) return ENOMEM;
     bytes->at = at;
-    bytes->room = room;
+    bytes->capacity = capacity;
     return 0;
 }
 
@@ -35,7 +38,7 @@ int bytes_print(struct bytes *bytes, const char *form, ...) {
 int bytes_read_all(struct bytes *bytes, int file) {
     for (;;) {
         if (bytes_reserve(bytes, 1 << 16)) return ENOMEM;
-        ssize_t got = read(file, bytes->at + bytes->length, bytes->room - bytes->length);
+        ssize_t got = read(file, bytes->at + bytes->length, bytes->capacity - bytes->length);
         if (got < 0 && errno == EINTR) continue;
         if (got < 0) return errno;
         if (got == 0) return 0;
@@ -47,7 +50,7 @@ void bytes_fit(struct bytes *bytes) {
     char *at = realloc(bytes->at, bytes->length ? bytes->length : 1);
     if (!at) return;
     bytes->at = at;
-    bytes->room = bytes->length ? bytes->length : 1;
+    bytes->capacity = bytes->length ? bytes->length : 1;
 }
 
 void bytes_free(struct bytes *bytes) {

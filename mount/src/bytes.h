@@ -5,7 +5,7 @@
 
 struct bytes {
     char *at;
-    size_t length, room;
+    size_t length, capacity;
 };
 
 // Makes room for so many more bytes behind those that are there: 0 or ENOMEM.

@@ -1,6 +1,5 @@
-// Times calls of a way to the file system, without FUSE: out/calls [BETR]. A row has the name of a call and its
-// microseconds.
-#include "way.h"
+// Times the calls of a backend without FUSE: out/calls [BETR]. A row has the name of a call and its microseconds.
+#include "backend.h"
 #include <stdio.h>
 #include <stdlib.h>
 #include <string.h>
@@ -9,7 +8,7 @@
 enum { MANY = 5000, FEW = 32, SMALL = 4096, LARGE = 1 << 20 };
 
 static char bytes[LARGE], into[LARGE];
-static struct volume volume;
+static struct backend backend;
 
 static double seconds(void) {
     struct timespec time;
@@ -24,36 +23,35 @@ static const char *file(int number) {
 }
 
 // Each call has a moment of its own, as the mount's have.
-static uint64_t moment(int i) { return (uint64_t)i + 1; }
+static uint64_t timestamp(int i) { return (uint64_t)i + 1; }
 
-static int create(int i) { return volume.way->change(volume.self, CREATE, file(i), moment(i)); }
+static int create(int i) { return backend.ops->change(backend.self, CREATE, file(i), timestamp(i)); }
 
-static int take_away(int i) { return volume.way->change(volume.self, UNLINK, file(i), moment(i)); }
+static int take_away(int i) { return backend.ops->change(backend.self, UNLINK, file(i), timestamp(i)); }
 
 static int look(int i) {
-    struct standing standing;
-    return volume.way->stat(volume.self, (struct place){0, file(i * 7919 % MANY)}, &standing);
+    struct node_stat node_stat;
+    return backend_stat(&backend, (struct path_ref){0, file(i * 7919 % MANY)}, &node_stat);
 }
 
 static int write_small(int i) {
     size_t done;
-    return volume.way->write(volume.self, file(i), 0, bytes, SMALL, moment(i), &done);
+    return backend.ops->write(backend.self, file(i), 0, bytes, SMALL, timestamp(i), &done);
 }
 
 static int read_small(int i) {
     size_t got;
-    return volume.way->read(volume.self, (struct place){0, file(i * 7919 % MANY)}, 0, into, SMALL, &got) ||
-           got != SMALL;
+    return backend_read(&backend, (struct path_ref){0, file(i * 7919 % MANY)}, 0, into, SMALL, &got) || got != SMALL;
 }
 
 static int write_large(int i) {
     size_t done;
-    return volume.way->write(volume.self, "/large", (uint64_t)i * LARGE, bytes, LARGE, moment(i), &done);
+    return backend.ops->write(backend.self, "/large", (uint64_t)i * LARGE, bytes, LARGE, timestamp(i), &done);
 }
 
 static int read_large(int i) {
     size_t got;
-    return volume.way->read(volume.self, (struct place){0, "/large"}, (uint64_t)i * LARGE, into, LARGE, &got) ||
+    return backend_read(&backend, (struct path_ref){0, "/large"}, (uint64_t)i * LARGE, into, LARGE, &got) ||
            got != LARGE;
 }
 
@@ -64,17 +62,17 @@ static void time_calls(const char *name, int (*call)(int), int count) {
             fprintf(stderr, "calls: %s was refused\n", name);
             exit(1);
         }
-        volume.way->relieve(volume.self, volume.way->owes(volume.self));
+        backend_compact(&backend, backend_compaction_debt(&backend));
     }
     printf("%-16s %10.2f\n", name, (seconds() - began) * 1e6 / count);
 }
 
 int main(int count, char **words) {
-    struct making making = {.betr = count > 1 ? words[1] : 0, .steps = 4};
+    struct open_options options = {.betr = count > 1 ? words[1] : 0, .steps = 4};
     for (int i = 0; i < LARGE; i++) bytes[i] = (char)(i * 7 + i / 4096);
-    if (making.betr ? open_pipe(&making, &volume) : open_library(&making, &volume)) return 1;
-    if (volume.way->change(volume.self, MAKE_DIRECTORY, "/folder", 0)) return 1;
-    if (volume.way->change(volume.self, CREATE, "/large", 0)) return 1;
+    if (options.betr ? open_pipe(&options, &backend) : open_library(&options, &backend)) return 1;
+    if (backend.ops->change(backend.self, MAKE_DIRECTORY, "/folder", 0)) return 1;
+    if (backend.ops->change(backend.self, CREATE, "/large", 0)) return 1;
     time_calls("create", create, MANY);
     time_calls("stat", look, MANY);
     time_calls("write 4 KiB", write_small, MANY);
@@ -82,5 +80,5 @@ int main(int count, char **words) {
     time_calls("write 1 MiB", write_large, FEW);
     time_calls("read 1 MiB", read_large, FEW);
     time_calls("unlink", take_away, MANY);
-    return volume.way->close(volume.self, 0) != 0;
+    return backend.ops->close(backend.self, 0) != 0;
 }

@@ -1,7 +1,11 @@
+// Extended attributes, packed as the library has them in a record.
+//
+// Invariant: names rise in byte order, so each is there once. A change packs all of them anew and writes the record
+// within one transaction.
 #include "extended.h"
-#include "files.h"
-#include "records.h"
-#include "room.h"
+#include "fs_ops.h"
+#include "attrs.h"
+#include "memlimit.h"
 #include <errno.h>
 #include <string.h>
 #include <sys/xattr.h>
@@ -40,30 +44,30 @@ static bool find(const struct bytes *all, const char *name, struct packed *out) 
 static int append_packed(struct bytes *out, const char *name, const char *value, size_t length) {
     char digits[BYTES_OF_LENGTH];
     for (int i = 0; i < BYTES_OF_LENGTH; i++) digits[i] = (char)(length >> 8 * i);
-    int fault = bytes_append(out, name, strlen(name) + 1);
-    if (!fault) fault = bytes_append(out, digits, sizeof digits);
-    return fault ? fault : bytes_append(out, value, length);
+    int err = bytes_append(out, name, strlen(name) + 1);
+    if (!err) err = bytes_append(out, digits, sizeof digits);
+    return err ? err : bytes_append(out, value, length);
 }
 
 // All of them but one, in whose place another value stands, or none.
 static int exchange(const struct bytes *all, const struct packed *gone, const char *name, const char *value,
                     size_t length, struct bytes *out) {
-    int fault = bytes_append(out, all->at, gone->at);
-    if (!fault && value) fault = append_packed(out, name, value, length);
-    return fault ? fault : bytes_append(out, all->at + gone->end, all->length - gone->end);
+    int err = bytes_append(out, all->at, gone->at);
+    if (!err && value) err = append_packed(out, name, value, length);
+    return err ? err : bytes_append(out, all->at + gone->end, all->length - gone->end);
 }
 
 // All that an entry has. Mostly it has none, which is known without a look.
-static int read_all(struct mount *mount, struct entry *entry, struct bytes *out) {
-    const struct attributes *attributes;
-    struct attributes read;
-    struct spot spot;
+static int read_all(struct mount *mount, struct inode *inode, struct bytes *out) {
+    const struct attrs *attrs;
+    struct attrs read;
+    struct resolved_path resolved;
     if (!mount_keeps_records(mount)) return EOPNOTSUPP;
-    int fault = records_of(mount, entry, &attributes);
-    if (!fault) fault = bytes_reserve(out, 1);
-    if (fault || !attributes->has_extended) return fault;
-    fault = entry_spot(entry, 0, &spot);
-    return fault ? fault : records_read(mount, &spot, entry->is_directory, &read, out);
+    int err = attrs_of(mount, inode, &attrs);
+    if (!err) err = bytes_reserve(out, 1);
+    if (err || !attrs->has_extended) return err;
+    err = inode_path(inode, 0, &resolved);
+    return err ? err : attrs_read(mount, &resolved, inode->is_directory, &read, out);
 }
 
 // Access control lists, which are names of `system.`, would have to change the mode: there are none.
@@ -74,74 +78,74 @@ static bool is_refused(const char *name) {
     return true;
 }
 
-int extended_get(struct mount *mount, struct entry *entry, const char *name, struct bytes *out) {
+int extended_get(struct mount *mount, struct inode *inode, const char *name, struct bytes *out) {
     struct bytes all = {0};
     struct packed one;
-    int fault = is_refused(name) ? EOPNOTSUPP : read_all(mount, entry, &all);
-    if (!fault && !find(&all, name, &one)) fault = ENODATA;
-    if (!fault) fault = bytes_append(out, one.value, one.length);
+    int err = is_refused(name) ? EOPNOTSUPP : read_all(mount, inode, &all);
+    if (!err && !find(&all, name, &one)) err = ENODATA;
+    if (!err) err = bytes_append(out, one.value, one.length);
     bytes_free(&all);
-    return fault;
+    return err;
 }
 
-int extended_list(struct mount *mount, struct entry *entry, struct bytes *out) {
+int extended_list(struct mount *mount, struct inode *inode, struct bytes *out) {
     struct bytes all = {0};
-    int fault = read_all(mount, entry, &all);
-    for (struct packed one = {0}; !fault && one.end < all.length;) {
+    int err = read_all(mount, inode, &all);
+    for (struct packed one = {0}; !err && one.end < all.length;) {
         one = read_at(&all, one.end);
-        fault = bytes_append(out, one.name, strlen(one.name) + 1);
+        err = bytes_append(out, one.name, strlen(one.name) + 1);
     }
     bytes_free(&all);
-    return fault == EOPNOTSUPP ? 0 : fault;
+    return err == EOPNOTSUPP ? 0 : err;
 }
 
-static int write_all(struct mount *mount, struct entry *entry, const struct bytes *all, uint64_t at) {
-    struct journal journal;
-    struct attributes attributes = entry->attributes;
-    struct spot spot;
-    int fault = entry_spot(entry, 0, &spot);
-    if (fault) return fault;
-    journal_begin(&journal, mount, at);
-    fault = journal_end(&journal, records_write(&journal, spot.path, &attributes, all));
-    if (fault) return fault;
-    records_remember(mount, entry, &attributes);
-    entry->change = time_of(at);
+static int write_all(struct mount *mount, struct inode *inode, const struct bytes *all, uint64_t at) {
+    struct txn txn;
+    struct attrs attrs = inode->attrs;
+    struct resolved_path resolved;
+    int err = inode_path(inode, 0, &resolved);
+    if (err) return err;
+    txn_begin(&txn, mount, at);
+    err = txn_end(&txn, attrs_write(&txn, resolved.path, &attrs, all));
+    if (err) return err;
+    attrs_remember(mount, inode, &attrs);
+    inode->change = ns_to_timespec(at);
     return 0;
 }
 
 // A null value takes the attribute away.
-static int change(struct mount *mount, struct entry *entry, const char *name, const char *value, size_t length,
+static int change(struct mount *mount, struct inode *inode, const char *name, const char *value, size_t length,
                   int flags) {
     struct bytes all = {0}, changed = {0};
     struct packed one;
-    int fault = read_all(mount, entry, &all);
-    bool stands = !fault && find(&all, name, &one);
-    if (!fault && stands && flags & XATTR_CREATE) fault = EEXIST;
-    if (!fault && !stands && flags & XATTR_REPLACE) fault = ENODATA;
-    if (!fault) fault = exchange(&all, &one, name, value, length, &changed);
-    if (!fault) fault = write_all(mount, entry, &changed, moment_now());
+    int err = read_all(mount, inode, &all);
+    bool stands = !err && find(&all, name, &one);
+    if (!err && stands && flags & XATTR_CREATE) err = EEXIST;
+    if (!err && !stands && flags & XATTR_REPLACE) err = ENODATA;
+    if (!err) err = exchange(&all, &one, name, value, length, &changed);
+    if (!err) err = write_all(mount, inode, &changed, clock_now_ns());
     bytes_free(&all);
     bytes_free(&changed);
-    return fault;
+    return err;
 }
 
-static int may_change(const struct mount *mount, const struct entry *entry, const char *name) {
-    return is_refused(name) || !mount_keeps_records(mount) ? EOPNOTSUPP : files_may_change(entry);
+static int may_change(const struct mount *mount, const struct inode *inode, const char *name) {
+    return is_refused(name) || !mount_keeps_records(mount) ? EOPNOTSUPP : fs_may_write(inode);
 }
 
-int extended_set(struct mount *mount, struct entry *entry, const char *name, const char *value, size_t length,
+int extended_set(struct mount *mount, struct inode *inode, const char *name, const char *value, size_t length,
                  int flags) {
-    int fault = may_change(mount, entry, name);
-    if (fault) return fault;
+    int err = may_change(mount, inode, name);
+    if (err) return err;
     do {
-        room_begin();
-        fault = change(mount, entry, name, value, length, flags);
-    } while (room_again(&mount->volume, &fault));
-    return fault;
+        memlimit_begin();
+        err = change(mount, inode, name, value, length, flags);
+    } while (memlimit_retry(&mount->backend, &err));
+    return err;
 }
 
 // A removal may take what it needs.
-int extended_remove(struct mount *mount, struct entry *entry, const char *name) {
-    int fault = may_change(mount, entry, name);
-    return fault ? fault : change(mount, entry, name, 0, 0, XATTR_REPLACE);
+int extended_remove(struct mount *mount, struct inode *inode, const char *name) {
+    int err = may_change(mount, inode, name);
+    return err ? err : change(mount, inode, name, 0, 0, XATTR_REPLACE);
 }

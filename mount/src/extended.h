@@ -5,10 +5,10 @@
 #include "mount.h"
 
 // EOPNOTSUPP for those of the kernel's own, and for all where no records are kept.
-int extended_get(struct mount *mount, struct entry *entry, const char *name, struct bytes *out);
+int extended_get(struct mount *mount, struct inode *inode, const char *name, struct bytes *out);
 // Their names, each with a byte 0.
-int extended_list(struct mount *mount, struct entry *entry, struct bytes *out);
-int extended_set(struct mount *mount, struct entry *entry, const char *name, const char *value, size_t length,
+int extended_list(struct mount *mount, struct inode *inode, struct bytes *out);
+int extended_set(struct mount *mount, struct inode *inode, const char *name, const char *value, size_t length,
                  int flags);
-int extended_remove(struct mount *mount, struct entry *entry, const char *name);
+int extended_remove(struct mount *mount, struct inode *inode, const char *name);
 #endif

@@ -1,3 +1,7 @@
+// The image of a tree as a file ("Image" in docs/FORMATS.md).
+//
+// Validity: FILE is complete, since it gets its name only after FILE.part was written and synced. FILE.sum has its
+// SHA-256 digest; a file whose digest differs is refused, and one without FILE.sum is accepted with a warning.
 #include "image.h"
 #include <errno.h>
 #include <fcntl.h>
@@ -13,22 +17,22 @@ static int join(char out[PATH_MAX], const char *file, const char *ending) {
     return length < 0 || length >= PATH_MAX ? ENAMETOOLONG : 0;
 }
 
-static int say(const char *file, const char *what) {
+static int report(const char *file, const char *what) {
     fprintf(stderr, "doorvervain-mount: %s: %s\n", file, what);
     return EINVAL;
 }
 
-static int say_fault(const char *file, int fault) {
-    if (fault) say(file, strerror(fault));
-    return fault;
+static int report_err(const char *file, int err) {
+    if (err) report(file, strerror(err));
+    return err;
 }
 
 // A link is followed, so that it stays where the file that it names gets another one.
 static int name_files(struct image *image, const char *file) {
-    int fault = realpath(file, image->file) ? 0 : join(image->file, file, "");
-    if (!fault) fault = join(image->part, image->file, ".part");
-    if (!fault) fault = join(image->sum_file, image->file, ".sum");
-    return fault ? fault : join(image->sum_part, image->file, ".sum.part");
+    int err = realpath(file, image->file) ? 0 : join(image->file, file, "");
+    if (!err) err = join(image->part, image->file, ".part");
+    if (!err) err = join(image->sum_file, image->file, ".sum");
+    return err ? err : join(image->sum_part, image->file, ".sum.part");
 }
 
 // Whether what stands under the name, if anything does, may be replaced.
@@ -59,20 +63,20 @@ static int lock_part(int part) {
 static int open_part(struct image *image) {
     image->out = open_private(image->part);
     if (image->out < 0) return errno;
-    int fault = lock_part(image->out);
-    if (!fault) fault = sum_begin(&image->sum);
-    if (fault) close(image->out);
-    return fault;
+    int err = lock_part(image->out);
+    if (!err) err = sha256_begin(&image->sum);
+    if (err) close(image->out);
+    return err;
 }
 
 int image_open(struct image *image, const char *file) {
-    int fault = name_files(image, file);
-    if (!fault) fault = try_file(image);
-    if (!fault) fault = open_part(image);
-    if (fault == EBUSY) say(file, "another mount keeps its tree there");
-    else if (fault == EEXIST) say(image->part, "a mount that did not end well left it: look at it, and take it away");
-    else say_fault(file, fault);
-    return fault;
+    int err = name_files(image, file);
+    if (!err) err = try_file(image);
+    if (!err) err = open_part(image);
+    if (err == EBUSY) report(file, "another mount keeps its tree there");
+    else if (err == EEXIST) report(image->part, "a mount that did not end well left it: look at it, and take it away");
+    else report_err(file, err);
+    return err;
 }
 
 static int write_all(int file, const char *bytes, size_t count) {
@@ -87,24 +91,24 @@ static int write_all(int file, const char *bytes, size_t count) {
 }
 
 int image_put(struct image *image, const char *bytes, size_t count) {
-    int fault = write_all(image->out, bytes, count);
-    return fault ? fault : sum_add(&image->sum, bytes, count);
+    int err = write_all(image->out, bytes, count);
+    return err ? err : sha256_add(&image->sum, bytes, count);
 }
 
-int image_sum(const struct image *image, char digits[SUM_DIGITS + 1]) { return sum_so_far(&image->sum, digits); }
+int image_sum(const struct image *image, char digits[SHA256_DIGITS + 1]) { return sha256_so_far(&image->sum, digits); }
 
 // One line, as sha256sum(1) writes and checks it.
 static int write_sum(struct image *image) {
-    char line[SUM_DIGITS + PATH_MAX + 4];
-    int fault = sum_end(&image->sum, line);
-    if (fault) return fault;
-    int length = SUM_DIGITS + snprintf(line + SUM_DIGITS, PATH_MAX + 4, "  %s\n", strrchr(image->file, '/') + 1);
+    char line[SHA256_DIGITS + PATH_MAX + 4];
+    int err = sha256_end(&image->sum, line);
+    if (err) return err;
+    int length = SHA256_DIGITS + snprintf(line + SHA256_DIGITS, PATH_MAX + 4, "  %s\n", strrchr(image->file, '/') + 1);
     int file = open_private(image->sum_part);
-    if (file < 0 || ftruncate(file, 0)) fault = errno;
-    if (!fault) fault = write_all(file, line, (size_t)length);
-    if (!fault && fsync(file)) fault = errno;
+    if (file < 0 || ftruncate(file, 0)) err = errno;
+    if (!err) err = write_all(file, line, (size_t)length);
+    if (!err && fsync(file)) err = errno;
     if (file >= 0) close(file);
-    return fault;
+    return err;
 }
 
 static int sync_folder(const struct image *image) {
@@ -113,54 +117,54 @@ static int sync_folder(const struct image *image) {
     strrchr(folder, '/')[1] = 0;
     int open_folder = open(folder, O_RDONLY | O_DIRECTORY | O_CLOEXEC);
     if (open_folder < 0) return errno;
-    int fault = fsync(open_folder) ? errno : 0;
+    int err = fsync(open_folder) ? errno : 0;
     close(open_folder);
-    return fault;
+    return err;
 }
 
 // Wherever this is cut short FILE is whole, the old one or the new one, and has its own checksum or none.
 static int exchange(const struct image *image) {
     if (unlink(image->sum_file) && errno != ENOENT) return errno;
-    int fault = sync_folder(image);
-    if (!fault && rename(image->part, image->file)) fault = errno;
-    if (!fault && rename(image->sum_part, image->sum_file)) fault = errno;
-    return fault ? fault : sync_folder(image);
+    int err = sync_folder(image);
+    if (!err && rename(image->part, image->file)) err = errno;
+    if (!err && rename(image->sum_part, image->sum_file)) err = errno;
+    return err ? err : sync_folder(image);
 }
 
 int image_keep(struct image *image) {
-    int fault = write_sum(image);
-    if (!fault && fsync(image->out)) fault = errno;
-    if (!fault) fault = exchange(image);
+    int err = write_sum(image);
+    if (!err && fsync(image->out)) err = errno;
+    if (!err) err = exchange(image);
     close(image->out);
-    return fault;
+    return err;
 }
 
 void image_drop(struct image *image) {
-    char digits[SUM_DIGITS + 1];
-    sum_end(&image->sum, digits);
+    char digits[SHA256_DIGITS + 1];
+    sha256_end(&image->sum, digits);
     unlink(image->part);
     close(image->out);
 }
 
 // The first word of the file with a checksum: 0, ENOENT where there is no such file.
-static int read_sum(const char *name, char digits[SUM_DIGITS + 1]) {
+static int read_sum(const char *name, char digits[SHA256_DIGITS + 1]) {
     FILE *file = fopen(name, "re");
     if (!file) return errno;
-    bool is_read = fscanf(file, "%64[0-9a-f]", digits) == 1 && strlen(digits) == SUM_DIGITS;
+    bool is_read = fscanf(file, "%64[0-9a-f]", digits) == 1 && strlen(digits) == SHA256_DIGITS;
     fclose(file);
     return is_read ? 0 : EINVAL;
 }
 
 int image_check(const char *file) {
-    char name[PATH_MAX], told[SUM_DIGITS + 1] = "", found[SUM_DIGITS + 1] = "";
-    int fault = join(name, file, ".sum");
-    if (!fault) fault = read_sum(name, told);
-    if (fault == ENOENT && !access(file, R_OK)) {
-        say(file, "no FILE.sum stands beside it: whether it is whole is not known");
+    char name[PATH_MAX], expected[SHA256_DIGITS + 1] = "", found[SHA256_DIGITS + 1] = "";
+    int err = join(name, file, ".sum");
+    if (!err) err = read_sum(name, expected);
+    if (err == ENOENT && !access(file, R_OK)) {
+        report(file, "no FILE.sum stands beside it: whether it is whole is not known");
         return 0;
     }
-    if (fault == EINVAL) return say(name, "it has no checksum");
-    if (!fault || fault == ENOENT) fault = sum_of_file(file, found);
-    if (fault) return say_fault(file, fault);
-    return strcmp(told, found) ? say(file, "it was cut or changed: it has not the checksum in FILE.sum") : 0;
+    if (err == EINVAL) return report(name, "it has no checksum");
+    if (!err || err == ENOENT) err = sha256_of_file(file, found);
+    if (err) return report_err(file, err);
+    return strcmp(expected, found) ? report(file, "it was cut or changed: it has not the checksum in FILE.sum") : 0;
 }

@@ -5,20 +5,20 @@
 // later sees by that whether it was cut or changed.
 #ifndef IMAGE_H
 #define IMAGE_H
-#include "sum.h"
+#include "sha256.h"
 #include <limits.h>
 
 struct image {
     char file[PATH_MAX], part[PATH_MAX], sum_file[PATH_MAX], sum_part[PATH_MAX];
     int out; // FILE.part, which this process has locked
-    struct sum sum;
+    struct sha256 sum;
 };
 
 // Opens it, before anything is mounted: 0, or a number of <errno.h>, with a word on standard error.
 int image_open(struct image *image, const char *file);
 int image_put(struct image *image, const char *bytes, size_t count);
 // The checksum of what was put there so far: 0 or ENOMEM.
-int image_sum(const struct image *image, char digits[SUM_DIGITS + 1]);
+int image_sum(const struct image *image, char digits[SHA256_DIGITS + 1]);
 // The image is whole: it gets its name. Where that fails it stays in FILE.part.
 int image_keep(struct image *image);
 // The image is not wanted: FILE stays as it was.

@@ -1,8 +1,11 @@
-// The file system as the static library in this very process.
+// The backend over the static library, in this process.
+//
+// Invariant: one call of the library runs at a time (the request lock), and a call that fails changes nothing. Steps of
+// the tree that are owed for changes are counted here and done by `compact`.
 #include "doorvervain.h"
 #include "image.h"
 #include "library.h"
-#include "way.h"
+#include "backend.h"
 #include <errno.h>
 #include <fcntl.h>
 #include <inttypes.h>
@@ -17,8 +20,8 @@ enum { BLOCK = 4096, CHANGES_BEFORE_STEPS = 16, MOST_OWED = 1 << 20 };
 struct library {
     struct doorvervain volume;
     unsigned steps;
-    size_t changes; // for which no steps are due yet
-    unsigned owed;  // steps that are due
+    size_t changes;   // for which no steps are due yet
+    unsigned owed;    // steps that are due
     bool has_backlog; // a load put all changes into the root, and no change made steps due for them
     // The tree of the snapshot that was looked into last; its name is empty where there is none.
     struct doorvervain_frozen tree;
@@ -62,15 +65,14 @@ static int library_truncate(void *self, const char *path, uint64_t length, uint6
 static int library_write(void *self, const char *path, uint64_t offset, const char *bytes, size_t count, uint64_t at,
                          size_t *written) {
     struct library *library = self;
-    uint8_t number =
-        doorvervain_write(&library->volume, text(path), strlen(path), offset, text(bytes), count, at);
-    int fault = done_many(library, number, 1 + count / BLOCK);
-    *written = fault ? 0 : count;
-    return fault;
+    uint8_t number = doorvervain_write(&library->volume, text(path), strlen(path), offset, text(bytes), count, at);
+    int err = done_many(library, number, 1 + count / BLOCK);
+    *written = err ? 0 : count;
+    return err;
 }
 
 static void forget_tree(struct library *library) {
-    if (library->snapshot[0]) doorvervain_thaw(&library->tree);
+    if (library->snapshot[0]) doorvervain_frozen_close(&library->tree);
     library->snapshot[0] = 0;
 }
 
@@ -79,62 +81,62 @@ static int look_into(struct library *library, const char *snapshot) {
     if (!strcmp(library->snapshot, snapshot)) return 0;
     if (strlen(snapshot) > LONGEST_SNAPSHOT) return ENOENT;
     forget_tree(library);
-    uint8_t number = doorvervain_frozen(&library->volume, text(snapshot), strlen(snapshot), &library->tree);
+    uint8_t number = doorvervain_open_snapshot(&library->volume, text(snapshot), strlen(snapshot), &library->tree);
     if (number) return doorvervain_errno(number);
     strcpy(library->snapshot, snapshot);
     return 0;
 }
 
-static int library_read(void *self, struct place at, uint64_t offset, char *out, size_t room, size_t *got) {
+static int library_read(void *self, struct path_ref ref, uint64_t offset, char *out, size_t capacity, size_t *got) {
     struct library *library = self;
-    size_t length = strlen(at.path);
-    int fault = at.snapshot ? look_into(library, at.snapshot) : 0;
-    if (fault) return fault;
-    if (at.snapshot)
+    size_t length = strlen(ref.path);
+    int err = ref.snapshot ? look_into(library, ref.snapshot) : 0;
+    if (err) return err;
+    if (ref.snapshot)
         return doorvervain_errno(
-            doorvervain_frozen_read(&library->tree, text(at.path), length, offset, (uint8_t *)out, room, got));
+            doorvervain_frozen_read(&library->tree, text(ref.path), length, offset, (uint8_t *)out, capacity, got));
     return doorvervain_errno(
-        doorvervain_read(&library->volume, text(at.path), length, offset, (uint8_t *)out, room, got));
+        doorvervain_read(&library->volume, text(ref.path), length, offset, (uint8_t *)out, capacity, got));
 }
 
-static int library_stat(void *self, struct place at, struct standing *out) {
+static int library_stat(void *self, struct path_ref ref, struct node_stat *out) {
     struct library *library = self;
-    size_t length = strlen(at.path);
+    size_t length = strlen(ref.path);
     uint8_t kind = 0, number;
-    int fault = at.snapshot ? look_into(library, at.snapshot) : 0;
-    if (fault) return fault;
-    if (at.snapshot)
-        number = doorvervain_frozen_stat(&library->tree, text(at.path), length, &kind, &out->length, &out->modified);
-    else number = doorvervain_stat(&library->volume, text(at.path), length, &kind, &out->length, &out->modified);
+    int err = ref.snapshot ? look_into(library, ref.snapshot) : 0;
+    if (err) return err;
+    if (ref.snapshot)
+        number = doorvervain_frozen_stat(&library->tree, text(ref.path), length, &kind, &out->length, &out->mtime_ns);
+    else number = doorvervain_stat(&library->volume, text(ref.path), length, &kind, &out->length, &out->mtime_ns);
     out->is_directory = kind == 1;
     return doorvervain_errno(number);
 }
 
 // One listing into the room that is there; `size` is what it takes, also where the room is too small.
-static uint8_t list_once(struct library *library, struct place at, struct bytes *out, size_t *size) {
+static uint8_t list_once(struct library *library, struct path_ref ref, struct bytes *out, size_t *size) {
     uint8_t *to = (uint8_t *)out->at + out->length;
-    size_t length = strlen(at.path), room = out->room - out->length;
-    if (at.snapshot) return doorvervain_frozen_readdir(&library->tree, text(at.path), length, to, room, size);
-    return doorvervain_readdir(&library->volume, text(at.path), length, to, room, size);
+    size_t length = strlen(ref.path), capacity = out->capacity - out->length;
+    if (ref.snapshot) return doorvervain_frozen_readdir(&library->tree, text(ref.path), length, to, capacity, size);
+    return doorvervain_readdir(&library->volume, text(ref.path), length, to, capacity, size);
 }
 
-static int library_list(void *self, struct place at, struct bytes *out) {
+static int library_readdir(void *self, struct path_ref ref, struct bytes *out) {
     struct library *library = self;
     size_t size = 4096;
     uint8_t number = DOORVERVAIN_ERANGE;
-    int fault = at.snapshot ? look_into(library, at.snapshot) : 0;
-    while (!fault && number == DOORVERVAIN_ERANGE) {
-        fault = bytes_reserve(out, size);
-        if (!fault) number = list_once(library, at, out, &size);
+    int err = ref.snapshot ? look_into(library, ref.snapshot) : 0;
+    while (!err && number == DOORVERVAIN_ERANGE) {
+        err = bytes_reserve(out, size);
+        if (!err) number = list_once(library, ref, out, &size);
     }
-    if (!fault) fault = doorvervain_errno(number);
-    if (!fault) out->length += size;
-    return fault;
+    if (!err) err = doorvervain_errno(number);
+    if (!err) out->length += size;
+    return err;
 }
 
-static int library_keep(void *self, enum keeping what, const char *snapshot) {
+static int library_snapshot(void *self, enum snapshot_call what, const char *snapshot) {
     static uint8_t (*const calls[])(struct doorvervain *, const uint8_t *,
-                                    size_t) = {doorvervain_snapshot, doorvervain_drop, doorvervain_restore};
+                                    size_t) = {doorvervain_snapshot, doorvervain_drop_snapshot, doorvervain_restore};
     struct library *library = self;
     if (what == DROP_SNAPSHOT && !strcmp(library->snapshot, snapshot)) forget_tree(library);
     return done(library, calls[what](&library->volume, text(snapshot), strlen(snapshot)));
@@ -145,60 +147,74 @@ static int library_punch(void *self, const char *path, uint64_t offset, uint64_t
     return done(library, doorvervain_punch(&library->volume, text(path), strlen(path), offset, count, at));
 }
 
-static int library_data(void *self, struct place at, uint64_t offset, struct run *out) {
+static int library_next_extent(void *self, struct path_ref ref, uint64_t offset, struct extent *out) {
     struct library *library = self;
-    size_t length = strlen(at.path);
-    int fault = at.snapshot ? look_into(library, at.snapshot) : 0;
-    if (fault) return fault;
-    if (at.snapshot)
+    size_t length = strlen(ref.path);
+    int err = ref.snapshot ? look_into(library, ref.snapshot) : 0;
+    if (err) return err;
+    if (ref.snapshot)
         return doorvervain_errno(
-            doorvervain_frozen_data(&library->tree, text(at.path), length, offset, &out->from, &out->to));
-    return doorvervain_errno(doorvervain_data(&library->volume, text(at.path), length, offset, &out->from, &out->to));
+            doorvervain_frozen_next_extent(&library->tree, text(ref.path), length, offset, &out->from, &out->to));
+    return doorvervain_errno(
+        doorvervain_next_extent(&library->volume, text(ref.path), length, offset, &out->from, &out->to));
 }
 
-static int put(void *image, const uint8_t *bytes, size_t count) {
-    return image_put(image, (const char *)bytes, count);
-}
+static int put(void *image, const uint8_t *bytes, size_t count) { return image_put(image, (const char *)bytes, count); }
 
 // The image goes out piece by piece: no memory is taken for all of its text.
 static int save(struct library *library, struct image *image) {
     struct doorvervain_frozen live;
     int failed = 0;
     uint8_t number = doorvervain_freeze(&library->volume, &live);
-    if (!number) number = doorvervain_image_to(&live, piece, sizeof piece, put, image, &failed);
+    if (!number) number = doorvervain_image_write(&live, piece, sizeof piece, put, image, &failed);
     return failed ? failed : doorvervain_errno(number);
 }
 
-static unsigned library_relieve(void *self, unsigned steps) {
+static unsigned library_compact(void *self, unsigned steps) {
     struct library *library = self;
-    unsigned done = doorvervain_relieve(&library->volume, steps);
+    unsigned done = doorvervain_compact(&library->volume, steps);
     library->owed = done < steps || library->owed < steps ? 0 : library->owed - steps;
     if (done < steps) library->has_backlog = false;
     return done;
 }
 
 // Of a backlog one step is due at a time: no request waits for it.
-static unsigned library_owes(void *self) {
+static unsigned library_compaction_debt(void *self) {
     const struct library *library = self;
     return library->owed ? library->owed : library->has_backlog;
 }
 
 static int library_close(void *self, struct image *image) {
     struct library *library = self;
-    int fault = image ? save(library, image) : 0;
+    int err = image ? save(library, image) : 0;
     forget_tree(library);
     doorvervain_close(&library->volume);
     free(library);
-    return fault;
+    return err;
 }
 
-static const struct way library_way = {
-    library_change, library_rename, library_truncate, library_write,   library_read, library_stat,  library_list,
-    library_keep,   library_punch,  library_data,     library_relieve, library_owes, library_close,
+static const struct backend_ops library_ops = {
+    .change = library_change,
+    .rename = library_rename,
+    .truncate = library_truncate,
+    .write = library_write,
+    .read = library_read,
+    .stat = library_stat,
+    .readdir = library_readdir,
+    .snapshot = library_snapshot,
+    .punch = library_punch,
+    .next_extent = library_next_extent,
+    .compact = library_compact,
+    .compaction_debt = library_compaction_debt,
+    .close = library_close,
 };
 
-static const struct record_form records = {doorvervain_mirror, doorvervain_record_path, doorvervain_record_print,
-                                           doorvervain_record_parse};
+static const struct attr_ops library_attr_ops = {
+    .record_dir = doorvervain_attr_dir,
+    .record_path = doorvervain_attr_path,
+    .print = doorvervain_attr_encode,
+    .parse = doorvervain_attr_decode,
+};
 
 struct doorvervain *library_volume(void *self) {
     struct library *library = self;
@@ -206,10 +222,10 @@ struct doorvervain *library_volume(void *self) {
 }
 
 static int open_empty(struct library *library) {
-    int fault = doorvervain_errno(
+    int err = doorvervain_errno(
         doorvervain_open(&library->volume, DOORVERVAIN_FANOUT, DOORVERVAIN_PENDING, DOORVERVAIN_LEAF));
-    if (fault) fprintf(stderr, "doorvervain-mount: no volume: %s\n", strerror(fault));
-    return fault;
+    if (err) fprintf(stderr, "doorvervain-mount: no volume: %s\n", strerror(err));
+    return err;
 }
 
 // Where an image is read from.
@@ -218,41 +234,42 @@ struct source {
     const _Atomic bool *stops;
 };
 
-static int get(void *from, uint8_t *out, size_t room, size_t *got) {
+static int get(void *from, uint8_t *out, size_t capacity, size_t *got) {
     const struct source *source = from;
     ssize_t count;
     *got = 0;
     if (source->stops && *source->stops) return ECANCELED;
-    do count = read(source->file, out, room);
+    do count = read(source->file, out, capacity);
     while (count < 0 && errno == EINTR);
     *got = count < 0 ? 0 : (size_t)count;
     return count < 0 ? errno : 0;
 }
 
 // The image comes in piece by piece, as it goes out.
-static int load(struct library *library, const struct making *making) {
-    const char *name = making->image;
+static int load(struct library *library, const struct open_options *options) {
+    const char *name = options->image;
     uint64_t line = 0;
-    struct source source = {open(name, O_RDONLY | O_CLOEXEC), making->stops};
+    struct source source = {open(name, O_RDONLY | O_CLOEXEC), options->stops};
     int failed = source.file < 0 ? errno : 0;
     uint8_t number = 0;
     if (!failed)
-        number = doorvervain_load_from(&library->volume, DOORVERVAIN_FANOUT, DOORVERVAIN_PENDING, DOORVERVAIN_LEAF,
+        number = doorvervain_load_read(&library->volume, DOORVERVAIN_FANOUT, DOORVERVAIN_PENDING, DOORVERVAIN_LEAF,
                                        piece, sizeof piece, get, &source, &failed, &line);
-    int fault = failed ? failed : doorvervain_errno(number);
+    int err = failed ? failed : doorvervain_errno(number);
     if (line) fprintf(stderr, "doorvervain-mount: %s: bad image at line %" PRIu64 "\n", name, line);
-    else if (fault) fprintf(stderr, "doorvervain-mount: %s: %s\n", name, strerror(fault));
+    else if (err) fprintf(stderr, "doorvervain-mount: %s: %s\n", name, strerror(err));
     if (source.file >= 0) close(source.file);
-    return fault;
+    return err;
 }
 
-int open_library(const struct making *making, struct volume *out) {
+int open_library(const struct open_options *options, struct backend *out) {
     struct library *library = calloc(1, sizeof *library);
     if (!library) return ENOMEM;
-    library->steps = making->steps;
-    library->has_backlog = making->steps;
-    *out = (struct volume){&library_way, library, &records, &library->volume};
-    int fault = making->image ? load(library, making) : open_empty(library);
-    if (fault) free(library);
-    return fault;
+    library->steps = options->steps;
+    library->has_backlog = options->steps;
+    *out =
+        (struct backend){.ops = &library_ops, .self = library, .attr_ops = &library_attr_ops, .tree = &library->volume};
+    int err = options->image ? load(library, options) : open_empty(library);
+    if (err) free(library);
+    return err;
 }

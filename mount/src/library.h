@@ -1,4 +1,4 @@
-// The volume behind the library's way.
+// The volume of the library backend.
 #ifndef LIBRARY_H
 #define LIBRARY_H
 #include "doorvervain.h"

@@ -1,14 +1,16 @@
 // The locks of a mount. A thread waits for one only while it holds none that is below it here:
 //
-//   writing     of a store: while its log is written, and while the disk is waited for
-//   requests    of requests.c: while a request uses the tree and what is known of its entries
-//   waiting     of a store: what waits for the disk, and the sleep of the store's two threads
-//   room_lock   of a store: queues that have nothing
-//   crew->lock  of crew.h: work that several threads share
+//   wal_lock      of a store: while its log is written, and while the disk is waited for
+//   request_lock  of requests.c: while a request uses the tree and what is known of its inodes
+//   wake_lock     of a store: what waits for the disk, and the sleep of the store's two threads
+//   queue_lock    of a store: free batches
+//   pool->lock    of worker_pool.h: a task that several threads share
 //
-// So nothing that may wait for the disk, or for the kernel, is called under that of requests. The thread that serves
-// requests only tries `writing`, and syncs by itself only where the disk was quick the last time. The locks of a replica
-// (replica_inside.h, replica_log.c, replica_behind.c, replica_image.c) are each taken under that of requests or alone.
+// So nothing that may wait for the disk, or for the kernel, is called under the request lock. The thread that serves
+// requests only tries `wal_lock`, and syncs by itself only where the disk was quick the last time. The locks of a
+// replica
+// (replica_inside.h, etcd_log.c, replica_catchup.c, replica_checkpoint.c) are each taken under the request lock or
+// alone.
 //
 // A function that needs one of the first two asserts that its thread holds it.
 #ifndef LOCKS_H
@@ -23,7 +25,8 @@ struct lock {
     _Atomic uintptr_t holder; // the thread that holds it; 0: none does
 };
 
-#define LOCK_FREE {PTHREAD_MUTEX_INITIALIZER, 0}
+#define LOCK_FREE                                                                                                      \
+    { PTHREAD_MUTEX_INITIALIZER, 0 }
 
 static inline bool lock_is_held(const struct lock *lock) { return lock->holder == (uintptr_t)pthread_self(); }
 

@@ -1,9 +1,12 @@
-// Mounts the file system: the command line and the process.
-#include "changes.h"
-#include "ending.h"
+// The command line and the process of doorvervain-mount.
+//
+// Invariant: in the background the parent exits with 0 only after the file system is mounted; else with the status of
+// the child.
+#include "diff_cmd.h"
+#include "exit_report.h"
 #include "options.h"
 #include "requests.h"
-#include "sending.h"
+#include "delta_client.h"
 #include "serving.h"
 #include "store.h"
 #include <errno.h>
@@ -18,21 +21,21 @@
 
 static int parent = -1; // in the background: the pipe to the process that was called
 
-static int say(const char *what, const char *which, int fault) {
-    if (fault) fprintf(stderr, "doorvervain-mount: %s%s: %s\n", what, which, strerror(fault));
-    return fault != 0;
+static int report(const char *what, const char *which, int err) {
+    if (err) fprintf(stderr, "doorvervain-mount: %s%s: %s\n", what, which, strerror(err));
+    return err != 0;
 }
 
 // Asks a mount that stands to restore a snapshot.
 static int ask_to_restore(const char *mount_point, const char *name) {
     struct restore_request wanted = {{0}};
-    if (strlen(name) > LONGEST_SNAPSHOT) return say("cannot restore ", name, EINVAL);
+    if (strlen(name) > LONGEST_SNAPSHOT) return report("cannot restore ", name, EINVAL);
     strcpy(wanted.name, name);
     int root = open(mount_point, O_RDONLY | O_DIRECTORY | O_CLOEXEC);
-    if (root < 0) return say("cannot open ", mount_point, errno);
-    int fault = ioctl(root, RESTORE_REQUEST, &wanted) ? errno : 0;
+    if (root < 0) return report("cannot open ", mount_point, errno);
+    int err = ioctl(root, RESTORE_REQUEST, &wanted) ? errno : 0;
     close(root);
-    return say("cannot restore ", name, fault);
+    return report("cannot restore ", name, err);
 }
 
 // A file is named from the root: who goes into the background stands there. The name lasts as long as the process.
@@ -40,7 +43,7 @@ static const char *full_name(const char *file) {
     char folder[PATH_MAX];
     if (!file || file[0] == '/') return file;
     char *name = getcwd(folder, sizeof folder) ? malloc(strlen(folder) + strlen(file) + 2) : 0;
-    if (!name) exit(say("no full name of ", file, errno));
+    if (!name) exit(report("no full name of ", file, errno));
     sprintf(name, "%s/%s", folder, file);
     return name;
 }
@@ -52,7 +55,7 @@ static const char *full_path(const char *folder) {
 }
 
 // In the child: tells the parent that the mount stands, and lets go of its terminal.
-static void say_it_stands(void) {
+static void report_mounted(void) {
     if (parent < 0) return;
     int nowhere = open("/dev/null", O_RDWR);
     if (write(parent, "", 1) != 1 || chdir("/")) exit(1);
@@ -72,11 +75,11 @@ static int wait_for(int child_says, pid_t child) {
 
 static int serve_in_background(const struct options *options) {
     int ends[2];
-    if (pipe(ends)) return say("no pipe", "", errno);
+    if (pipe(ends)) return report("no pipe", "", errno);
     fcntl(ends[0], F_SETFD, FD_CLOEXEC);
     fcntl(ends[1], F_SETFD, FD_CLOEXEC);
     pid_t child = fork();
-    if (child < 0) return say("no process", "", errno);
+    if (child < 0) return report("no process", "", errno);
     if (child > 0) {
         close(ends[1]);
         return wait_for(ends[0], child);
@@ -84,36 +87,36 @@ static int serve_in_background(const struct options *options) {
     close(ends[0]);
     parent = ends[1];
     setsid();
-    return serve_mount(options, say_it_stands);
+    return serve_mount(options, report_mounted);
 }
 
 static int serve_options(struct options *options) {
     options->image = full_name(options->image);
-    options->making.image = full_name(options->making.image);
-    options->making.store = full_name(options->making.store);
-    options->making.log = full_name(options->making.log);
-    options->making.betr = full_name(options->making.betr);
-    struct replica_place *place = &options->making.replica;
-    const char **files[] = {&place->authority, &place->certificate, &place->key, &place->password};
+    options->open.image = full_name(options->open.image);
+    options->open.store = full_name(options->open.store);
+    options->open.trace = full_name(options->open.trace);
+    options->open.betr = full_name(options->open.betr);
+    struct etcd_options *replica = &options->open.replica;
+    const char **files[] = {&replica->cacert, &replica->cert, &replica->key, &replica->password_file};
     for (size_t i = 0; i < sizeof files / sizeof *files; i++) *files[i] = full_name(*files[i]);
-    return options->stays ? serve_mount(options, say_it_stands) : serve_in_background(options);
+    return options->in_foreground ? serve_mount(options, report_mounted) : serve_in_background(options);
 }
 
 int main(int count, char **words) {
     static struct options options;
     int status = read_options(count, words, &options);
     if (status) return status;
-    if (options.helps || options.tells_version) {
-        if (options.helps) print_help();
+    if (options.prints_help || options.prints_version) {
+        if (options.prints_help) print_help();
         else print_version();
         return 0;
     }
-    if (options.lines) return store_lines(options.mount_point);
+    if (options.dumps_log) return store_dump_wal(options.mount_point);
     options.mount_point = full_path(options.mount_point);
-    if (options.changes) return print_changes(options.mount_point, options.changes, options.changes_to);
-    if (options.send) return send_changes(options.mount_point, options.send, options.changes_to);
-    if (options.receives) return receive_changes(options.mount_point);
+    if (options.diff_from) return print_diff(options.mount_point, options.diff_from, options.until);
+    if (options.send_from) return send_delta(options.mount_point, options.send_from, options.until);
+    if (options.receives) return receive_delta(options.mount_point);
     if (options.restore) return ask_to_restore(options.mount_point, options.restore);
-    if (options.unmounts) return ending_await(options.mount_point);
+    if (options.unmounts) return exit_report_wait(options.mount_point);
     return serve_options(&options);
 }

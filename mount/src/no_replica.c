@@ -1,10 +1,11 @@
-// In the place of replica.c where the library, libcurl or jansson is not there.
+// Stands in for replica.c if the library, libcurl or jansson is missing: --replica fails, and the other functions do
+// nothing.
 #include "replica.h"
 #include <errno.h>
 #include <stdio.h>
 
-int replica_open(const struct making *making, struct mount *mount) {
-    (void)making, (void)mount;
+int replica_open(const struct open_options *options, struct mount *mount) {
+    (void)options, (void)mount;
     fputs("doorvervain-mount: made without --replica: that takes the library, libcurl and jansson\n", stderr);
     return ENOSYS;
 }
@@ -15,6 +16,6 @@ void replica_end(struct mount *mount) { (void)mount; }
 
 void replica_change_begins(struct mount *mount) { (void)mount; }
 
-int replica_change_ends(struct mount *mount, int fault) { return (void)mount, fault; }
+int replica_change_ends(struct mount *mount, int err) { return (void)mount, err; }
 
-void replica_note_moved(struct mount *mount, const struct entry *entry) { (void)mount, (void)entry; }
+void replica_note_moved(struct mount *mount, const struct inode *inode) { (void)mount, (void)inode; }

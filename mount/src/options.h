@@ -1,25 +1,25 @@
 // The command line.
 #ifndef OPTIONS_H
 #define OPTIONS_H
-#include "way.h"
+#include "backend.h"
 
 struct options {
-    struct making making;
+    struct open_options open;
     const char *mount_point;
-    const char *image;   // where the image goes at the end
-    const char *restore; // the snapshot to restore in a mount that stands
-    const char *changes; // the snapshot from which on changes are told
-    const char *send;    // or from which on the difference is sent
-    const char *changes_to; // and the one up to which; null: the live tree
-    uint64_t size;       // bytes of memory that the tree may take; 0: as many as there are
-    unsigned awake;      // microseconds for which the next request is looked for
-    bool receives;       // a difference makes of the tree of a mount that stands another one
-    bool lines;          // prints the logs of a store, which `mount_point` names
-    bool unmounts;       // takes a mount away, and waits for its end
-    bool stays;          // in the foreground
-    bool allows_other;   // users may go in
-    bool trusts;         // owners, set-user bits and devices of records hold
-    bool helps, tells_version;
+    const char *image;      // where the image goes at the end
+    const char *restore;    // the snapshot to restore in a mount that stands
+    const char *diff_from;  // the snapshot from which on changes are told
+    const char *send_from;  // or from which on the difference is sent
+    const char *until;      // and the one up to which; null: the live tree
+    uint64_t size;          // bytes of memory that the tree may take; 0: as many as there are
+    unsigned busy_poll;     // microseconds for which the next request is looked for
+    bool receives;          // a difference makes of the tree of a mount that stands another one
+    bool dumps_log;         // prints the logs of a store, which `mount_point` names
+    bool unmounts;          // takes a mount away, and waits for its end
+    bool in_foreground;     // in the foreground
+    bool allows_other;      // users may go in
+    bool trusts_attributes; // owners, set-user bits and devices of records hold
+    bool prints_help, prints_version;
 };
 
 // 0, or 2 where the command line is refused, which is said on standard error.

@@ -1,4 +1,7 @@
-// The file system as the program `betr` in a process of its own, over a pair of sockets.
+// The backend over the program `betr`, in a process of its own, over a pair of sockets ("Script" in docs/FORMATS.md).
+//
+// Invariant: each line that is sent has exactly one reply, which is read before the next is sent. After a reply that
+// was not read to its end every call fails with EIO.
 #include "image.h"
 #include "script.h"
 #include <errno.h>
@@ -34,7 +37,7 @@ static int receive_some(struct pipe *pipe, size_t *count) {
     struct bytes *reply = &pipe->reply;
     if (bytes_reserve(reply, reply->length < 4096 ? 4096 : 1 << 16)) return ENOMEM;
     ssize_t got = -1;
-    do got = read(pipe->end, reply->at + reply->length, reply->room - reply->length - 1);
+    do got = read(pipe->end, reply->at + reply->length, reply->capacity - reply->length - 1);
     while (got < 0 && errno == EINTR);
     if (got < 0) return EIO;
     *count = (size_t)got;
@@ -47,8 +50,8 @@ static int receive(struct pipe *pipe) {
     size_t seen = 0, lines = 0, wanted = 1, count;
     pipe->reply.length = 0;
     while (lines < wanted) {
-        int fault = receive_some(pipe, &count);
-        if (fault || !count) return fault ? fault : EIO;
+        int err = receive_some(pipe, &count);
+        if (err || !count) return err ? err : EIO;
         for (; seen < pipe->reply.length; seen++)
             if (pipe->reply.at[seen] == '\n' && ++lines == 1) wanted = lines_of_reply(pipe->reply.at);
     }
@@ -58,13 +61,13 @@ static int receive(struct pipe *pipe) {
 // Sends the line that stands ready, and gets the reply to it.
 static int ask(struct pipe *pipe) {
     if (pipe->is_broken) return EIO;
-    int fault = send_all(pipe->end, pipe->line.at, pipe->line.length);
-    if (!fault) fault = receive(pipe);
-    pipe->is_broken = fault != 0;
-    return fault ? fault : fault_of_reply(&pipe->reply);
+    int err = send_all(pipe->end, pipe->line.at, pipe->line.length);
+    if (!err) err = receive(pipe);
+    pipe->is_broken = err != 0;
+    return err ? err : err_of_reply(&pipe->reply);
 }
 
-static int ask_for(struct pipe *pipe, int fault) { return fault ? fault : ask(pipe); }
+static int ask_for(struct pipe *pipe, int err) { return err ? err : ask(pipe); }
 
 static struct bytes *fresh_line(struct pipe *pipe) {
     pipe->line.length = 0;
@@ -72,60 +75,60 @@ static struct bytes *fresh_line(struct pipe *pipe) {
 }
 
 // Sets the moment of the lines that follow, where it is another one.
-static int set_moment(struct pipe *pipe, uint64_t at) {
+static int send_timestamp(struct pipe *pipe, uint64_t at) {
     if (at == pipe->at) return 0;
-    int fault = ask_for(pipe, script_moment(fresh_line(pipe), at));
-    if (!fault) pipe->at = at;
-    return fault;
+    int err = ask_for(pipe, script_timestamp(fresh_line(pipe), at));
+    if (!err) pipe->at = at;
+    return err;
 }
 
 static int pipe_change(void *self, enum change what, const char *path, uint64_t at) {
-    int fault = set_moment(self, at);
-    return fault ? fault : ask_for(self, script_change(fresh_line(self), what, path));
+    int err = send_timestamp(self, at);
+    return err ? err : ask_for(self, script_change(fresh_line(self), what, path));
 }
 
 static int pipe_rename(void *self, const char *from, const char *to, uint64_t at) {
-    int fault = set_moment(self, at);
-    return fault ? fault : ask_for(self, script_rename(fresh_line(self), from, to));
+    int err = send_timestamp(self, at);
+    return err ? err : ask_for(self, script_rename(fresh_line(self), from, to));
 }
 
 static int pipe_truncate(void *self, const char *path, uint64_t length, uint64_t at) {
-    int fault = set_moment(self, at);
-    return fault ? fault : ask_for(self, script_truncate(fresh_line(self), path, length));
+    int err = send_timestamp(self, at);
+    return err ? err : ask_for(self, script_truncate(fresh_line(self), path, length));
 }
 
 static int pipe_write(void *self, const char *path, uint64_t offset, const char *bytes, size_t count, uint64_t at,
                       size_t *done) {
     *done = 0;
-    int fault = set_moment(self, at);
-    while (!fault && *done < count) {
+    int err = send_timestamp(self, at);
+    while (!err && *done < count) {
         size_t part = count - *done < LARGEST_LINE_WRITE ? count - *done : LARGEST_LINE_WRITE;
-        fault = ask_for(self, script_write(fresh_line(self), path, offset + *done, bytes + *done, part));
-        if (!fault) *done += part;
+        err = ask_for(self, script_write(fresh_line(self), path, offset + *done, bytes + *done, part));
+        if (!err) *done += part;
     }
-    return fault;
+    return err;
 }
 
-static int pipe_read(void *self, struct place at, uint64_t offset, char *out, size_t room, size_t *got) {
+static int pipe_read(void *self, struct path_ref ref, uint64_t offset, char *out, size_t capacity, size_t *got) {
     struct pipe *pipe = self;
-    int fault = ask_for(pipe, script_read(fresh_line(pipe), at, offset, room));
-    return fault ? fault : read_reply_bytes(&pipe->reply, out, room, got);
+    int err = ask_for(pipe, script_read(fresh_line(pipe), ref, offset, capacity));
+    return err ? err : read_reply_bytes(&pipe->reply, out, capacity, got);
 }
 
-static int pipe_stat(void *self, struct place at, struct standing *out) {
+static int pipe_stat(void *self, struct path_ref ref, struct node_stat *out) {
     struct pipe *pipe = self;
-    int fault = ask_for(pipe, script_stat(fresh_line(pipe), at));
-    return fault ? fault : read_reply_stat(&pipe->reply, out);
+    int err = ask_for(pipe, script_stat(fresh_line(pipe), ref));
+    return err ? err : read_reply_stat(&pipe->reply, out);
 }
 
-static int pipe_list(void *self, struct place at, struct bytes *out) {
+static int pipe_readdir(void *self, struct path_ref ref, struct bytes *out) {
     struct pipe *pipe = self;
-    int fault = ask_for(pipe, script_list(fresh_line(pipe), at));
-    return fault ? fault : read_reply_list(&pipe->reply, out);
+    int err = ask_for(pipe, script_readdir(fresh_line(pipe), ref));
+    return err ? err : read_reply_readdir(&pipe->reply, out);
 }
 
-static int pipe_keep(void *self, enum keeping what, const char *snapshot) {
-    return ask_for(self, script_keep(fresh_line(self), what, snapshot));
+static int pipe_snapshot(void *self, enum snapshot_call what, const char *snapshot) {
+    return ask_for(self, script_snapshot(fresh_line(self), what, snapshot));
 }
 
 // No line of a script makes a hole.
@@ -135,34 +138,34 @@ static int pipe_punch(void *self, const char *path, uint64_t offset, uint64_t co
 }
 
 // Nor does one tell of any: all bytes of a file count as stored.
-static int pipe_data(void *self, struct place at, uint64_t offset, struct run *out) {
-    struct standing standing;
-    int fault = pipe_stat(self, at, &standing);
-    if (!fault) *out = (struct run){offset < standing.length ? offset : standing.length, standing.length};
-    return fault;
+static int pipe_next_extent(void *self, struct path_ref ref, uint64_t offset, struct extent *out) {
+    struct node_stat node_stat;
+    int err = pipe_stat(self, ref, &node_stat);
+    if (!err) *out = (struct extent){offset < node_stat.length ? offset : node_stat.length, node_stat.length};
+    return err;
 }
 
 // `betr` does its steps by itself.
-static unsigned pipe_relieve(void *self, unsigned steps) {
+static unsigned pipe_compact(void *self, unsigned steps) {
     (void)self, (void)steps;
     return 0;
 }
 
-static unsigned pipe_owes(void *self) {
+static unsigned pipe_compaction_debt(void *self) {
     (void)self;
     return 0;
 }
 
 // What `betr` prints behind its last reply, which is the image.
 static int save_rest(struct pipe *pipe, struct image *image) {
-    int fault = pipe->is_broken ? EIO : 0;
+    int err = pipe->is_broken ? EIO : 0;
     size_t count = 1;
-    while (!fault && count) {
+    while (!err && count) {
         pipe->reply.length = 0;
-        fault = receive_some(pipe, &count);
-        if (!fault) fault = image_put(image, pipe->reply.at, count);
+        err = receive_some(pipe, &count);
+        if (!err) err = image_put(image, pipe->reply.at, count);
     }
-    return fault;
+    return err;
 }
 
 // The image is whole where the program ended well.
@@ -170,39 +173,50 @@ static int pipe_close(void *self, struct image *image) {
     struct pipe *pipe = self;
     int status = 0;
     shutdown(pipe->end, SHUT_WR);
-    int fault = image ? save_rest(pipe, image) : 0;
+    int err = image ? save_rest(pipe, image) : 0;
     close(pipe->end);
     waitpid(pipe->child, &status, 0);
-    if (!fault && status) fault = EIO;
+    if (!err && status) err = EIO;
     bytes_free(&pipe->line);
     bytes_free(&pipe->reply);
     free(pipe);
-    return fault;
+    return err;
 }
 
-static const struct way pipe_way = {
-    pipe_change, pipe_rename, pipe_truncate, pipe_write,   pipe_read, pipe_stat,  pipe_list,
-    pipe_keep,   pipe_punch,  pipe_data,     pipe_relieve, pipe_owes, pipe_close,
+static const struct backend_ops pipe_ops = {
+    .change = pipe_change,
+    .rename = pipe_rename,
+    .truncate = pipe_truncate,
+    .write = pipe_write,
+    .read = pipe_read,
+    .stat = pipe_stat,
+    .readdir = pipe_readdir,
+    .snapshot = pipe_snapshot,
+    .punch = pipe_punch,
+    .next_extent = pipe_next_extent,
+    .compact = pipe_compact,
+    .compaction_debt = pipe_compaction_debt,
+    .close = pipe_close,
 };
 
 // In a group of its own, so that a signal of the terminal ends the mount alone, which then asks for the image.
-static void become_betr(const struct making *making, int end) {
+static void become_betr(const struct open_options *options, int end) {
     char steps[32];
     setpgid(0, 0);
-    snprintf(steps, sizeof steps, "--steps=%u", making->steps);
-    const char *words[6] = {making->betr, steps};
+    snprintf(steps, sizeof steps, "--steps=%u", options->steps);
+    const char *words[6] = {options->betr, steps};
     int count = 2;
-    if (making->prints_image) words[count++] = "--image";
-    if (making->image) {
+    if (options->prints_image) words[count++] = "--image";
+    if (options->image) {
         words[count++] = "--load";
-        words[count++] = making->image;
+        words[count++] = options->image;
     }
     if (dup2(end, 0) < 0 || dup2(end, 1) < 0) _exit(127);
-    execv(making->betr, (char **)words);
+    execv(options->betr, (char **)words);
     _exit(127);
 }
 
-static int start(const struct making *making, struct pipe *pipe) {
+static int start(const struct open_options *options, struct pipe *pipe) {
     int ends[2], size = 1 << 20;
     if (socketpair(AF_UNIX, SOCK_STREAM | SOCK_CLOEXEC, 0, ends)) return errno;
     setsockopt(ends[0], SOL_SOCKET, SO_SNDBUF, &size, sizeof size);
@@ -210,22 +224,22 @@ static int start(const struct making *making, struct pipe *pipe) {
     pipe->end = ends[0];
     pipe->child = fork();
     if (pipe->child < 0) return errno;
-    if (pipe->child == 0) become_betr(making, ends[1]);
+    if (pipe->child == 0) become_betr(options, ends[1]);
     close(ends[1]);
     return 0;
 }
 
-int open_pipe(const struct making *making, struct volume *out) {
+int open_pipe(const struct open_options *options, struct backend *out) {
     struct pipe *pipe = calloc(1, sizeof *pipe);
-    struct standing root;
+    struct node_stat root;
     if (!pipe) return ENOMEM;
-    int fault = start(making, pipe);
+    int err = start(options, pipe);
     // The program has come to its first line: its command line, and the image that it loads, are well.
-    if (!fault) fault = pipe_stat(pipe, (struct place){0, "/"}, &root);
-    *out = (struct volume){&pipe_way, pipe, 0};
-    if (!fault) return 0;
-    fprintf(stderr, "doorvervain-mount: %s does not answer: %s\n", making->betr, strerror(fault));
+    if (!err) err = pipe_stat(pipe, (struct path_ref){0, "/"}, &root);
+    *out = (struct backend){.ops = &pipe_ops, .self = pipe};
+    if (!err) return 0;
+    fprintf(stderr, "doorvervain-mount: %s does not answer: %s\n", options->betr, strerror(err));
     if (pipe->child > 0) pipe_close(pipe, 0);
     else free(pipe);
-    return fault;
+    return err;
 }

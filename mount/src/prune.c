@@ -1,6 +1,8 @@
-// Whether a folder is empty, only rmdir(2) can decide. But the volume passes all names that were removed before it finds
-// one that is not, and mostly the answer is ENOTEMPTY. So a name that still has a record is looked for first: with a
-// stat(2) of a name that is known, which costs the same whatever was removed.
+// Removes directories for records that are left empty.
+//
+// Invariant: only rmdir(2) decides whether a directory is empty. Since the volume passes all removed names before it
+// finds one that is left, a name that is known to have a record is looked up first, by one stat; this saves time and
+// decides nothing else.
 #include "prune.h"
 #include <assert.h>
 #include <stdlib.h>
@@ -14,8 +16,8 @@ enum { MOST_LOOKED_AT = 8, REFUSALS_BEFORE_LISTING = 4 };
 enum { ESCAPE = 1 };
 
 static bool exists(const struct mount *mount, const char *path) {
-    struct standing standing;
-    return !mount->volume.way->stat(mount->volume.self, (struct place){0, path}, &standing);
+    struct node_stat node_stat;
+    return !backend_stat(&mount->backend, (struct path_ref){0, path}, &node_stat);
 }
 
 static bool has_name(const struct mount *mount, const char *folder, const char *name) {
@@ -28,43 +30,44 @@ static bool has_name(const struct mount *mount, const char *folder, const char *
     return exists(mount, path);
 }
 
-// The entry of the directory whose records are in a folder, of which `path` is the part below TREE_PATH; null: it is not
+// The entry of the directory whose records are in a folder, of which `path` is the part below TREE_PATH; null: it is
+// not
 // known.
-static struct entry *directory_of(const struct mount *mount, const char *path) {
-    struct entry *entry = mount->root;
+static struct inode *directory_of(const struct mount *mount, const char *path) {
+    struct inode *inode = mount->root;
     char name[LONGEST_PATH + 1];
-    while (entry && *path) {
+    while (inode && *path) {
         path++;
         if (*path == ESCAPE) path++;
         size_t length = strcspn(path, "/");
         memcpy(name, path, length);
         name[length] = 0;
-        entry = entry_find(entry, name);
+        inode = inode_find(inode, name);
         path += length;
     }
-    return entry;
+    return inode;
 }
 
 // Whether one of the directory's known entries still has its record.
-static bool has_known_entry(const struct mount *mount, const char *folder, const struct entry *directory) {
-    const struct entry *child = directory->first;
+static bool has_known_inode(const struct mount *mount, const char *folder, const struct inode *directory) {
+    const struct inode *child = directory->first;
     for (int i = 0; child && i < MOST_LOOKED_AT; i++, child = child->after) {
-        bool may_have = child->role == ORDINARY && child->attributes.has_record && child->name[0] != ESCAPE;
+        bool may_have = child->role == ORDINARY && child->attrs.has_record && child->name[0] != ESCAPE;
         if (may_have && has_name(mount, folder, child->name)) return true;
     }
     return false;
 }
 
-static void forget_name(struct entry *directory) {
+static void forget_name(struct inode *directory) {
     free(directory->known_record);
     directory->known_record = 0;
 }
 
 // Whether a folder is seen not to be empty. Where nothing is seen it may have records all the same.
-static bool is_seen_full(const struct mount *mount, const char *folder, struct entry *directory) {
+static bool is_seen_full(const struct mount *mount, const char *folder, struct inode *directory) {
     if (directory->known_record && has_name(mount, folder, directory->known_record)) return true;
     forget_name(directory);
-    return has_known_entry(mount, folder, directory);
+    return has_known_inode(mount, folder, directory);
 }
 
 // The item of a listing at one of its bytes, behind the byte that says its kind.
@@ -76,11 +79,11 @@ static const char *name_at(const struct bytes *listing, size_t at) {
 
 // Remembers a name of a folder that was just found not to be empty. It is any of them: in whatever order names are
 // removed, half of them mostly are before this one is, so that all listings together cost little for each.
-static void remember_name(const struct mount *mount, const char *folder, struct entry *directory, uint64_t at) {
+static void remember_name(const struct mount *mount, const char *folder, struct inode *directory, uint64_t at) {
     struct bytes names = {0};
     if (++directory->refusals < REFUSALS_BEFORE_LISTING) return;
-    int fault = mount->volume.way->list(mount->volume.self, (struct place){0, folder}, &names);
-    if (!fault && names.length) {
+    int err = backend_readdir(&mount->backend, (struct path_ref){0, folder}, &names);
+    if (!err && names.length) {
         forget_name(directory);
         directory->known_record = strdup(name_at(&names, at % names.length));
     }
@@ -98,12 +101,12 @@ void prune_folders(struct mount *mount, char *path, const char *kept, uint64_t a
     for (;;) {
         *strrchr(path, '/') = 0;
         if (strlen(path) < top || is_below(kept, path)) return;
-        struct entry *directory = directory_of(mount, path + top);
+        struct inode *directory = directory_of(mount, path + top);
         if (directory && is_seen_full(mount, path, directory)) return;
-        if (mount->volume.way->change(mount->volume.self, REMOVE_DIRECTORY, path, at)) {
+        if (mount->backend.ops->change(mount->backend.self, REMOVE_DIRECTORY, path, at)) {
             if (directory) remember_name(mount, path, directory, at);
             return;
         }
-        mount->mirrors++;
+        mount->record_dirs_gen++;
     }
 }

@@ -1,5 +1,8 @@
+// Raises the kernel's readahead for the mount, by /sys/class/bdi.
+//
+// Invariant: it never calls into the mount itself, since its requests are not served yet; a failure is ignored.
 #include "readahead.h"
-#include "way.h"
+#include "backend.h"
 #include <stdio.h>
 #include <stdlib.h>
 #include <string.h>
@@ -43,8 +46,8 @@ void raise_readahead(const char *mount_point) {
     char device[32], file[96];
     if (!find_device(mount_point, device)) return;
     snprintf(file, sizeof file, "/sys/class/bdi/%s/read_ahead_kb", device);
-    FILE *setting = fopen(file, "we");
-    if (!setting) return;
-    fprintf(setting, "%d\n", LARGEST_READ / 1024);
-    fclose(setting);
+    FILE *control = fopen(file, "we");
+    if (!control) return;
+    fprintf(control, "%d\n", LARGEST_READ / 1024);
+    fclose(control);
 }

@@ -1,6 +1,9 @@
-// A way that notes the calls of a request, and takes them back or lets them stand.
+// The backend of a replica: encodes the calls of a request, and keeps or takes back what they did to the tree.
+//
+// Invariant: outside of a pass the tree is that of the log up to version `done`. A speculative pass is rolled back to
+// its savepoint; only a pass that did exactly the calls of its record stays.
 #include "replica_inside.h"
-#include "ending.h"
+#include "exit_report.h"
 #include "library.h"
 #include <errno.h>
 #include <stdio.h>
@@ -15,41 +18,41 @@ enum { KEPT_LENGTH = sizeof KEPT - 1 };
 
 // ---- the tree before a pass
 
-void replica_fail(struct replica *replica, const char *what, int fault) {
-    if (!replica->fault) ending_say("the log is not followed any more: ", what, fault);
-    if (!replica->fault) replica->fault = fault;
+void replica_fail(struct replica *replica, const char *what, int err) {
+    if (!replica->err) exit_report_error("the log is not followed any more: ", what, err);
+    if (!replica->err) replica->err = err;
 }
 
 void replica_forget(struct replica *replica) {
-    replica->mount->state++;
-    replica->mount->mirrors++;
-    replica->mount->own_folders = 0;
+    replica->mount->tree_gen++;
+    replica->mount->record_dirs_gen++;
+    replica->mount->private_dirs = 0;
 }
 
-int replica_keep_tree(struct replica *replica) {
-    if (replica->is_kept) return 0;
-    int fault = doorvervain_errno(doorvervain_snapshot(replica->volume, KEPT, KEPT_LENGTH));
-    replica->is_kept = !fault;
-    return fault;
+int replica_savepoint(struct replica *replica) {
+    if (replica->has_savepoint) return 0;
+    int err = doorvervain_errno(doorvervain_snapshot(replica->volume, KEPT, KEPT_LENGTH));
+    replica->has_savepoint = !err;
+    return err;
 }
 
 static void let_stand(struct replica *replica) {
-    if (replica->is_kept) doorvervain_drop(replica->volume, KEPT, KEPT_LENGTH);
-    replica->is_kept = false;
+    if (replica->has_savepoint) doorvervain_drop_snapshot(replica->volume, KEPT, KEPT_LENGTH);
+    replica->has_savepoint = false;
 }
 
-void replica_take_back(struct replica *replica) {
-    if (!replica->is_kept) return;
-    int fault = doorvervain_errno(doorvervain_restore(replica->volume, KEPT, KEPT_LENGTH));
-    if (fault) replica_fail(replica, "what was tried stands", fault);
+void replica_rollback(struct replica *replica) {
+    if (!replica->has_savepoint) return;
+    int err = doorvervain_errno(doorvervain_restore(replica->volume, KEPT, KEPT_LENGTH));
+    if (err) replica_fail(replica, "what was tried stands", err);
     let_stand(replica);
     replica_forget(replica);
 }
 
 // ---- a pass
 
-void replica_pass(struct replica *replica, enum pass pass, const struct bytes *wanted) {
-    replica->pass = pass;
+void replica_pass(struct replica *replica, enum replay_mode mode, const struct bytes *wanted) {
+    replica->mode = mode;
     replica->wanted = wanted;
     replica->calls.length = 0;
     replica->is_over = replica->has_met = false;
@@ -57,10 +60,10 @@ void replica_pass(struct replica *replica, enum pass pass, const struct bytes *w
 }
 
 void replica_pass_ends(struct replica *replica) {
-    bool leaves_rest = replica->calls.length && (replica->pass == NOTING || replica->has_met);
-    if (leaves_rest) replica_note_rest(replica);
+    bool leaves_rest = replica->calls.length && (replica->mode == REPORTING || replica->has_met);
+    if (leaves_rest) replica_note_leftover(replica);
     if (replica->has_met && !leaves_rest) let_stand(replica);
-    replica->pass = NO_PASS;
+    replica->mode = NO_REPLAY;
 }
 
 // The record's calls were made: the tree is kept as it stands now, and what follows is another record's.
@@ -80,36 +83,36 @@ static int meet(struct replica *replica) {
 static void change_begins(struct replica *replica) { replica->depth++; }
 
 // Calls that were refused as a whole count for nothing.
-static int change_ends(struct replica *replica, int fault) {
-    if (--replica->depth || fault || replica->is_over || !replica->calls.length) return fault;
-    if (replica->pass == DOING && !replica->has_met) return meet(replica);
-    if (replica->pass != TRYING) return 0;
+static int change_ends(struct replica *replica, int err) {
+    if (--replica->depth || err || replica->is_over || !replica->calls.length) return err;
+    if (replica->mode == APPLYING && !replica->has_met) return meet(replica);
+    if (replica->mode != SPECULATING) return 0;
     replica->is_over = true;
-    return IT_WAITS;
+    return REQUEST_DEFERRED;
 }
 
 void replica_change_begins(struct mount *mount) {
     if (mount->replica) change_begins(mount->replica);
 }
 
-int replica_change_ends(struct mount *mount, int fault) {
-    return mount->replica ? change_ends(mount->replica, fault) : fault;
+int replica_change_ends(struct mount *mount, int err) {
+    return mount->replica ? change_ends(mount->replica, err) : err;
 }
 
 // ---- calls that change something
 
-static struct bytes *call_begins(void *self, int *fault) {
+static struct bytes *call_begins(void *self, int *err) {
     struct replica *replica = self;
     if (replica->is_over) return 0;
     change_begins(replica);
-    *fault = replica->pass == NO_PASS ? EROFS : replica_keep_tree(replica);
+    *err = replica->mode == NO_REPLAY ? EROFS : replica_savepoint(replica);
     return &replica->calls;
 }
 
-static int call_ends(void *self, int fault) { return change_ends(self, fault); }
+static int call_ends(void *self, int err) { return change_ends(self, err); }
 
 // The library has one place for snapshots, where the tree is kept that is taken back.
-static int replica_keep(void *self, enum keeping what, const char *snapshot) {
+static int replica_snapshot(void *self, enum snapshot_call what, const char *snapshot) {
     (void)self, (void)what, (void)snapshot;
     return EOPNOTSUPP;
 }
@@ -118,70 +121,75 @@ static int replica_keep(void *self, enum keeping what, const char *snapshot) {
 
 static int replica_close(void *self, struct image *image) {
     struct replica *replica = self;
-    behind_end(replica);
-    shared_log_close(replica->log);
-    int fault = replica->noting.over.way->close(replica->noting.over.self, image);
-    replica_put_ends(replica);
+    catchup_end(replica);
+    etcd_log_close(replica->log);
+    int err = replica->layer.inner.ops->close(replica->layer.inner.self, image);
+    replica_free_proposal(replica);
     bytes_free(&replica->calls);
     bytes_free(&replica->stale);
     free(replica);
-    return fault;
+    return err;
 }
 
-static const struct way replica_way = {
-    noting_change, noting_rename, noting_truncate, noting_write, over_read, over_stat,     over_list,
-    replica_keep,  noting_punch,  over_data,       over_relieve, over_owes, replica_close,
+static const struct backend_ops replica_ops = {
+    .change = wal_layer_change,
+    .rename = wal_layer_rename,
+    .truncate = wal_layer_truncate,
+    .write = wal_layer_write,
+    .snapshot = replica_snapshot,
+    .punch = wal_layer_punch,
+    .close = replica_close,
 };
 
-int replica_load(const struct making *making, int image, struct volume *out, uint64_t *size) {
+int replica_load(const struct open_options *options, int image, struct backend *out, uint64_t *size) {
     char name[64];
     struct stat stat;
-    struct making inner = *making;
+    struct open_options inner = *options;
     snprintf(name, sizeof name, "/proc/self/fd/%d", image);
-    if (image < 0) return open_library(making, out);
+    if (image < 0) return open_library(options, out);
     inner.image = name;
     if (!fstat(image, &stat)) *size = (uint64_t)stat.st_size;
     return open_library(&inner, out);
 }
 
-static int open_log_of(struct replica *replica, const struct making *making, struct beginning *beginning) {
-    int fault = shared_log_open(&making->replica, &replica->log, beginning);
-    bool is_open = !fault;
-    if (is_open) fault = replica_load(making, beginning->image, &replica->noting.over, &replica->image_size);
-    if (beginning->image >= 0) close(beginning->image);
-    if (is_open && fault) shared_log_close(replica->log);
-    return fault;
+static int open_log_of(struct replica *replica, const struct open_options *options, struct log_start *start) {
+    int err = etcd_log_open(&options->replica, &replica->log, start);
+    bool is_open = !err;
+    if (is_open) err = replica_load(options, start->image, &replica->layer.inner, &replica->image_size);
+    if (start->image >= 0) close(start->image);
+    if (is_open && err) etcd_log_close(replica->log);
+    return err;
 }
 
-static void begin_at(struct replica *replica, struct mount *mount, const struct beginning *beginning) {
-    replica->noting.begins = call_begins;
-    replica->noting.ends = call_ends;
-    replica->volume = library_volume(replica->noting.over.self);
-    replica->number = beginning->number;
-    replica->done = replica->kept_at = beginning->checkpoint.version;
-    replica->revision = beginning->checkpoint.revision;
-    mount->volume = (struct volume){&replica_way, replica, replica->noting.over.records};
+static void begin_at(struct replica *replica, struct mount *mount, const struct log_start *start) {
+    replica->layer.begins = call_begins;
+    replica->layer.ends = call_ends;
+    replica->volume = library_volume(replica->layer.inner.self);
+    replica->number = start->number;
+    replica->done = replica->checkpoint_version = start->checkpoint.version;
+    replica->revision = start->checkpoint.revision;
+    mount->backend = (struct backend){.ops = &replica_ops, .self = replica, .attr_ops = replica->layer.inner.attr_ops};
     mount->replica = replica;
-    mount->aside = replica->number << NUMBERS_OF_A_MOUNT;
-    entries_number_above(mount->aside);
+    mount->orphans = replica->number << NUMBERS_OF_A_MOUNT;
+    inodes_number_above(mount->orphans);
 }
 
-int replica_open(const struct making *making, struct mount *mount) {
+int replica_open(const struct open_options *options, struct mount *mount) {
     struct replica *replica = calloc(1, sizeof *replica);
-    struct beginning beginning;
+    struct log_start start;
     if (!replica) return ENOMEM;
     replica->mount = mount;
-    replica->log_size = making->log_size;
-    replica->steps = making->steps;
-    int fault = open_log_of(replica, making, &beginning);
-    if (fault) {
-        fprintf(stderr, "doorvervain-mount: --replica: no mount: %s\n", strerror(fault));
+    replica->log_size = options->log_size;
+    replica->steps = options->steps;
+    int err = open_log_of(replica, options, &start);
+    if (err) {
+        fprintf(stderr, "doorvervain-mount: --replica: no mount: %s\n", strerror(err));
         free(replica);
-        return fault;
+        return err;
     }
-    begin_at(replica, mount, &beginning);
-    fault = replica_catch_up(replica, beginning.newest);
-    if (fault) shared_log_blame(replica->log);
-    if (fault) replica_close(replica, 0);
-    return fault;
+    begin_at(replica, mount, &start);
+    err = replica_catch_up(replica, start.newest);
+    if (err) etcd_log_print_errors(replica->log);
+    if (err) replica_close(replica, 0);
+    return err;
 }

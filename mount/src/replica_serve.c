@@ -1,8 +1,11 @@
-// The loop of requests of a replica: each is answered at once, or waits for the log.
+// The loop of requests of a replica: each is answered at once, or deferred until the log has its record.
+//
+// Invariant: a deferred request is refused with REQUEST_DEFERRED, for which the wrapped `fuse_reply_err` sends nothing,
+// and its bytes are kept; it is answered exactly once, later, or refused after a time.
 #include "replica_inside.h"
-#include "own.h"
+#include "private_dir.h"
 #include "requests.h"
-#include "room.h"
+#include "memlimit.h"
 #include <errno.h>
 #include <linux/fuse.h>
 #include <poll.h>
@@ -17,17 +20,17 @@ enum { SECONDS_TO_WAIT = 10, SECONDS_TO_END = 3, MILLISECONDS = 100 };
 static struct replica *answers; // whose requests are answered
 static struct fuse_session *session;
 
-int __real_fuse_reply_err(fuse_req_t req, int fault);
-int __wrap_fuse_reply_err(fuse_req_t req, int fault);
+int __real_fuse_reply_err(fuse_req_t req, int err);
+int __wrap_fuse_reply_err(fuse_req_t req, int err);
 
 // What waits has no answer yet. Where what an inode stood for is gone, the kernel looks for its name anew.
-int __wrap_fuse_reply_err(fuse_req_t req, int fault) {
-    if (answers && (fault == IT_WAITS || answers->is_silent)) {
+int __wrap_fuse_reply_err(fuse_req_t req, int err) {
+    if (answers && (err == REQUEST_DEFERRED || answers->is_silent)) {
         fuse_reply_none(req);
         return 0;
     }
-    if (answers && answers->names_number && fault == ENOENT) fault = ESTALE;
-    return __real_fuse_reply_err(req, fault);
+    if (answers && answers->names_number && err == ENOENT) err = ESTALE;
+    return __real_fuse_reply_err(req, err);
 }
 
 uint64_t replica_clock(void) {
@@ -60,7 +63,8 @@ static bool is_only_noted(uint32_t what) {
     return what == FUSE_FORGET || what == FUSE_BATCH_FORGET || what == FUSE_RELEASE;
 }
 
-// What asks alone. All others are tried and done by what the tree tells, and by nothing that is remembered: so they make
+// What asks alone. All others are tried and done by what the tree tells, and by nothing that is remembered: so they
+// make
 // the same calls each time.
 static bool only_asks(uint32_t what) {
     switch (what) {
@@ -79,114 +83,116 @@ static bool only_asks(uint32_t what) {
 
 static uint32_t kind_of(const char *bytes) { return ((const struct fuse_in_header *)bytes)->opcode; }
 
-void replica_request(struct replica *replica, enum pass pass, const char *bytes, size_t size,
+void replica_request(struct replica *replica, enum replay_mode mode, const char *bytes, size_t size,
                      const struct bytes *wanted) {
     struct fuse_buf buffer = {.mem = (void *)(uintptr_t)bytes, .size = size};
     if (!only_asks(kind_of(bytes))) replica_forget(replica);
-    replica_pass(replica, pass, wanted);
+    replica_pass(replica, mode, wanted);
     replica->names_number = names_number(kind_of(bytes));
     fuse_session_process_buf(session, &buffer);
     replica_pass_ends(replica);
 }
 
-static void put_last(struct replica *replica, struct waiting *one) {
-    if (replica->last) replica->last->next = one;
-    else replica->first = one;
-    replica->last = one;
+static void put_last(struct replica *replica, struct deferred_request *request) {
+    if (replica->last) replica->last->next = request;
+    else replica->first = request;
+    replica->last = request;
 }
 
-static void answer_fault(const struct waiting *one, int fault) {
-    const struct fuse_in_header *head = (const struct fuse_in_header *)one->bytes;
-    struct fuse_out_header out = {.len = sizeof out, .error = -fault, .unique = head->unique};
+static void answer_err(const struct deferred_request *request, int err) {
+    const struct fuse_in_header *head = (const struct fuse_in_header *)request->bytes;
+    struct fuse_out_header out = {.len = sizeof out, .error = -err, .unique = head->unique};
     if (write(fuse_session_fd(session), &out, sizeof out) < 0) return;
 }
 
-static void free_waiting(struct waiting *one) {
-    bytes_free(&one->calls);
-    free(one->bytes);
-    free(one);
+static void free_deferred(struct deferred_request *request) {
+    bytes_free(&request->calls);
+    free(request->bytes);
+    free(request);
 }
 
 void replica_remove_first(struct replica *replica) {
-    struct waiting *one = replica->first;
-    replica->first = one->next;
+    struct deferred_request *request = replica->first;
+    replica->first = request->next;
     if (!replica->first) replica->last = 0;
-    free_waiting(one);
+    free_deferred(request);
 }
 
 // It is tried already: what the kernel wrote is kept, with the calls of that.
-static void let_wait(struct replica *replica, const struct fuse_buf *buffer, uint64_t at, uint64_t aside) {
-    struct waiting *one = calloc(1, sizeof *one);
-    char *bytes = one ? malloc(buffer->size) : 0;
-    struct waiting spare = {.bytes = buffer->mem};
-    if (!bytes || bytes_append(&one->calls, replica->calls.at, replica->calls.length)) {
-        answer_fault(&spare, ENOMEM);
+static void defer(struct replica *replica, const struct fuse_buf *buffer, uint64_t at, uint64_t orphans) {
+    struct deferred_request *request = calloc(1, sizeof *request);
+    char *bytes = request ? malloc(buffer->size) : 0;
+    struct deferred_request spare = {.bytes = buffer->mem};
+    if (!bytes || bytes_append(&request->calls, replica->calls.at, replica->calls.length)) {
+        answer_err(&spare, ENOMEM);
         free(bytes);
-        free(one);
+        free(request);
         return;
     }
     memcpy(bytes, buffer->mem, buffer->size);
-    one->bytes = bytes;
-    one->size = buffer->size;
-    one->until = replica_clock() + (uint64_t)SECONDS_TO_WAIT * NANOSECONDS;
-    one->at = at;
-    one->aside = aside;
-    one->tried_at = replica->done;
-    put_last(replica, one);
+    request->bytes = bytes;
+    request->size = buffer->size;
+    request->until = replica_clock() + (uint64_t)SECONDS_TO_WAIT * NANOSECONDS;
+    request->at = at;
+    request->orphans = orphans;
+    request->tried_at = replica->done;
+    put_last(replica, request);
 }
 
 static void serve_one(struct replica *replica, const struct fuse_buf *buffer) {
     bool is_noted = is_only_noted(kind_of(buffer->mem));
-    uint64_t at = moment_now(), aside = replica->mount->aside;
-    moment_fix(at);
-    replica_request(replica, is_noted ? NOTING : TRYING, buffer->mem, buffer->size, 0);
-    moment_fix(0);
-    if (!is_noted && replica->is_over) let_wait(replica, buffer, at, aside);
-    replica_take_back(replica);
+    uint64_t at = clock_now_ns(), orphans = replica->mount->orphans;
+    clock_override(at);
+    replica_request(replica, is_noted ? REPORTING : SPECULATING, buffer->mem, buffer->size, 0);
+    clock_override(0);
+    if (!is_noted && replica->is_over) defer(replica, buffer, at, orphans);
+    replica_rollback(replica);
 }
 
 // ---- what waits for too long
 
 // Whether all requests of what is under way were refused: it is given up then, though it may come.
 static bool is_vain(const struct replica *replica) {
-    size_t left = replica->put.is_under_way ? replica->put.requests : 0;
+    size_t left = replica->proposal.is_under_way ? replica->proposal.requests : 0;
     bool is = left;
-    for (const struct waiting *one = replica->first; left--; one = one->next) is &= one->is_refused;
+    for (const struct deferred_request *request = replica->first; left--; request = request->next)
+        is &= request->is_refused;
     return is;
 }
 
 static void refuse_old(struct replica *replica) {
     uint64_t now = replica_clock();
-    bool refuses_all = replica->fault || replica->is_ending || behind_is_in_vain(replica);
-    for (struct waiting *one = replica->first; one; one = one->next) {
-        bool is_late = now >= one->until || refuses_all;
-        if (one->is_refused || !is_late) continue;
-        answer_fault(one, EIO);
-        one->is_refused = true;
+    bool refuses_all = replica->err || replica->is_ending || catchup_has_failed(replica);
+    for (struct deferred_request *request = replica->first; request; request = request->next) {
+        bool is_late = now >= request->until || refuses_all;
+        if (request->is_refused || !is_late) continue;
+        answer_err(request, EIO);
+        request->is_refused = true;
     }
-    if (is_vain(replica)) replica_give_up(replica);
-    while (!replica->put.is_under_way && replica->first && replica->first->is_refused) replica_remove_first(replica);
+    if (is_vain(replica)) replica_abandon_proposal(replica);
+    while (!replica->proposal.is_under_way && replica->first && replica->first->is_refused)
+        replica_remove_first(replica);
 }
 
 // ---- the loop
 
 static bool one_has_come(struct replica *replica, int milliseconds) {
     struct pollfd comes[] = {{.fd = fuse_session_fd(session), .events = POLLIN},
-                             {.fd = shared_log_event(replica->log), .events = replica->fault ? 0 : POLLIN}};
+                             {.fd = etcd_log_event(replica->log), .events = replica->err ? 0 : POLLIN}};
     return poll(comes, 2, milliseconds) > 0 && comes[0].revents;
 }
 
 static int serve_next(struct replica *replica, struct fuse_buf *buffer) {
     int got = fuse_session_receive_buf(session, buffer);
     if (got > 0) serve_one(replica, buffer);
-    if (got > 0) requests_rest(replica->mount);
+    if (got > 0) requests_idle(replica->mount);
     return got;
 }
 
 // Telling the kernel may wait for a request: all are answered until that is done.
 static void serve_rest(struct replica *replica, struct fuse_buf *buffer) {
     replica->is_ending = true;
-    while (!replica_tell_ends(replica)) {
+    while (!inval_stop(replica)) {
         refuse_old(replica);
         if (one_has_come(replica, 1) && serve_next(replica, buffer) <= 0) usleep(1000);
     }
@@ -197,10 +203,10 @@ static int serve_all(struct replica *replica, struct fuse_buf *buffer) {
     int got = -EINTR;
     while (!fuse_session_exited(session) && (got > 0 || got == -EINTR || got == -EAGAIN)) {
         if (one_has_come(replica, MILLISECONDS)) got = serve_next(replica, buffer);
-        replica_take(replica);
-        behind_step(replica);
+        replica_apply_log(replica);
+        catchup_step(replica);
         refuse_old(replica);
-        replica_put(replica);
+        replica_propose(replica);
         checkpoint_step(replica);
     }
     fuse_session_reset(session);
@@ -212,44 +218,44 @@ int replica_serve(struct fuse_session *used, struct mount *mount) {
     struct replica *replica = mount->replica;
     session = replica->session = used;
     answers = replica;
-    if (replica_tell_begins(replica)) return 1;
+    if (inval_start(replica)) return 1;
     int status = serve_all(replica, &buffer);
     serve_rest(replica, &buffer);
     answers = 0;
-    return status || replica->fault || replica->is_behind;
+    return status || replica->err || replica->is_behind;
 }
 
 // ---- the end
 
-// Whatever this mount had set aside, the kernel has let go of.
-static void note_aside(struct replica *replica) {
-    const struct volume *volume = &replica->mount->volume;
+// The kernel has forgotten all orphans of this mount.
+static void note_orphans(struct replica *replica) {
+    const struct backend *backend = &replica->mount->backend;
     struct bytes names = {0};
-    replica_pass(replica, NOTING, 0);
-    if (volume->way->list(volume->self, (struct place){0, UNLINKED_PATH}, &names)) names.length = 0;
+    replica_pass(replica, REPORTING, 0);
+    if (backend_readdir(backend, (struct path_ref){0, UNLINKED_PATH}, &names)) names.length = 0;
     for (size_t at = 0; at < names.length; at += strlen(names.at + at) + 1) {
         char path[LONGEST_PATH + 1];
         bool is_own = strtoull(names.at + at + 1, 0, 10) >> NUMBERS_OF_A_MOUNT == replica->number;
         snprintf(path, sizeof path, UNLINKED_PATH "/%s", names.at + at + 1);
-        if (is_own) volume->way->change(volume->self, REMOVE_TREE, path, moment_now());
+        if (is_own) backend->ops->change(backend->self, REMOVE_TREE, path, clock_now_ns());
     }
     bytes_free(&names);
     replica_pass_ends(replica);
-    replica_take_back(replica);
+    replica_rollback(replica);
 }
 
 void replica_end(struct mount *mount) {
     struct replica *replica = mount->replica;
-    struct pollfd comes = {.fd = shared_log_event(replica->log), .events = POLLIN};
+    struct pollfd comes = {.fd = etcd_log_event(replica->log), .events = POLLIN};
     uint64_t end = replica_clock() + (uint64_t)SECONDS_TO_END * NANOSECONDS;
     checkpoint_end(replica);
     while (replica->first) replica_remove_first(replica);
-    if (replica->put.is_under_way) replica_give_up(replica);
-    note_aside(replica);
+    if (replica->proposal.is_under_way) replica_abandon_proposal(replica);
+    note_orphans(replica);
     do {
-        replica_put(replica);
-        if (replica->put.is_under_way) poll(&comes, 1, MILLISECONDS);
-        replica_take(replica);
-        if (replica->fault || replica->is_behind) break;
-    } while ((replica->put.is_under_way || replica->rests) && replica_clock() < end);
+        replica_propose(replica);
+        if (replica->proposal.is_under_way) poll(&comes, 1, MILLISECONDS);
+        replica_apply_log(replica);
+        if (replica->err || replica->is_behind) break;
+    } while ((replica->proposal.is_under_way || replica->leftovers) && replica_clock() < end);
 }

@@ -1,22 +1,23 @@
-// Each request takes the lock, does what files.h has for it, leaves the lock, and answers. One thread serves them all:
-// most take less time than to wake another. A snapshot is restored, and a difference applied, by a thread of its own.
+// The requests of the kernel. Each takes the request lock, does what fs_ops.h has for it, drops the lock, and replies.
+// One thread serves all of them, since most take less time than waking another would; a snapshot is restored, and a
+// delta applied, by a thread of its own.
 //
-// All changes of the tree come by the kernel, so what it knows of names and attributes stays right for as long as it
-// keeps them; where the tree becomes another one, it is told to forget. The bytes of a file are asked for anew when it
-// is opened.
+// Invariant: all changes of the tree come through the kernel, so what it caches of names and attributes stays right;
+// when the tree is replaced, the kernel is told what is stale. The bytes of a file are read again whenever it is
+// opened. The list of open handles is changed by the serving thread alone.
 #include "requests.h"
 #include "answers.h"
-#include "aside.h"
-#include "awake.h"
-#include "delta.h"
-#include "ending.h"
+#include "orphan.h"
+#include "busy_poll.h"
+#include "delta_ioctl.h"
+#include "exit_report.h"
 #include "extended.h"
 #include "holes.h"
-#include "links.h"
+#include "hardlinks.h"
 #include "locks.h"
-#include "names.h"
+#include "namei.h"
 #include "replica.h"
-#include "room.h"
+#include "memlimit.h"
 #include "snapshots.h"
 #include "store.h"
 #include <errno.h>
@@ -34,7 +35,7 @@ enum { MOST_WAITING_STEPS = 64 };
 // The number of an entry that is not known, as libfuse has it.
 #define NO_NUMBER 0xffffffff
 
-static struct lock lock = LOCK_FREE;
+static struct lock request_lock = LOCK_FREE;
 static struct fuse_session *session;
 static double seconds_known = SECONDS_KNOWN;
 static _Atomic unsigned threads; // that make the tree another one
@@ -47,123 +48,123 @@ void requests_use(struct fuse_session *used, bool is_shared) {
 bool requests_are_under_way(void) { return threads > 0 || answers_wait(); }
 
 bool requests_wait_for_forget(const struct mount *mount) {
-    lock_take(&lock);
-    bool waits = mount->leaving;
-    lock_drop(&lock);
+    lock_take(&request_lock);
+    bool waits = mount->deferred;
+    lock_drop(&request_lock);
     return waits;
 }
 
-void requests_pause(void) { lock_take(&lock); }
+void requests_lock(void) { lock_take(&request_lock); }
 
-void requests_go_on(void) { lock_drop(&lock); }
+void requests_unlock(void) { lock_drop(&request_lock); }
 
-bool requests_are_paused(void) { return lock_is_held(&lock); }
+bool requests_are_locked(void) { return lock_is_held(&request_lock); }
 
 static bool owes_much(struct mount *mount) {
-    const struct volume *volume = &mount->volume;
-    lock_take(&lock);
-    bool does = volume->way->owes(volume->self) > MOST_WAITING_STEPS;
-    lock_drop(&lock);
+    const struct backend *backend = &mount->backend;
+    lock_take(&request_lock);
+    bool does = backend_compaction_debt(backend) > MOST_WAITING_STEPS;
+    lock_drop(&request_lock);
     return does;
 }
 
 // Whether a step was left to be done. No size of the mount lets it take more than a call.
-static bool rest_once(struct mount *mount) {
-    const struct volume *volume = &mount->volume;
-    lock_take(&lock);
-    unsigned owed = volume->way->owes(volume->self);
-    bool is_due = owed > MOST_WAITING_STEPS || (owed && !awake_sees(fuse_session_fd(session)));
-    room_begin();
-    if (is_due) volume->way->relieve(volume->self, 1);
-    room_lift();
-    lock_drop(&lock);
+static bool idle_once(struct mount *mount) {
+    const struct backend *backend = &mount->backend;
+    lock_take(&request_lock);
+    unsigned owed = backend_compaction_debt(backend);
+    bool is_due = owed > MOST_WAITING_STEPS || (owed && !busy_poll_ready(fuse_session_fd(session)));
+    memlimit_begin();
+    if (is_due) backend_compact(backend, 1);
+    memlimit_suspend();
+    lock_drop(&request_lock);
     return is_due;
 }
 
 // One step is done while whoever was answered wakes up. The next request may come before there is time for others.
-void requests_rest(struct mount *mount) {
-    if (mount->store) store_rest(mount->store);
-    rest_once(mount);
-    while (owes_much(mount)) rest_once(mount);
-    if (awake_finds(fuse_session_fd(session))) return;
-    while (!fuse_session_exited(session) && rest_once(mount)) continue;
+void requests_idle(struct mount *mount) {
+    if (mount->store) store_idle(mount->store);
+    idle_once(mount);
+    while (owes_much(mount)) idle_once(mount);
+    if (busy_poll_wait(fuse_session_fd(session))) return;
+    while (!fuse_session_exited(session) && idle_once(mount)) continue;
 }
 
 static struct mount *mount_of(fuse_req_t req) { return fuse_req_userdata(req); }
 
-static struct entry *entry_of(fuse_req_t req, fuse_ino_t number) {
-    return number == FUSE_ROOT_ID ? mount_of(req)->root : (struct entry *)(uintptr_t)number;
+static struct inode *inode_of(fuse_req_t req, fuse_ino_t ino) {
+    return ino == FUSE_ROOT_ID ? mount_of(req)->root : (struct inode *)(uintptr_t)ino;
 }
 
-static struct fuse_entry_param told(const struct found *found) {
-    return (struct fuse_entry_param){.ino = (fuse_ino_t)(uintptr_t)found->entry,
-                                     .attr = found->stat,
+static struct fuse_entry_param to_fuse_entry(const struct lookup_result *result) {
+    return (struct fuse_entry_param){.ino = (fuse_ino_t)(uintptr_t)result->inode,
+                                     .attr = result->stat,
                                      .attr_timeout = seconds_known,
                                      .entry_timeout = seconds_known};
 }
 
-// Takes the lock. An unlinked file that the kernel knows still goes out of the way.
-static int begin(fuse_req_t req) {
-    lock_take(&lock);
-    return aside_settle(mount_of(req));
+// Takes the lock. An unlinked file that the kernel still knows becomes an orphan.
+static int request_begin(fuse_req_t req) {
+    lock_take(&request_lock);
+    return orphan_flush_deferred(mount_of(req));
 }
 
 // The same for a request that is about the bytes of one file alone.
-static int begin_bytes(fuse_req_t req, fuse_ino_t number) {
-    lock_take(&lock);
-    bool is_leaving = mount_of(req)->leaving && mount_of(req)->leaving == entry_of(req, number);
-    return is_leaving ? aside_settle(mount_of(req)) : 0;
+static int begin_bytes(fuse_req_t req, fuse_ino_t ino) {
+    lock_take(&request_lock);
+    bool is_leaving = mount_of(req)->deferred && mount_of(req)->deferred == inode_of(req, ino);
+    return is_leaving ? orphan_flush_deferred(mount_of(req)) : 0;
 }
 
 // The same for a write. A store keeps the changes in the order in which they were answered.
-static int begin_write(fuse_req_t req, fuse_ino_t number) {
-    return mount_of(req)->store ? begin(req) : begin_bytes(req, number);
+static int begin_write(fuse_req_t req, fuse_ino_t ino) {
+    return mount_of(req)->store ? request_begin(req) : begin_bytes(req, ino);
 }
 
 // Leaves the lock: the request is at its end, and a store keeps what it did.
-static int leave_changed(struct mount *mount, int fault, bool *has_changed) {
+static int request_end_changed(struct mount *mount, int err, bool *has_changed) {
     int other = 0;
     *has_changed = false;
-    if (mount->store && store_syncs_each(mount->store)) other = aside_settle(mount);
+    if (mount->store && store_syncs_each(mount->store)) other = orphan_flush_deferred(mount);
     if (mount->store && !other) other = store_end_request(mount->store, has_changed);
-    lock_drop(&lock);
-    return fault ? fault : other;
+    lock_drop(&request_lock);
+    return err ? err : other;
 }
 
 // The same of a request that is answered at once: it asks alone.
-static int leave(struct mount *mount, int fault) {
+static int request_end(struct mount *mount, int err) {
     bool has_changed;
-    return leave_changed(mount, fault, &has_changed);
+    return request_end_changed(mount, err, &has_changed);
 }
 
 // Leaves the lock, and answers a request that changes something.
-static void finish(fuse_req_t req, int fault, struct answer answer) {
+static void finish(fuse_req_t req, int err, struct answer answer) {
     struct mount *mount = mount_of(req);
     bool has_changed;
     answer.req = req;
-    answer.fault = leave_changed(mount, fault, &has_changed);
+    answer.err = request_end_changed(mount, err, &has_changed);
     answer_change(mount->store, &answer, has_changed);
 }
 
 // The same of one that has nothing to tell.
-static void finish_done(fuse_req_t req, int fault) { finish(req, fault, (struct answer){.kind = ANSWER_DONE}); }
+static void finish_done(fuse_req_t req, int err) { finish(req, err, (struct answer){.kind = ANSWER_DONE}); }
 
 // Under the lock: an answer that names an entry is one more that the kernel holds.
-static int hold(int fault, const struct found *found) {
-    if (!fault) found->entry->lookups++;
-    return fault;
+static int hold(int err, const struct lookup_result *result) {
+    if (!err) result->inode->nlookup++;
+    return err;
 }
 
-static void answer_entry(fuse_req_t req, int fault, const struct found *found) {
+static void answer_entry(fuse_req_t req, int err, const struct lookup_result *result) {
     struct fuse_entry_param param = {.entry_timeout = seconds_known};
-    if (!fault) param = told(found);
-    if (fault && fault != ENOENT) fuse_reply_err(req, fault);
+    if (!err) param = to_fuse_entry(result);
+    if (err && err != ENOENT) fuse_reply_err(req, err);
     else fuse_reply_entry(req, &param);
 }
 
-static struct answer entry_answer(int fault, const struct found *found) {
+static struct answer entry_answer(int err, const struct lookup_result *result) {
     struct answer answer = {.kind = ANSWER_ENTRY};
-    if (!fault) answer.entry = told(found);
+    if (!err) answer.entry = to_fuse_entry(result);
     return answer;
 }
 
@@ -173,48 +174,48 @@ static void on_init(void *mount, struct fuse_conn_info *connection) {
 }
 
 static void on_lookup(fuse_req_t req, fuse_ino_t parent, const char *name) {
-    struct found found;
-    int fault = begin(req);
-    if (!fault) fault = hold(files_find(mount_of(req), entry_of(req, parent), name, &found), &found);
-    fault = leave(mount_of(req), fault);
-    answer_entry(req, fault, &found);
+    struct lookup_result result;
+    int err = request_begin(req);
+    if (!err) err = hold(fs_lookup(mount_of(req), inode_of(req, parent), name, &result), &result);
+    err = request_end(mount_of(req), err);
+    answer_entry(req, err, &result);
 }
 
-static void on_forget(fuse_req_t req, fuse_ino_t number, uint64_t lookups) {
-    lock_take(&lock);
-    if (number != FUSE_ROOT_ID) aside_forget(mount_of(req), entry_of(req, number), lookups);
-    leave(mount_of(req), 0);
+static void on_forget(fuse_req_t req, fuse_ino_t ino, uint64_t lookups) {
+    lock_take(&request_lock);
+    if (ino != FUSE_ROOT_ID) orphan_forget(mount_of(req), inode_of(req, ino), lookups);
+    request_end(mount_of(req), 0);
     fuse_reply_none(req);
 }
 
 static void on_forget_many(fuse_req_t req, size_t count, struct fuse_forget_data *forgets) {
-    lock_take(&lock);
+    lock_take(&request_lock);
     for (size_t i = 0; i < count; i++)
         if (forgets[i].ino != FUSE_ROOT_ID)
-            aside_forget(mount_of(req), entry_of(req, forgets[i].ino), forgets[i].nlookup);
-    leave(mount_of(req), 0);
+            orphan_forget(mount_of(req), inode_of(req, forgets[i].ino), forgets[i].nlookup);
+    request_end(mount_of(req), 0);
     fuse_reply_none(req);
 }
 
-static void answer_stat(fuse_req_t req, int fault, const struct stat *stat) {
-    if (fault) fuse_reply_err(req, fault);
+static void answer_stat(fuse_req_t req, int err, const struct stat *stat) {
+    if (err) fuse_reply_err(req, err);
     else fuse_reply_attr(req, stat, seconds_known);
 }
 
-static void on_getattr(fuse_req_t req, fuse_ino_t number, struct fuse_file_info *info) {
+static void on_getattr(fuse_req_t req, fuse_ino_t ino, struct fuse_file_info *info) {
     struct stat stat;
     (void)info;
-    int fault = begin(req);
-    if (!fault) fault = files_stat(mount_of(req), entry_of(req, number), &stat);
-    fault = leave(mount_of(req), fault);
-    answer_stat(req, fault, &stat);
+    int err = request_begin(req);
+    if (!err) err = fs_getattr(mount_of(req), inode_of(req, ino), &stat);
+    err = request_end(mount_of(req), err);
+    answer_stat(req, err, &stat);
 }
 
-static void on_setattr(fuse_req_t req, fuse_ino_t number, struct stat *wanted, int which, struct fuse_file_info *info) {
+static void on_setattr(fuse_req_t req, fuse_ino_t ino, struct stat *wanted, int which, struct fuse_file_info *info) {
     uint64_t length = (uint64_t)wanted->st_size;
-    uint64_t at = moment_now();
-    struct timespec time = time_of(at);
-    struct setting setting = {
+    uint64_t at = clock_now_ns();
+    struct timespec time = ns_to_timespec(at);
+    struct setattr setattr = {
         .at = at,
         .mode = which & FUSE_SET_ATTR_MODE ? &wanted->st_mode : 0,
         .user = which & FUSE_SET_ATTR_UID ? &wanted->st_uid : 0,
@@ -230,12 +231,12 @@ static void on_setattr(fuse_req_t req, fuse_ino_t number, struct stat *wanted, i
     };
     struct stat stat;
     (void)info;
-    int fault = begin(req);
-    if (!fault) fault = files_set(mount_of(req), entry_of(req, number), &setting);
-    if (!fault) fault = files_stat(mount_of(req), entry_of(req, number), &stat);
+    int err = request_begin(req);
+    if (!err) err = fs_setattr(mount_of(req), inode_of(req, ino), &setattr);
+    if (!err) err = fs_getattr(mount_of(req), inode_of(req, ino), &stat);
     struct answer answer = {.kind = ANSWER_ATTRIBUTES, .seconds = seconds_known};
-    if (!fault) answer.stat = stat;
-    finish(req, fault, answer);
+    if (!err) answer.stat = stat;
+    finish(req, err, answer);
 }
 
 static uint8_t kind_of(mode_t mode) {
@@ -251,59 +252,59 @@ static uint8_t kind_of(mode_t mode) {
 }
 
 // What a request makes is its user's.
-static struct novelty novelty_of(fuse_req_t req, mode_t mode) {
+static struct create_args create_args_of(fuse_req_t req, mode_t mode) {
     const struct fuse_ctx *asks = fuse_req_ctx(req);
-    return (struct novelty){
-        .told = {.kind = kind_of(mode), .mode = mode & 07777, .user = asks->uid, .group = asks->gid, .names = 1}};
+    return (struct create_args){
+        .base = {.kind = kind_of(mode), .mode = mode & 07777, .user = asks->uid, .group = asks->gid, .names = 1}};
 }
 
-static void make(fuse_req_t req, fuse_ino_t parent, const char *name, const struct novelty *novelty) {
-    struct found found;
-    int fault = begin(req);
-    if (!fault) fault = names_make(mount_of(req), entry_of(req, parent), name, novelty, &found);
-    hold(fault, &found);
-    finish(req, fault, entry_answer(fault, &found));
+static void make(fuse_req_t req, fuse_ino_t parent, const char *name, const struct create_args *args) {
+    struct lookup_result result;
+    int err = request_begin(req);
+    if (!err) err = namei_create(mount_of(req), inode_of(req, parent), name, args, &result);
+    hold(err, &result);
+    finish(req, err, entry_answer(err, &result));
 }
 
 static void on_mkdir(fuse_req_t req, fuse_ino_t parent, const char *name, mode_t mode) {
-    struct novelty novelty = novelty_of(req, S_IFDIR | (mode & 07777));
-    make(req, parent, name, &novelty);
+    struct create_args args = create_args_of(req, S_IFDIR | (mode & 07777));
+    make(req, parent, name, &args);
 }
 
 static void on_mknod(fuse_req_t req, fuse_ino_t parent, const char *name, mode_t mode, dev_t device) {
-    struct novelty novelty = novelty_of(req, mode);
-    novelty.told.device = device;
-    make(req, parent, name, &novelty);
+    struct create_args args = create_args_of(req, mode);
+    args.base.device = device;
+    make(req, parent, name, &args);
 }
 
 static void on_symlink(fuse_req_t req, const char *target, fuse_ino_t parent, const char *name) {
-    struct novelty novelty = novelty_of(req, S_IFLNK | 0777);
-    novelty.target = target;
-    make(req, parent, name, &novelty);
+    struct create_args args = create_args_of(req, S_IFLNK | 0777);
+    args.target = target;
+    make(req, parent, name, &args);
 }
 
-static void on_readlink(fuse_req_t req, fuse_ino_t number) {
+static void on_readlink(fuse_req_t req, fuse_ino_t ino) {
     struct bytes target = {0};
-    int fault = begin(req);
-    if (!fault) fault = files_read_link(mount_of(req), entry_of(req, number), &target);
-    fault = leave(mount_of(req), fault);
-    if (fault) fuse_reply_err(req, fault);
+    int err = request_begin(req);
+    if (!err) err = fs_readlink(mount_of(req), inode_of(req, ino), &target);
+    err = request_end(mount_of(req), err);
+    if (err) fuse_reply_err(req, err);
     else fuse_reply_readlink(req, target.at);
     bytes_free(&target);
 }
 
-static void on_link(fuse_req_t req, fuse_ino_t number, fuse_ino_t parent, const char *name) {
-    struct found found;
-    int fault = begin(req);
-    if (!fault) fault = links_make(mount_of(req), entry_of(req, number), entry_of(req, parent), name, &found);
-    hold(fault, &found);
-    finish(req, fault, entry_answer(fault, &found));
+static void on_link(fuse_req_t req, fuse_ino_t ino, fuse_ino_t parent, const char *name) {
+    struct lookup_result result;
+    int err = request_begin(req);
+    if (!err) err = hardlink_create(mount_of(req), inode_of(req, ino), inode_of(req, parent), name, &result);
+    hold(err, &result);
+    finish(req, err, entry_answer(err, &result));
 }
 
 static void take_name(fuse_req_t req, fuse_ino_t parent, const char *name, bool is_directory) {
-    int fault = begin(req);
-    if (!fault) fault = names_remove(mount_of(req), entry_of(req, parent), name, is_directory);
-    finish_done(req, fault);
+    int err = request_begin(req);
+    if (!err) err = namei_remove(mount_of(req), inode_of(req, parent), name, is_directory);
+    finish_done(req, err);
 }
 
 static void on_unlink(fuse_req_t req, fuse_ino_t parent, const char *name) { take_name(req, parent, name, false); }
@@ -313,17 +314,17 @@ static void on_rmdir(fuse_req_t req, fuse_ino_t parent, const char *name) { take
 static void on_rename(fuse_req_t req, fuse_ino_t parent, const char *name, fuse_ino_t new_parent, const char *new_name,
                       unsigned flags) {
     struct mount *mount = mount_of(req);
-    int fault = begin(req);
-    if (!fault) fault = names_rename(mount, entry_of(req, parent), name, entry_of(req, new_parent), new_name, flags);
-    finish_done(req, fault);
+    int err = request_begin(req);
+    if (!err) err = namei_rename(mount, inode_of(req, parent), name, inode_of(req, new_parent), new_name, flags);
+    finish_done(req, err);
 }
 
 // A file or directory that is open. All of them stand in a row, since a mount may end before they are closed.
 struct handle {
-    struct bytes names; // of a directory, as they were when it was read from its beginning
-    struct bytes text;  // of a difference, by the root
-    size_t sent;        // bytes of it
-    _Atomic uint64_t told; // how many failed syncs of the store it was told
+    struct bytes names;           // of a directory, as they were when it was read from its beginning
+    struct bytes text;            // of a difference, by the root
+    size_t sent;                  // bytes of it
+    _Atomic uint64_t errseq_seen; // how many failed syncs of the store it was told
     struct handle *before, *after;
 };
 
@@ -337,7 +338,7 @@ static struct handle *open_handle(fuse_req_t req, struct fuse_file_info *info) {
     struct handle *handle = calloc(1, sizeof *handle);
     info->fh = (uint64_t)(uintptr_t)handle;
     if (!handle) return 0;
-    handle->told = store ? store_failures(store) : 0;
+    handle->errseq_seen = store ? store_sync_errseq(store) : 0;
     handle->before = &handles;
     handle->after = handles.after;
     handles.after = handle->after->before = handle;
@@ -367,8 +368,8 @@ static bool drops_set_user(fuse_req_t req) {
 }
 
 // It is asked only where a file has such bits.
-static bool may_drop(fuse_req_t req, const struct entry *entry, int flags) {
-    return flags & O_TRUNC && entry->attributes.told.mode & (S_ISUID | S_ISGID) && drops_set_user(req);
+static bool may_drop(fuse_req_t req, const struct inode *inode, int flags) {
+    return flags & O_TRUNC && inode->attrs.base.mode & (S_ISUID | S_ISGID) && drops_set_user(req);
 }
 
 // Where memory is wanting, the file is told of no sync that failed before.
@@ -377,115 +378,116 @@ static void open_file(fuse_req_t req, struct fuse_file_info *info) {
     if (mount_of(req)->store) open_handle(req, info);
 }
 
-static void on_open(fuse_req_t req, fuse_ino_t number, struct fuse_file_info *info) {
-    struct entry *entry = entry_of(req, number);
-    int fault = begin(req);
-    if (!fault) fault = files_open(mount_of(req), entry, info->flags, may_drop(req, entry, info->flags));
-    if (!fault) open_file(req, info);
-    finish(req, fault, (struct answer){.kind = ANSWER_OPENED, .info = *info});
+static void on_open(fuse_req_t req, fuse_ino_t ino, struct fuse_file_info *info) {
+    struct inode *inode = inode_of(req, ino);
+    int err = request_begin(req);
+    if (!err) err = fs_open(mount_of(req), inode, info->flags, may_drop(req, inode, info->flags));
+    if (!err) open_file(req, info);
+    finish(req, err, (struct answer){.kind = ANSWER_OPENED, .info = *info});
 }
 
 // A file that stands already is opened as it is; where that cuts it, what is told is what stands then.
-static int open_found(fuse_req_t req, struct entry *folder, const char *name, int flags, struct found *found) {
+static int open_found(fuse_req_t req, struct inode *folder, const char *name, int flags, struct lookup_result *result) {
     struct mount *mount = mount_of(req);
-    int fault = files_find(mount, folder, name, found);
-    if (!fault) fault = files_open(mount, found->entry, flags, may_drop(req, found->entry, flags));
-    return fault ? fault : files_stat(mount, found->entry, &found->stat);
+    int err = fs_lookup(mount, folder, name, result);
+    if (!err) err = fs_open(mount, result->inode, flags, may_drop(req, result->inode, flags));
+    return err ? err : fs_getattr(mount, result->inode, &result->stat);
 }
 
 // A file that is made has nothing to cut, and keeps the moment at which it was made.
-static int create(fuse_req_t req, fuse_ino_t parent, const char *name, mode_t mode, int flags, struct found *found) {
-    struct novelty novelty = novelty_of(req, S_IFREG | (mode & 07777));
+static int create(fuse_req_t req, fuse_ino_t parent, const char *name, mode_t mode, int flags,
+                  struct lookup_result *result) {
+    struct create_args args = create_args_of(req, S_IFREG | (mode & 07777));
     struct mount *mount = mount_of(req);
-    struct entry *folder = entry_of(req, parent);
-    int fault = names_make(mount, folder, name, &novelty, found);
-    if (fault == EEXIST && !(flags & O_EXCL)) fault = open_found(req, folder, name, flags, found);
-    else if (!fault) fault = files_open(mount, found->entry, flags & ~O_TRUNC, false);
-    return hold(fault, found);
+    struct inode *folder = inode_of(req, parent);
+    int err = namei_create(mount, folder, name, &args, result);
+    if (err == EEXIST && !(flags & O_EXCL)) err = open_found(req, folder, name, flags, result);
+    else if (!err) err = fs_open(mount, result->inode, flags & ~O_TRUNC, false);
+    return hold(err, result);
 }
 
 static void on_create(fuse_req_t req, fuse_ino_t parent, const char *name, mode_t mode, struct fuse_file_info *info) {
-    struct found found;
-    int fault = begin(req);
-    if (!fault) fault = create(req, parent, name, mode, info->flags, &found);
-    struct answer answer = entry_answer(fault, &found);
-    if (!fault) open_file(req, info);
+    struct lookup_result result;
+    int err = request_begin(req);
+    if (!err) err = create(req, parent, name, mode, info->flags, &result);
+    struct answer answer = entry_answer(err, &result);
+    if (!err) open_file(req, info);
     answer.kind = ANSWER_CREATED;
     answer.info = *info;
-    finish(req, fault, answer);
+    finish(req, err, answer);
 }
 
-static void on_release(fuse_req_t req, fuse_ino_t number, struct fuse_file_info *info) {
+static void on_release(fuse_req_t req, fuse_ino_t ino, struct fuse_file_info *info) {
     close_handle(info);
-    lock_take(&lock);
-    int fault = files_close(mount_of(req), entry_of(req, number));
-    finish_done(req, fault);
+    lock_take(&request_lock);
+    int err = fs_release(mount_of(req), inode_of(req, ino));
+    finish_done(req, err);
 }
 
-static void on_read(fuse_req_t req, fuse_ino_t number, size_t size, off_t offset, struct fuse_file_info *info) {
+static void on_read(fuse_req_t req, fuse_ino_t ino, size_t size, off_t offset, struct fuse_file_info *info) {
     size_t got = 0;
     char *bytes = malloc(size ? size : 1);
     (void)info;
-    int fault = begin_bytes(req, number);
-    if (!bytes) fault = ENOMEM;
-    if (!fault) fault = files_read(mount_of(req), entry_of(req, number), (uint64_t)offset, bytes, size, &got);
-    fault = leave(mount_of(req), fault);
-    if (fault) fuse_reply_err(req, fault);
+    int err = begin_bytes(req, ino);
+    if (!bytes) err = ENOMEM;
+    if (!err) err = fs_read(mount_of(req), inode_of(req, ino), (uint64_t)offset, bytes, size, &got);
+    err = request_end(mount_of(req), err);
+    if (err) fuse_reply_err(req, err);
     else fuse_reply_buf(req, bytes, got);
     free(bytes);
 }
 
-static void on_write(fuse_req_t req, fuse_ino_t number, const char *bytes, size_t size, off_t offset,
+static void on_write(fuse_req_t req, fuse_ino_t ino, const char *bytes, size_t size, off_t offset,
                      struct fuse_file_info *info) {
     struct mount *mount = mount_of(req);
-    struct entry *entry = entry_of(req, number);
+    struct inode *inode = inode_of(req, ino);
     uint64_t at = (uint64_t)offset;
     size_t done = 0;
-    int fault = begin_write(req, number);
-    if (!fault && info->flags & O_APPEND) fault = files_find_end(mount, entry, &at);
-    if (!fault) fault = files_write(mount, entry, at, bytes, size, &done);
-    if (!fault && at != (uint64_t)offset) replica_note_moved(mount, entry);
-    finish(req, fault, (struct answer){.kind = ANSWER_WRITTEN, .written = done});
+    int err = begin_write(req, ino);
+    if (!err && info->flags & O_APPEND) err = files_find_end(mount, inode, &at);
+    if (!err) err = fs_write(mount, inode, at, bytes, size, &done);
+    if (!err && at != (uint64_t)offset) replica_note_moved(mount, inode);
+    finish(req, err, (struct answer){.kind = ANSWER_WRITTEN, .written = done});
 }
 
-static void on_fallocate(fuse_req_t req, fuse_ino_t number, int mode, off_t offset, off_t count,
+static void on_fallocate(fuse_req_t req, fuse_ino_t ino, int mode, off_t offset, off_t count,
                          struct fuse_file_info *info) {
     (void)info;
-    int fault = begin(req);
-    if (!fault) fault = holes_allocate(mount_of(req), entry_of(req, number), mode, (uint64_t)offset, (uint64_t)count);
-    finish_done(req, fault);
+    int err = request_begin(req);
+    if (!err) err = holes_allocate(mount_of(req), inode_of(req, ino), mode, (uint64_t)offset, (uint64_t)count);
+    finish_done(req, err);
 }
 
-static void on_lseek(fuse_req_t req, fuse_ino_t number, off_t offset, int whence, struct fuse_file_info *info) {
+static void on_lseek(fuse_req_t req, fuse_ino_t ino, off_t offset, int whence, struct fuse_file_info *info) {
     uint64_t found = 0;
     (void)info;
-    int fault = begin(req);
-    if (!fault) fault = holes_seek(mount_of(req), entry_of(req, number), (uint64_t)offset, whence, &found);
-    fault = leave(mount_of(req), fault);
-    if (fault) fuse_reply_err(req, fault);
+    int err = request_begin(req);
+    if (!err) err = holes_seek(mount_of(req), inode_of(req, ino), (uint64_t)offset, whence, &found);
+    err = request_end(mount_of(req), err);
+    if (err) fuse_reply_err(req, err);
     else fuse_reply_lseek(req, (off_t)found);
 }
 
 // Where nothing is kept, all is in memory.
-static void on_fsync(fuse_req_t req, fuse_ino_t number, int data_only, struct fuse_file_info *info) {
+static void on_fsync(fuse_req_t req, fuse_ino_t ino, int data_only, struct fuse_file_info *info) {
     struct store *store = mount_of(req)->store;
     struct handle *handle = handle_of(info);
-    struct answer answer = {.kind = ANSWER_SYNCED, .req = req, .told = handle ? &handle->told : 0};
-    (void)number, (void)data_only;
-    int fault = store ? begin(req) : 0;
-    if (store) fault = leave(mount_of(req), fault);
-    if (store && !fault) answer_sync(store, &answer);
-    else fuse_reply_err(req, fault);
+    struct answer answer = {.kind = ANSWER_SYNCED, .req = req, .errseq_seen = handle ? &handle->errseq_seen : 0};
+    (void)ino, (void)data_only;
+    int err = store ? request_begin(req) : 0;
+    if (store) err = request_end(mount_of(req), err);
+    if (store && !err) answer_sync(store, &answer);
+    else fuse_reply_err(req, err);
 }
 
-static void on_opendir(fuse_req_t req, fuse_ino_t number, struct fuse_file_info *info) {
-    (void)number;
+static void on_opendir(fuse_req_t req, fuse_ino_t ino, struct fuse_file_info *info) {
+    (void)ino;
     if (open_handle(req, info)) fuse_reply_open(req, info);
     else fuse_reply_err(req, ENOMEM);
 }
 
-static void on_releasedir(fuse_req_t req, fuse_ino_t number, struct fuse_file_info *info) {
-    (void)number;
+static void on_releasedir(fuse_req_t req, fuse_ino_t ino, struct fuse_file_info *info) {
+    (void)ino;
     close_handle(info);
     fuse_reply_err(req, 0);
 }
@@ -493,59 +495,59 @@ static void on_releasedir(fuse_req_t req, fuse_ino_t number, struct fuse_file_in
 // A page of a listing that is put together.
 struct page {
     fuse_req_t req;
-    struct entry *directory;
-    bool tells_more; // what stands at each name is told with it
+    struct inode *directory;
+    bool is_plus; // what stands at each name is told with it
     char *out;
-    size_t room, length;
+    size_t capacity, length;
 };
 
 // What is told of a name.
 struct line {
     const char *name;
     struct fuse_entry_param param;
-    struct entry *held; // what the kernel holds by it; null: nothing
+    struct inode *held; // what the kernel holds by it; null: nothing
     off_t next;         // the place behind it
 };
 
 // Puts a line in: false where there is no room left.
 static bool put_line(struct page *page, const struct line *line) {
     char *to = page->out + page->length;
-    size_t room = page->room - page->length, size;
-    if (page->tells_more) size = fuse_add_direntry_plus(page->req, to, room, line->name, &line->param, line->next);
-    else size = fuse_add_direntry(page->req, to, room, line->name, &line->param.attr, line->next);
-    if (size > room) return false;
-    if (line->held) line->held->lookups++;
+    size_t capacity = page->capacity - page->length, size;
+    if (page->is_plus) size = fuse_add_direntry_plus(page->req, to, capacity, line->name, &line->param, line->next);
+    else size = fuse_add_direntry(page->req, to, capacity, line->name, &line->param.attr, line->next);
+    if (size > capacity) return false;
+    if (line->held) line->held->nlookup++;
     page->length += size;
     return true;
 }
 
 // `.` or `..`, whose number no look-up gives. Above the root is what the kernel has there.
 static bool put_dots(struct page *page, const char *name, off_t next) {
-    const struct entry *directory = page->directory;
+    const struct inode *directory = page->directory;
     if (name[1] && directory->parent) directory = directory->parent;
-    struct stat stat = {.st_mode = S_IFDIR, .st_ino = directory->number};
+    struct stat stat = {.st_mode = S_IFDIR, .st_ino = directory->ino};
     return put_line(page, &(struct line){.name = name, .param.attr = stat, .next = next});
 }
 
 // A name of the listing: what stands there, or its number alone. A name that is gone is left out.
 static bool put_name(struct page *page, const char *name, bool is_directory, off_t next) {
     struct line line = {.name = name, .next = next};
-    struct entry *known = page->tells_more ? 0 : entry_find(page->directory, name);
-    struct found found = {.entry = known};
-    int fault = known ? 0 : files_find(mount_of(page->req), page->directory, name, &found);
-    if (fault == ENOENT) return true;
-    if (!fault && known) fault = files_stat(mount_of(page->req), known, &found.stat);
-    line.param.attr.st_mode = fault ? is_directory ? S_IFDIR : S_IFREG : found.stat.st_mode;
-    line.param.attr.st_ino = fault ? NO_NUMBER : found.entry->number;
-    if (!fault && page->tells_more) {
-        line.param = told(&found);
-        line.held = found.entry;
+    struct inode *known = page->is_plus ? 0 : inode_find(page->directory, name);
+    struct lookup_result result = {.inode = known};
+    int err = known ? 0 : fs_lookup(mount_of(page->req), page->directory, name, &result);
+    if (err == ENOENT) return true;
+    if (!err && known) err = fs_getattr(mount_of(page->req), known, &result.stat);
+    line.param.attr.st_mode = err ? is_directory ? S_IFDIR : S_IFREG : result.stat.st_mode;
+    line.param.attr.st_ino = err ? NO_NUMBER : result.inode->ino;
+    if (!err && page->is_plus) {
+        line.param = to_fuse_entry(&result);
+        line.held = result.inode;
     }
     return put_line(page, &line);
 }
 
 // The place of the first name at or behind a place that lseek(2) may have named.
-static size_t place_of_name(const struct bytes *names, size_t from) {
+static size_t path_of_name(const struct bytes *names, size_t from) {
     bool is_inside = from > 0 && from < names->length && names->at[from - 1];
     return is_inside ? from + strlen(names->at + from) + 1 : from;
 }
@@ -554,7 +556,7 @@ static size_t place_of_name(const struct bytes *names, size_t from) {
 static void put_names(struct page *page, const struct bytes *names, off_t at) {
     if (at == 0 && !put_dots(page, ".", ++at)) return;
     if (at == 1 && !put_dots(page, "..", ++at)) return;
-    for (size_t from = place_of_name(names, (size_t)at - 2); from < names->length;) {
+    for (size_t from = path_of_name(names, (size_t)at - 2); from < names->length;) {
         const char *name = names->at + from;
         from += strlen(name) + 1;
         if (!put_name(page, name + 1, name[0] == 'd', (off_t)from + 2)) return;
@@ -562,41 +564,40 @@ static void put_names(struct page *page, const struct bytes *names, off_t at) {
 }
 
 static int fill_page(struct page *page, struct bytes *names, off_t at) {
-    int fault = 0;
+    int err = 0;
     if (at == 0 || !names->at) {
         names->length = 0;
-        fault = files_list(mount_of(page->req), page->directory, names);
+        err = fs_readdir(mount_of(page->req), page->directory, names);
     }
-    if (fault == ENOENT) fault = 0; // A directory that is gone has no names.
-    if (!fault && at >= 0) put_names(page, names, at);
-    return fault;
+    if (err == ENOENT) err = 0; // A directory that is gone has no names.
+    if (!err && at >= 0) put_names(page, names, at);
+    return err;
 }
 
-static void answer_page(fuse_req_t req, fuse_ino_t number, size_t size, off_t at, struct fuse_file_info *info,
-                        bool more) {
-    struct page page = {req, entry_of(req, number), more, malloc(size), size, 0};
-    int fault = begin(req);
-    if (!page.out) fault = ENOMEM;
-    if (!fault) fault = fill_page(&page, &handle_of(info)->names, at);
-    fault = leave(mount_of(req), fault);
-    if (fault) fuse_reply_err(req, fault);
+static void answer_page(fuse_req_t req, fuse_ino_t ino, size_t size, off_t at, struct fuse_file_info *info, bool more) {
+    struct page page = {req, inode_of(req, ino), more, malloc(size), size, 0};
+    int err = request_begin(req);
+    if (!page.out) err = ENOMEM;
+    if (!err) err = fill_page(&page, &handle_of(info)->names, at);
+    err = request_end(mount_of(req), err);
+    if (err) fuse_reply_err(req, err);
     else fuse_reply_buf(req, page.out, page.length);
     free(page.out);
 }
 
-static void on_readdir(fuse_req_t req, fuse_ino_t number, size_t size, off_t at, struct fuse_file_info *info) {
-    answer_page(req, number, size, at, info, false);
+static void on_readdir(fuse_req_t req, fuse_ino_t ino, size_t size, off_t at, struct fuse_file_info *info) {
+    answer_page(req, ino, size, at, info, false);
 }
 
-static void on_readdirplus(fuse_req_t req, fuse_ino_t number, size_t size, off_t at, struct fuse_file_info *info) {
-    answer_page(req, number, size, at, info, true);
+static void on_readdirplus(fuse_req_t req, fuse_ino_t ino, size_t size, off_t at, struct fuse_file_info *info) {
+    answer_page(req, ino, size, at, info, true);
 }
 
 static fsblkcnt_t blocks_left(uint64_t size, uint64_t taken) { return taken < size ? (size - taken) / 4096 : 0; }
 
-static void on_statfs(fuse_req_t req, fuse_ino_t number) {
-    (void)number;
-    struct room room = room_now();
+static void on_statfs(fuse_req_t req, fuse_ino_t ino) {
+    (void)ino;
+    struct mem_usage room = memlimit_usage();
     struct statvfs stat = {.f_bsize = 4096,
                            .f_frsize = 4096,
                            .f_files = 1u << 30,
@@ -609,47 +610,46 @@ static void on_statfs(fuse_req_t req, fuse_ino_t number) {
     fuse_reply_statfs(req, &stat);
 }
 
-static void on_setxattr(fuse_req_t req, fuse_ino_t number, const char *name, const char *value, size_t size,
-                        int flags) {
-    int fault = begin(req);
-    if (!fault) fault = extended_set(mount_of(req), entry_of(req, number), name, value, size, flags);
-    finish_done(req, fault);
+static void on_setxattr(fuse_req_t req, fuse_ino_t ino, const char *name, const char *value, size_t size, int flags) {
+    int err = request_begin(req);
+    if (!err) err = extended_set(mount_of(req), inode_of(req, ino), name, value, size, flags);
+    finish_done(req, err);
 }
 
-static void on_removexattr(fuse_req_t req, fuse_ino_t number, const char *name) {
-    int fault = begin(req);
-    if (!fault) fault = extended_remove(mount_of(req), entry_of(req, number), name);
-    finish_done(req, fault);
+static void on_removexattr(fuse_req_t req, fuse_ino_t ino, const char *name) {
+    int err = request_begin(req);
+    if (!err) err = extended_remove(mount_of(req), inode_of(req, ino), name);
+    finish_done(req, err);
 }
 
 // Bytes that were asked for, or how many they are where no room was given.
-static void answer_sized(fuse_req_t req, int fault, const struct bytes *bytes, size_t room) {
-    if (!fault && room && bytes->length > room) fault = ERANGE;
-    if (fault) fuse_reply_err(req, fault);
-    else if (room) fuse_reply_buf(req, bytes->at, bytes->length);
+static void answer_sized(fuse_req_t req, int err, const struct bytes *bytes, size_t capacity) {
+    if (!err && capacity && bytes->length > capacity) err = ERANGE;
+    if (err) fuse_reply_err(req, err);
+    else if (capacity) fuse_reply_buf(req, bytes->at, bytes->length);
     else fuse_reply_xattr(req, bytes->length);
 }
 
-static void on_getxattr(fuse_req_t req, fuse_ino_t number, const char *name, size_t room) {
+static void on_getxattr(fuse_req_t req, fuse_ino_t ino, const char *name, size_t capacity) {
     struct bytes value = {0};
-    int fault = begin_bytes(req, number);
-    if (!fault) fault = extended_get(mount_of(req), entry_of(req, number), name, &value);
-    fault = leave(mount_of(req), fault);
-    answer_sized(req, fault, &value, room);
+    int err = begin_bytes(req, ino);
+    if (!err) err = extended_get(mount_of(req), inode_of(req, ino), name, &value);
+    err = request_end(mount_of(req), err);
+    answer_sized(req, err, &value, capacity);
     bytes_free(&value);
 }
 
-static void on_listxattr(fuse_req_t req, fuse_ino_t number, size_t room) {
+static void on_listxattr(fuse_req_t req, fuse_ino_t ino, size_t capacity) {
     struct bytes names = {0};
-    int fault = begin_bytes(req, number);
-    if (!fault) fault = extended_list(mount_of(req), entry_of(req, number), &names);
-    fault = leave(mount_of(req), fault);
-    answer_sized(req, fault, &names, room);
+    int err = begin_bytes(req, ino);
+    if (!err) err = extended_list(mount_of(req), inode_of(req, ino), &names);
+    err = request_end(mount_of(req), err);
+    answer_sized(req, err, &names, capacity);
     bytes_free(&names);
 }
 
 // Of kernels since 6.16: all names that the kernel knows are asked for anew. Older ones refuse it.
-bool requests_tell_names_stale(void) {
+bool requests_invalidate_names(void) {
     enum { ALL_NAMES_ARE_STALE = 8 };
     struct {
         uint32_t length;
@@ -660,13 +660,13 @@ bool requests_tell_names_stale(void) {
 }
 
 // Tells the kernel to forget what it knows. It may wait for other requests, so no lock is held.
-static void tell_stale(struct bytes *list) {
-    struct stale *stale = (struct stale *)list->at;
-    bool knows_names = !requests_tell_names_stale();
+static void notify_stale(struct bytes *list) {
+    struct stale_dentry *stale = (struct stale_dentry *)list->at;
+    bool knows_names = !requests_invalidate_names();
     for (size_t i = 0; i < list->length / sizeof *stale; i++) {
-        if (stale[i].parent && knows_names)
-            fuse_lowlevel_notify_inval_entry(session, stale[i].parent, stale[i].name, strlen(stale[i].name));
-        if (stale[i].entry) fuse_lowlevel_notify_inval_inode(session, stale[i].entry, 0, 0);
+        if (stale[i].parent_ino && knows_names)
+            fuse_lowlevel_notify_inval_entry(session, stale[i].parent_ino, stale[i].name, strlen(stale[i].name));
+        if (stale[i].ino) fuse_lowlevel_notify_inval_inode(session, stale[i].ino, 0, 0);
         free(stale[i].name);
     }
     fuse_lowlevel_notify_inval_inode(session, FUSE_ROOT_ID, -1, 0);
@@ -682,13 +682,13 @@ struct restoring {
 static void *restore(void *argument) {
     struct restoring *restoring = argument;
     struct bytes stale = {0};
-    int fault = begin(restoring->req);
-    if (!fault) fault = snapshot_restore(mount_of(restoring->req), restoring->wanted.name, &stale);
+    int err = request_begin(restoring->req);
+    if (!err) err = snapshot_restore(mount_of(restoring->req), restoring->wanted.name, &stale);
     struct store *store = mount_of(restoring->req)->store;
-    fault = leave(mount_of(restoring->req), fault);
-    if (!fault && store && store_syncs_each(store)) fault = store_sync(store);
-    tell_stale(&stale);
-    if (fault) fuse_reply_err(restoring->req, fault);
+    err = request_end(mount_of(restoring->req), err);
+    if (!err && store && store_syncs_each(store)) err = store_sync(store);
+    notify_stale(&stale);
+    if (err) fuse_reply_err(restoring->req, err);
     else fuse_reply_ioctl(restoring->req, 0, 0, 0);
     free(restoring);
     threads--;
@@ -698,10 +698,10 @@ static void *restore(void *argument) {
 static int start_thread(void *(*run)(void *argument), void *argument) {
     pthread_t thread;
     threads++;
-    int fault = pthread_create(&thread, 0, run, argument);
-    if (fault) threads--;
+    int err = pthread_create(&thread, 0, run, argument);
+    if (err) threads--;
     else pthread_detach(thread);
-    return fault;
+    return err;
 }
 
 static int start_restoring(fuse_req_t req, const struct restore_request *wanted) {
@@ -709,9 +709,9 @@ static int start_restoring(fuse_req_t req, const struct restore_request *wanted)
     struct restoring *restoring = malloc(sizeof *restoring);
     if (!restoring) return ENOMEM;
     *restoring = (struct restoring){req, *wanted};
-    int fault = start_thread(restore, restoring);
-    if (fault) free(restoring);
-    return fault;
+    int err = start_thread(restore, restoring);
+    if (err) free(restoring);
+    return err;
 }
 
 struct receiving {
@@ -725,12 +725,12 @@ static void *receive(void *argument) {
     struct mount *mount = mount_of(receiving->req);
     struct bytes stale = {0};
     struct delta_answer answer;
-    int fault = begin(receiving->req);
-    if (!fault) fault = delta_apply(mount, &receiving->text, &answer, &stale);
-    fault = leave(mount, fault);
-    if (!fault && mount->store) fault = store_sync(mount->store);
-    tell_stale(&stale);
-    if (fault) fuse_reply_err(receiving->req, fault);
+    int err = request_begin(receiving->req);
+    if (!err) err = delta_apply(mount, &receiving->text, &answer, &stale);
+    err = request_end(mount, err);
+    if (!err && mount->store) err = store_sync(mount->store);
+    notify_stale(&stale);
+    if (err) fuse_reply_err(receiving->req, err);
     else fuse_reply_ioctl(receiving->req, 0, &answer, sizeof answer);
     bytes_free(&receiving->text);
     free(receiving);
@@ -739,42 +739,42 @@ static void *receive(void *argument) {
 }
 
 static int start_receiving(fuse_req_t req, struct handle *handle) {
-    struct receiving *receiving = mount_of(req)->volume.tree ? malloc(sizeof *receiving) : 0;
-    if (!receiving) return mount_of(req)->volume.tree ? ENOMEM : EOPNOTSUPP;
+    struct receiving *receiving = mount_of(req)->backend.tree ? malloc(sizeof *receiving) : 0;
+    if (!receiving) return mount_of(req)->backend.tree ? ENOMEM : EOPNOTSUPP;
     *receiving = (struct receiving){req, handle->text};
     handle->text = (struct bytes){0};
-    int fault = start_thread(receive, receiving);
-    if (!fault) return 0;
+    int err = start_thread(receive, receiving);
+    if (!err) return 0;
     bytes_free(&receiving->text);
     free(receiving);
-    return fault;
+    return err;
 }
 
 // A text takes no more memory than a call that makes the tree grow.
 static int take_coming_piece(fuse_req_t req, const struct delta_piece *piece, struct handle *handle) {
     if (piece->count > sizeof piece->bytes) return EINVAL;
-    if (!mount_of(req)->volume.tree) return EOPNOTSUPP;
-    room_begin();
-    int fault = bytes_append(&handle->text, piece->bytes, piece->count);
-    room_lift();
-    if (!fault) fuse_reply_ioctl(req, 0, 0, 0);
-    return fault ? ENOSPC : 0;
+    if (!mount_of(req)->backend.tree) return EOPNOTSUPP;
+    memlimit_begin();
+    int err = bytes_append(&handle->text, piece->bytes, piece->count);
+    memlimit_suspend();
+    if (!err) fuse_reply_ioctl(req, 0, 0, 0);
+    return err ? ENOSPC : 0;
 }
 
-static int answer_ending(fuse_req_t req) {
-    struct ending_place place = ending_place();
-    fuse_reply_ioctl(req, 0, &place, sizeof place);
+static int answer_exit_report(fuse_req_t req) {
+    struct exit_report_pipe pipe = exit_report_pipe();
+    fuse_reply_ioctl(req, 0, &pipe, sizeof pipe);
     return 0;
 }
 
 static int answer_send(fuse_req_t req, const struct send_request *wanted, struct handle *handle) {
     struct mount *mount = mount_of(req);
     handle->text.length = handle->sent = 0;
-    int fault = begin(req);
-    if (!fault) fault = delta_print(mount, wanted, &handle->text);
-    fault = leave(mount, fault);
-    if (!fault) fuse_reply_ioctl(req, 0, 0, 0);
-    return fault;
+    int err = request_begin(req);
+    if (!err) err = delta_print(mount, wanted, &handle->text);
+    err = request_end(mount, err);
+    if (!err) fuse_reply_ioctl(req, 0, 0, 0);
+    return err;
 }
 
 static int answer_sent_piece(fuse_req_t req, struct handle *handle) {
@@ -791,7 +791,7 @@ static int answer_sent_piece(fuse_req_t req, struct handle *handle) {
 static int answer_asked(fuse_req_t req, unsigned what, const void *in, struct handle *handle) {
     switch (what) {
     case RESTORE_REQUEST: return start_restoring(req, in);
-    case ENDING_REQUEST: return answer_ending(req);
+    case EXIT_REPORT_REQUEST: return answer_exit_report(req);
     case SEND_REQUEST: return answer_send(req, in, handle);
     case SENT_PIECE_REQUEST: return answer_sent_piece(req, handle);
     case COMING_PIECE_REQUEST: return take_coming_piece(req, in, handle);
@@ -800,17 +800,17 @@ static int answer_asked(fuse_req_t req, unsigned what, const void *in, struct ha
     }
 }
 
-static void on_ioctl(fuse_req_t req, fuse_ino_t number, unsigned what, void *argument, struct fuse_file_info *info,
+static void on_ioctl(fuse_req_t req, fuse_ino_t ino, unsigned what, void *argument, struct fuse_file_info *info,
                      unsigned flags, const void *in, size_t in_size, size_t out_size) {
     (void)argument, (void)flags;
     uid_t asks = fuse_req_ctx(req)->uid;
     struct handle *handle = handle_of(info);
     bool has_all = in_size == (_IOC_DIR(what) & _IOC_WRITE ? _IOC_SIZE(what) : 0) &&
                    out_size == (_IOC_DIR(what) & _IOC_READ ? _IOC_SIZE(what) : 0);
-    int fault = ENOTTY;
-    if (asks && asks != getuid()) fault = EPERM;
-    else if (number == FUSE_ROOT_ID && handle && has_all) fault = answer_asked(req, what, in, handle);
-    if (fault) fuse_reply_err(req, fault);
+    int err = ENOTTY;
+    if (asks && asks != getuid()) err = EPERM;
+    else if (ino == FUSE_ROOT_ID && handle && has_all) err = answer_asked(req, what, in, handle);
+    if (err) fuse_reply_err(req, err);
 }
 
 const struct fuse_lowlevel_ops requests = {

@@ -2,7 +2,7 @@
 #ifndef REQUESTS_H
 #define REQUESTS_H
 #define FUSE_USE_VERSION 35
-#include "files.h"
+#include "fs_ops.h"
 #include <fuse3/fuse_lowlevel.h>
 #include <sys/ioctl.h>
 
@@ -16,17 +16,17 @@ extern const struct fuse_lowlevel_ops requests;
 // The session that requests come by. What others change too the kernel knows for a second.
 void requests_use(struct fuse_session *session, bool is_shared);
 // All names that the kernel knows are asked for anew: kernels before 6.16 refuse that.
-bool requests_tell_names_stale(void);
+bool requests_invalidate_names(void);
 // Whether a thread is at work on one still. The session and the volume have to stand until then.
 bool requests_are_under_way(void);
 // Between two requests: does one step of the tree that is due, and those that have waited for long; then looks for the
 // next request, and does the others where none comes.
-void requests_rest(struct mount *mount);
+void requests_idle(struct mount *mount);
 // Whether a file whose name was removed waits for the kernel to forget it.
 bool requests_wait_for_forget(const struct mount *mount);
 // Keeps requests out, until they go on.
-void requests_pause(void);
-void requests_go_on(void);
+void requests_lock(void);
+void requests_unlock(void);
 // Whether it is this thread that keeps them out.
-bool requests_are_paused(void);
+bool requests_are_locked(void);
 #endif

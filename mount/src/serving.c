@@ -1,11 +1,15 @@
+// A mount from start to end: opens the backend, mounts, serves, unmounts, writes the image and closes the backend.
+//
+// Invariant: no signal ends the process between the last request and the end of the image. The status is 0 only if all
+// that was to be kept is kept.
 #include "serving.h"
-#include "awake.h"
-#include "ending.h"
+#include "busy_poll.h"
+#include "exit_report.h"
 #include "image.h"
 #include "readahead.h"
 #include "replica.h"
 #include "requests.h"
-#include "room.h"
+#include "memlimit.h"
 #include "snapshots.h"
 #include "store.h"
 #include <errno.h>
@@ -17,22 +21,22 @@
 #include <stdio.h>
 #include <unistd.h>
 
-static int open_way(const struct making *making, struct mount *mount) {
-    if (making->replica.members) return replica_open(making, mount);
-    if (making->store) return store_open(making, &mount->volume, &mount->store);
-    return making->betr ? open_pipe(making, &mount->volume) : open_library(making, &mount->volume);
+static int open_backend(const struct open_options *open_options, struct mount *mount) {
+    if (open_options->replica.members) return replica_open(open_options, mount);
+    if (open_options->store) return store_open(open_options, &mount->backend, &mount->store);
+    return open_options->betr ? open_pipe(open_options, &mount->backend) : open_library(open_options, &mount->backend);
 }
 
 static int open_volume(const struct options *options, struct mount *mount) {
-    const struct making *making = &options->making;
-    int fault = open_way(making, mount);
-    if (fault) return fault;
-    if (making->log) fault = open_log(making, &mount->volume);
-    if (!fault) fault = files_start(mount);
-    if (!fault && mount->store) fault = snapshots_find(mount);
-    if (!fault && mount->store) fault = store_keep(mount->store, mount);
-    if (fault) mount->volume.way->close(mount->volume.self, 0);
-    return fault;
+    const struct open_options *open_options = &options->open;
+    int err = open_backend(open_options, mount);
+    if (err) return err;
+    if (open_options->trace) err = open_trace(open_options, &mount->backend);
+    if (!err) err = fs_start(mount);
+    if (!err && mount->store) err = snapshots_find(mount);
+    if (!err && mount->store) err = store_start_writeback(mount->store, mount);
+    if (err) mount->backend.ops->close(mount->backend.self, 0);
+    return err;
 }
 
 // From here on the tree goes into its image: no signal of the terminal or of kill(1) ends that.
@@ -62,7 +66,8 @@ static bool receive_now(struct fuse_session *session, struct fuse_buf *buffer) {
     return got > 0;
 }
 
-// A file whose name was removed waits until the kernel forgets it, and is set aside if another request is served before.
+// A file whose name was removed waits until the kernel forgets it, and becomes an orphan if another request is served
+// before.
 // The kernel hands out a request before what it forgot: so that is served first. Whether a request was read instead.
 static bool serve_forgets(struct fuse_session *session, struct mount *mount, struct fuse_buf *buffer) {
     while (requests_wait_for_forget(mount)) {
@@ -75,10 +80,11 @@ static bool serve_forgets(struct fuse_session *session, struct mount *mount, str
 
 static void serve_read(struct fuse_session *session, struct mount *mount, const struct fuse_buf *buffer) {
     fuse_session_process_buf(session, buffer);
-    requests_rest(mount);
+    requests_idle(mount);
 }
 
-// Serves until a signal or an unmount, which are good ends. On a busy machine the kernel answers the last read before an
+// Serves until a signal or an unmount, which are good ends. On a busy machine the kernel answers the last read before
+// an
 // unmount by ECONNABORTED, too.
 static int serve_all(struct fuse_session *session, struct mount *mount, struct fuse_buf *buffer) {
     static struct fuse_buf other;
@@ -86,7 +92,7 @@ static int serve_all(struct fuse_session *session, struct mount *mount, struct f
     while (!fuse_session_exited(session) && (got > 0 || got == -EINTR)) {
         got = fuse_session_receive_buf(session, buffer);
         if (got <= 0) continue;
-        awake_notes();
+        busy_poll_note();
         bool has_other = !is_forget(buffer) && serve_forgets(session, mount, &other);
         serve_read(session, mount, buffer);
         if (has_other) serve_read(session, mount, &other);
@@ -107,7 +113,7 @@ static int serve(struct fuse_session *session, struct mount *mount) {
 
 // What stands as the source in the table of mounts: the store. A comma or a backslash of it is none of the options.
 static void name_source(const struct options *options, char out[2 * PATH_MAX]) {
-    const char *from = options->making.store ? options->making.store : "doorvervain";
+    const char *from = options->open.store ? options->open.store : "doorvervain";
     for (; *from && *from != '\n'; from++) {
         if (*from == ',' || *from == '\\') *out++ = '\\';
         *out++ = *from;
@@ -120,7 +126,7 @@ static struct fuse_session *open_session(const struct options *options, struct m
     static char source[2 * PATH_MAX], how[sizeof source + 128];
     name_source(options, source);
     snprintf(how, sizeof how, "default_permissions,fsname=%s,subtype=doorvervain%s%s", source,
-             options->allows_other ? ",allow_other" : "", options->trusts ? ",suid,dev" : "");
+             options->allows_other ? ",allow_other" : "", options->trusts_attributes ? ",suid,dev" : "");
     char *words[] = {"doorvervain-mount", "-o", how, 0};
     struct fuse_args args = FUSE_ARGS_INIT(3, words);
     struct fuse_session *session = fuse_session_new(&args, &requests, sizeof requests, mount);
@@ -146,28 +152,28 @@ static int mount_and_serve(const struct options *options, struct mount *mount, v
     return status;
 }
 
-static int keep_image(struct image *image, int fault) {
-    if (fault) {
-        ending_say("no image is written to ", image->file, fault);
+static int save_image(struct image *image, int err) {
+    if (err) {
+        exit_report_error("no image is written to ", image->file, err);
         image_drop(image);
         return 1;
     }
-    fault = image_keep(image);
-    if (fault) ending_say("the tree is left in the file with .part behind its name: ", image->file, fault);
-    return fault != 0;
+    err = image_keep(image);
+    if (err) exit_report_error("the tree is left in the file with .part behind its name: ", image->file, err);
+    return err != 0;
 }
 
 // Nothing is open any more, so nothing that was unlinked goes into the image. What a store may not change any more its
 // next mount takes out.
 static int close_volume(struct mount *mount, struct image *image) {
-    int fault = files_end(mount);
+    int err = fs_end(mount);
     if (mount->replica) replica_end(mount);
-    if (mount->store) fault = 0;
-    if (fault) ending_say("unlinked files are kept", "", fault);
-    int other = mount->volume.way->close(mount->volume.self, image);
-    if (image) return keep_image(image, other) || fault;
-    if (other) ending_say("the volume or its log did not end well", "", other);
-    return fault || other;
+    if (mount->store) err = 0;
+    if (err) exit_report_error("unlinked files are kept", "", err);
+    int other = mount->backend.ops->close(mount->backend.self, image);
+    if (image) return save_image(image, other) || err;
+    if (other) exit_report_error("the volume or its log did not end well", "", other);
+    return err || other;
 }
 
 // Room for the bytes of a large read is used again, and not asked from the kernel for each.
@@ -178,7 +184,7 @@ static void keep_memory(void) {
 
 // What was mounted may be kept, and nothing else: where no mount comes to stand, the file is as it was.
 static int serve_volume(const struct options *options, struct image *image, void (*stands)(void)) {
-    struct mount mount = {.trusts = options->trusts || !options->making.image};
+    struct mount mount = {.trusts_attributes = options->trusts_attributes || !options->open.image};
     bool stood = false;
     int status = open_volume(options, &mount) != 0;
     if (!status) {
@@ -191,11 +197,11 @@ static int serve_volume(const struct options *options, struct image *image, void
 
 int serve_mount(const struct options *options, void (*stands)(void)) {
     static struct image image;
-    int fault = options->making.image ? image_check(options->making.image) : 0;
-    if (!fault && options->image) fault = image_open(&image, options->image);
-    if (fault || ending_open()) return 1;
+    int err = options->open.image ? image_check(options->open.image) : 0;
+    if (!err && options->image) err = image_open(&image, options->image);
+    if (err || exit_report_open()) return 1;
     keep_memory();
-    room_set_size(options->size);
-    awake_set(options->awake);
-    return ending_tell(serve_volume(options, options->image ? &image : 0, stands));
+    memlimit_set(options->size);
+    busy_poll_set(options->busy_poll);
+    return exit_report_status(serve_volume(options, options->image ? &image : 0, stands));
 }

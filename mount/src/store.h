@@ -2,30 +2,31 @@
 //
 // In it lie `tree.N`, an image, `snapshots.N` where some stood then, and `log.N`, `log.N+1` .., in which each request
 // that changed something since has one record; `lock` keeps a second mount out. A change is in memory when it is
-// answered. It is on the disk once the log is synced: by fsync(2), every five seconds, and when the mount is taken away.
+// answered. It is on the disk once the log is synced: by fsync(2), every five seconds, and when the mount is taken
+// away.
 #ifndef STORE_H
 #define STORE_H
 #include "mount.h"
 
 struct store;
 
-// Opens the store of `making`: the volume stands as it was left, and all calls go by the store from then on. What
+// Opens the store of `options`: the volume stands as it was left, and all calls go by the store from then on. What
 // failed is said on standard error, and nothing was written then.
-int store_open(const struct making *making, struct volume *volume, struct store **out);
+int store_open(const struct open_options *options, struct backend *backend, struct store **out);
 // Prints the logs in the folder of a store as lines of a script; the status of its process. What failed is said.
-int store_lines(const char *folder);
+int store_dump_wal(const char *folder);
 // The names of the snapshots that stand: each with a byte 0 behind it.
 int store_snapshots(struct store *store, struct bytes *out);
 // Begins to sync in time, and to write images, by a thread of its own, until the volume is closed.
-int store_keep(struct store *store, struct mount *mount);
+int store_start_writeback(struct store *store, struct mount *mount);
 
 // What waits for the disk: `answer` is called when it has come, or failed, by another thread, with no lock.
 struct waiter {
     struct waiter *next;
-    void (*answer)(struct waiter *self, int fault);
+    void (*answer)(struct waiter *self, int err);
 };
 
-// Called under the lock of requests. At its end a request is one record; `has_changed`: it changed something.
+// Called under the request lock. At its end a request is one record; `has_changed`: it changed something.
 int store_end_request(struct store *store, bool *has_changed);
 
 // The others are called with no lock.
@@ -33,17 +34,18 @@ bool store_syncs_each(const struct store *store);
 // Whether changes are refused, since the log is not kept any more.
 bool store_refuses(const struct store *store);
 // Between two requests: what is about to be synced is written, by another thread where the disk is slow.
-void store_rest(struct store *store);
+void store_idle(struct store *store);
 // Brings all that was answered onto the disk, and waits for that.
 int store_sync(struct store *store);
-// The same where it is soon done: little waits, the disk was quick the last time, and no thread waits for it. Else false.
-bool store_syncs_soon(struct store *store, int *fault);
+// The same where it is soon done: little waits, the disk was quick the last time, and no thread waits for it. Else
+// false.
+bool store_try_sync(struct store *store, int *err);
 // The same by another thread: all that wait for the next sync share it.
 void store_wait_for_sync(struct store *store, struct waiter *waiter);
 // Whether so much waits to be written that no change is to be answered.
 bool store_is_full(const struct store *store);
 // Waits until there is room again: false where there is.
-bool store_waits_for_room(struct store *store, struct waiter *waiter);
+bool store_wait_for_space(struct store *store, struct waiter *waiter);
 // How many syncs have failed.
-uint64_t store_failures(struct store *store);
+uint64_t store_sync_errseq(struct store *store);
 #endif

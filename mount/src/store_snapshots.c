@@ -1,6 +1,10 @@
-// Snapshots of a store: which of them stand, how they go beside an image, and how they are made of it again.
-#include "differ.h"
-#include "patch.h"
+// The snapshots of a store: which exist, how they are written beside a checkpoint, and how they are restored ("Delta"
+// in docs/FORMATS.md, at its end).
+//
+// Validity: `snapshots.N` counts if its SHA-256 digest is that of `snapshots.N.sum`, and each delta applies to the tree
+// before it. Invariant: it is on the disk before `tree.N` gets its name.
+#include "delta_print.h"
+#include "delta_parse.h"
 #include "requests.h"
 #include "snapshots.h"
 #include "store_inside.h"
@@ -27,7 +31,7 @@ static unsigned find(const struct snapshots *all, const char *name) {
 }
 
 static void add(struct store *store, struct snapshots *to, const char *name) {
-    if (to->count == MOST_SNAPSHOTS) return;
+    if (to->count == MAX_SNAPSHOTS) return;
     struct snapshot *last = &to->at[to->count++];
     snprintf(last->name, sizeof last->name, "%s", name);
     last->number = ++store->last_snapshot;
@@ -38,21 +42,21 @@ static void take_out(struct snapshots *from, unsigned index) {
     memmove(&from->at[index], &from->at[index + 1], (from->count - index) * sizeof *from->at);
 }
 
-void store_note_snapshot(struct store *store, enum keeping what, const char *name) {
+void store_note_snapshot(struct store *store, enum snapshot_call what, const char *name) {
     unsigned index = find(&store->snapshots, name);
     if (what == TAKE_SNAPSHOT) add(store, &store->snapshots, name);
     if (what == DROP_SNAPSHOT && index < store->snapshots.count) take_out(&store->snapshots, index);
 }
 
-bool store_has_too_many(const struct store *store) { return store->snapshots.count > MOST_KEPT; }
+bool store_has_too_many(const struct store *store) { return store->snapshots.count > MAX_STORED_SNAPSHOTS; }
 
 int store_snapshots(struct store *store, struct bytes *out) {
-    int fault = 0;
-    for (unsigned i = 0; !fault && i < store->snapshots.count; i++) {
+    int err = 0;
+    for (unsigned i = 0; !err && i < store->snapshots.count; i++) {
         const char *name = store->snapshots.at[i].name;
-        fault = bytes_append(out, name, strlen(name) + 1);
+        err = bytes_append(out, name, strlen(name) + 1);
     }
-    return fault;
+    return err;
 }
 
 // Those that the volume has, in the order of their names.
@@ -76,163 +80,164 @@ static void sift(struct store *store, const struct snapshots *some, const struct
 
 int store_find_snapshots(struct store *store) {
     struct snapshots made = store->snapshots, stand = {0};
-    int fault = list(store, &stand);
+    int err = list(store, &stand);
     store->snapshots.count = 0;
     sift(store, &made, &stand, true);
     sift(store, &stand, &made, false);
-    if (fault) store_say(store, "%s", strerror(fault));
-    return fault;
+    if (err) store_report(store, "%s", strerror(err));
+    return err;
 }
 
 // ---- their trees at one moment
 
 static int freeze(struct store *store, const char *name, struct doorvervain_frozen *out) {
-    return doorvervain_errno(doorvervain_frozen(store->volume, (const uint8_t *)name, strlen(name), out));
+    return doorvervain_errno(doorvervain_open_snapshot(store->volume, (const uint8_t *)name, strlen(name), out));
 }
 
 int store_freeze_snapshots(struct store *store, struct frozen_snapshots *out) {
     unsigned count = store->snapshots.count;
-    int fault = count ? doorvervain_errno(doorvervain_freeze(store->volume, &out->old[0])) : 0;
-    for (unsigned i = 0; !fault && i < count; i++) {
+    int err = count ? doorvervain_errno(doorvervain_freeze(store->volume, &out->old[0])) : 0;
+    for (unsigned i = 0; !err && i < count; i++) {
         out->at[i] = store->snapshots.at[count - 1 - i];
         out->count = i + 1;
-        fault = freeze(store, out->at[i].name, &out->new[i]);
-        if (!fault && i + 1 < count) fault = freeze(store, out->at[i].name, &out->old[i + 1]);
+        err = freeze(store, out->at[i].name, &out->new[i]);
+        if (!err && i + 1 < count) err = freeze(store, out->at[i].name, &out->old[i + 1]);
     }
-    return fault;
+    return err;
 }
 
 static void thaw(struct doorvervain_frozen *tree) {
-    requests_pause();
-    doorvervain_thaw(tree);
-    requests_go_on();
+    requests_lock();
+    doorvervain_frozen_close(tree);
+    requests_unlock();
 }
 
 void store_thaw_snapshots(struct frozen_snapshots *frozen) {
-    for (unsigned i = 0; i < MOST_KEPT; i++) {
-        if (frozen->new[i].at) thaw(&frozen->new[i]);
-        if (frozen->old[i].at) thaw(&frozen->old[i]);
+    for (unsigned i = 0; i < MAX_STORED_SNAPSHOTS; i++) {
+        if (frozen->new[i].ptr) thaw(&frozen->new[i]);
+        if (frozen->old[i].ptr) thaw(&frozen->old[i]);
     }
 }
 
 // ---- they are written
 
 // The file that is written.
-struct putting {
-    struct part part;
-    struct told_snapshots *told;
-    struct sum text;          // of the one that is told
-    char sum[SUM_DIGITS + 1]; // of the image of the tree that was told last
+struct snapshot_writer {
+    struct checkpoint_file file;
+    struct snapshot_index *index;
+    struct sha256 text;          // of the one that is told
+    char sum[SHA256_DIGITS + 1]; // of the image of the tree that was told last
 };
 
 // Lines that are alike take little time between two pieces: so a request that waits for the lock gets it.
-static int next_piece(void *self, struct doorvervain_printing *image, uint8_t *out, size_t room, size_t *size) {
-    struct putting *putting = self;
+static int next_piece(void *self, struct doorvervain_printer *image, uint8_t *out, size_t capacity, size_t *size) {
+    struct snapshot_writer *writer = self;
     nanosleep(&(struct timespec){0, REST}, 0);
-    return store_print(&putting->part, image, out, room, size);
+    return store_print(&writer->file, image, out, capacity, size);
 }
 
 static int put_text(void *self, const char *bytes, size_t count) {
-    struct putting *putting = self;
-    int fault = sum_add(&putting->text, bytes, count);
-    return fault ? fault : store_put(&putting->part, bytes, count);
+    struct snapshot_writer *writer = self;
+    int err = sha256_add(&writer->text, bytes, count);
+    return err ? err : store_put_bytes(&writer->file, bytes, count);
 }
 
-static int begin_printing(struct doorvervain_printing *printing, struct doorvervain_frozen *tree) {
-    requests_pause();
-    int fault = doorvervain_errno(doorvervain_print_begin(printing, tree));
-    requests_go_on();
-    return fault;
+static int begin_printing(struct doorvervain_printer *printing, struct doorvervain_frozen *tree) {
+    requests_lock();
+    int err = doorvervain_errno(doorvervain_print_begin(printing, tree));
+    requests_unlock();
+    return err;
 }
 
-static void end_printing(struct doorvervain_printing *printing) {
-    requests_pause();
+static void end_printing(struct doorvervain_printer *printing) {
+    requests_lock();
     doorvervain_print_end(printing);
-    requests_go_on();
+    requests_unlock();
 }
 
-static int put_difference(struct putting *putting, struct doorvervain_frozen *old, struct doorvervain_frozen *new) {
-    struct differ differ = {next_piece, put_text, putting};
-    struct doorvervain_printing from = {0}, to = {0};
-    int fault = begin_printing(&from, old);
-    if (!fault) fault = begin_printing(&to, new);
-    if (!fault) fault = differ_print(&differ, &from, &to, putting->sum);
+static int put_difference(struct snapshot_writer *writer, struct doorvervain_frozen *old,
+                          struct doorvervain_frozen *new) {
+    struct delta_io io = {.next = next_piece, .put = put_text, .self = writer};
+    struct doorvervain_printer from = {0}, to = {0};
+    int err = begin_printing(&from, old);
+    if (!err) err = begin_printing(&to, new);
+    if (!err) err = delta_print_images(&io, &from, &to, writer->sum);
     end_printing(&from);
     end_printing(&to);
-    return fault;
+    return err;
 }
 
 // The next bytes of the last file: 0, or why there are none.
-static int copy_piece(struct putting *putting, int file, uint64_t from, uint64_t left, size_t *size) {
+static int copy_piece(struct snapshot_writer *writer, int file, uint64_t from, uint64_t left, size_t *size) {
     static char piece[PIECE];
     ssize_t got;
     do got = pread(file, piece, left < PIECE ? (size_t)left : PIECE, (off_t)from);
     while (got < 0 && errno == EINTR);
     if (got <= 0) return got ? errno : EIO;
     *size = (size_t)got;
-    int fault = put_text(putting, piece, *size);
-    return fault ? fault : store_tend(&putting->part);
+    int err = put_text(writer, piece, *size);
+    return err ? err : writeback_tick(&writer->file);
 }
 
-static int copy_text(struct putting *putting, const struct told_snapshot *told) {
-    const struct store *store = putting->part.store;
+static int copy_text(struct snapshot_writer *writer, const struct snapshot_entry *entry) {
+    const struct store *store = writer->file.store;
     char name[STORE_NAME];
     uint64_t done = 0;
-    store_name(name, kind, store->told_snapshots.file);
-    int file = openat(store->directory, name, O_RDONLY | O_CLOEXEC | O_NOFOLLOW), fault = file < 0 ? errno : 0;
-    while (!fault && done < told->length) {
+    store_name(name, kind, store->snapshot_index.file);
+    int file = openat(store->directory, name, O_RDONLY | O_CLOEXEC | O_NOFOLLOW), err = file < 0 ? errno : 0;
+    while (!err && done < entry->length) {
         size_t size = 0;
-        fault = copy_piece(putting, file, told->from + done, told->length - done, &size);
+        err = copy_piece(writer, file, entry->from + done, entry->length - done, &size);
         done += size;
     }
     if (file >= 0) close(file);
-    memcpy(putting->sum, told->image_sum, sizeof putting->sum);
-    return fault;
+    memcpy(writer->sum, entry->image_sum, sizeof writer->sum);
+    return err;
 }
 
 // Snapshots do not change: so the text of one stands in the last file, where it was told of the same one there.
-static const struct told_snapshot *find_told(const struct store *store, uint64_t number, uint64_t over) {
-    const struct told_snapshots *all = &store->told_snapshots;
+static const struct snapshot_entry *find_entry(const struct store *store, uint64_t number, uint64_t over) {
+    const struct snapshot_index *all = &store->snapshot_index;
     for (unsigned i = 0; over && i < all->count; i++)
         if (all->at[i].number == number && all->at[i].over == over) return &all->at[i];
     return 0;
 }
 
-static int put_body(struct putting *putting, struct frozen_snapshots *frozen, unsigned index) {
-    struct store *store = putting->part.store;
-    struct told_snapshot *told = &putting->told->at[index];
-    const struct told_snapshot *before = find_told(store, told->number, told->over);
-    int fault = sum_begin(&putting->text);
-    if (!fault && before) fault = copy_text(putting, before);
-    else if (!fault) fault = put_difference(putting, &frozen->old[index], &frozen->new[index]);
-    int other = sum_end(&putting->text, told->text_sum);
-    if (!fault) fault = other;
-    if (!fault && before && strcmp(before->text_sum, told->text_sum)) fault = EIO;
-    if (fault && before) store->told_snapshots.count = 0; // What could not be copied is printed then.
-    return fault;
+static int put_body(struct snapshot_writer *writer, struct frozen_snapshots *frozen, unsigned index) {
+    struct store *store = writer->file.store;
+    struct snapshot_entry *entry = &writer->index->at[index];
+    const struct snapshot_entry *before = find_entry(store, entry->number, entry->over);
+    int err = sha256_begin(&writer->text);
+    if (!err && before) err = copy_text(writer, before);
+    else if (!err) err = put_difference(writer, &frozen->old[index], &frozen->new[index]);
+    int other = sha256_end(&writer->text, entry->text_sum);
+    if (!err) err = other;
+    if (!err && before && strcmp(before->text_sum, entry->text_sum)) err = EIO;
+    if (err && before) store->snapshot_index.count = 0; // What could not be copied is printed then.
+    return err;
 }
 
-static int put_one(struct putting *putting, struct frozen_snapshots *frozen, unsigned index) {
-    struct told_snapshot *told = &putting->told->at[index];
+static int put_one(struct snapshot_writer *writer, struct frozen_snapshots *frozen, unsigned index) {
+    struct snapshot_entry *entry = &writer->index->at[index];
     struct bytes heading = {0};
-    int fault = bytes_print(&heading, "snapshot %s\n", frozen->at[index].name);
-    if (!fault) fault = store_put(&putting->part, heading.at, heading.length);
+    int err = bytes_print(&heading, "snapshot %s\n", frozen->at[index].name);
+    if (!err) err = store_put_bytes(&writer->file, heading.at, heading.length);
     bytes_free(&heading);
-    if (fault) return fault;
-    told->number = frozen->at[index].number;
-    told->over = index ? frozen->at[index - 1].number : 0;
-    told->from = putting->part.size;
-    fault = put_body(putting, frozen, index);
-    told->length = putting->part.size - told->from;
-    memcpy(told->image_sum, putting->sum, sizeof told->image_sum);
-    putting->told->count = index + 1;
-    return fault;
+    if (err) return err;
+    entry->number = frozen->at[index].number;
+    entry->over = index ? frozen->at[index - 1].number : 0;
+    entry->from = writer->file.size;
+    err = put_body(writer, frozen, index);
+    entry->length = writer->file.size - entry->from;
+    memcpy(entry->image_sum, writer->sum, sizeof entry->image_sum);
+    writer->index->count = index + 1;
+    return err;
 }
 
-static int put_all(struct putting *putting, struct frozen_snapshots *frozen) {
-    int fault = 0;
-    for (unsigned i = 0; !fault && i < frozen->count; i++) fault = put_one(putting, frozen, i);
-    return fault;
+static int put_all(struct snapshot_writer *writer, struct frozen_snapshots *frozen) {
+    int err = 0;
+    for (unsigned i = 0; !err && i < frozen->count; i++) err = put_one(writer, frozen, i);
+    return err;
 }
 
 // What an image of the number left that did not get its name.
@@ -243,111 +248,111 @@ static void clear(const struct store *store, uint64_t number) {
     unlinkat(store->directory, strcat(name, ".sum"), 0);
 }
 
-int store_put_snapshots(const struct part *tree, uint64_t number, struct frozen_snapshots *frozen,
-                        struct told_snapshots *out, uint64_t *size) {
-    struct putting putting = {.part = {.store = tree->store, .meanwhile = tree->meanwhile}, .told = out};
+int store_put_snapshots(const struct checkpoint_file *tree, uint64_t number, struct frozen_snapshots *frozen,
+                        struct snapshot_index *out, uint64_t *size) {
+    struct snapshot_writer writer = {.file = {.store = tree->store, .meanwhile = tree->meanwhile}, .index = out};
     clear(tree->store, number);
     if (!frozen->count) return 0;
     out->file = number;
-    int fault = image_sum(&tree->image, putting.sum);
-    if (!fault) fault = store_open_part(&putting.part, kind, number);
-    if (fault) return fault;
-    fault = put_all(&putting, frozen);
-    *size = putting.part.size;
-    return store_end_part(&putting.part, fault);
+    int err = image_sum(&tree->image, writer.sum);
+    if (!err) err = store_open_checkpoint_file(&writer.file, kind, number);
+    if (err) return err;
+    err = put_all(&writer, frozen);
+    *size = writer.file.size;
+    return store_end_checkpoint_file(&writer.file, err);
 }
 
 // ---- they are made again
 
 // What is left of the file, and the snapshot whose text was read from it last.
-struct remaking {
+struct snapshot_reader {
     struct store *store;
-    const struct volume *volume;
+    const struct backend *backend;
     const char *at, *end;
-    char name[LONGEST_SNAPSHOT + 1], sum[SUM_DIGITS + 1];
+    char name[LONGEST_SNAPSHOT + 1], sum[SHA256_DIGITS + 1];
     struct bytes text; // in the file
     const char *why;   // it was refused; null: the fault tells
 };
 
 // Cuts the next line off, with its end: its length, 0 where there is none.
-static size_t next_line(struct remaking *remaking) {
-    const char *end = memchr(remaking->at, '\n', (size_t)(remaking->end - remaking->at));
-    size_t length = end ? (size_t)(end + 1 - remaking->at) : 0;
-    remaking->at += length;
+static size_t next_line(struct snapshot_reader *reader) {
+    const char *end = memchr(reader->at, '\n', (size_t)(reader->end - reader->at));
+    size_t length = end ? (size_t)(end + 1 - reader->at) : 0;
+    reader->at += length;
     return length;
 }
 
-static bool read_heading(struct remaking *remaking) {
+static bool read_heading(struct snapshot_reader *reader) {
     static const char word[] = "snapshot ";
-    const char *line = remaking->at;
-    size_t length = next_line(remaking), front = sizeof word - 1;
+    const char *line = reader->at;
+    size_t length = next_line(reader), front = sizeof word - 1;
     if (length < front + 2 || length > front + LONGEST_SNAPSHOT + 1 || memcmp(line, word, front)) return false;
-    memcpy(remaking->name, line + front, length - front - 1);
-    remaking->name[length - front - 1] = 0;
+    memcpy(reader->name, line + front, length - front - 1);
+    reader->name[length - front - 1] = 0;
     return true;
 }
 
 // Up to the line `end`.
-static bool read_text(struct remaking *remaking) {
-    const char *from = remaking->at, *line;
+static bool read_text(struct snapshot_reader *reader) {
+    const char *from = reader->at, *line;
     size_t length;
     do {
-        line = remaking->at;
-        length = next_line(remaking);
+        line = reader->at;
+        length = next_line(reader);
     } while (length && (length != 4 || memcmp(line, "end\n", 4)));
-    remaking->text = (struct bytes){(char *)(uintptr_t)from, (size_t)(remaking->at - from), 0};
+    reader->text = (struct bytes){(char *)(uintptr_t)from, (size_t)(reader->at - from), 0};
     return length;
 }
 
-static int refuse(struct remaking *remaking, const char *why) {
-    remaking->why = why;
+static int refuse(struct snapshot_reader *reader, const char *why) {
+    reader->why = why;
     return EINVAL;
 }
 
-static int keep(struct remaking *remaking, enum keeping what, const char *name) {
-    return remaking->volume->way->keep(remaking->volume->self, what, name);
+static int call_snapshot(struct snapshot_reader *reader, enum snapshot_call what, const char *name) {
+    return reader->backend->ops->snapshot(reader->backend->self, what, name);
 }
 
-static int apply(struct remaking *remaking) {
-    struct patch patch;
-    int fault = patch_read(&patch, remaking->volume->tree, &remaking->text);
-    if (fault == ENOENT) fault = refuse(remaking, "its text is the difference of another tree");
-    if (!fault) fault = patch_do(&patch, remaking->volume);
-    memcpy(remaking->sum, patch.sum, sizeof patch.sum);
-    patch_free(&patch);
-    return fault;
+static int apply(struct snapshot_reader *reader) {
+    struct delta delta;
+    int err = delta_parse(&delta, reader->backend->tree, &reader->text);
+    if (err == ENOENT) err = refuse(reader, "its text is the difference of another tree");
+    if (!err) err = delta_run(&delta, reader->backend);
+    memcpy(reader->sum, delta.sum, sizeof delta.sum);
+    delta_free(&delta);
+    return err;
 }
 
 // The live tree becomes that of the next snapshot.
-static int make_next(struct remaking *remaking) {
+static int make_next(struct snapshot_reader *reader) {
     uint64_t line = 0;
-    strcpy(remaking->name, "?");
-    if (!read_heading(remaking) || !read_text(remaking)) return refuse(remaking, "its text is cut off, or none");
-    int fault = patch_find_bad_line(&remaking->text, &line);
-    if (line) fault = refuse(remaking, "its text is no difference");
-    if (!fault) fault = apply(remaking);
-    if (!fault) fault = keep(remaking, TAKE_SNAPSHOT, remaking->name);
-    if (!fault) add(remaking->store, &remaking->store->snapshots, remaking->name);
-    return fault;
+    strcpy(reader->name, "?");
+    if (!read_heading(reader) || !read_text(reader)) return refuse(reader, "its text is cut off, or none");
+    int err = delta_find_bad_line(&reader->text, &line);
+    if (line) err = refuse(reader, "its text is no difference");
+    if (!err) err = apply(reader);
+    if (!err) err = call_snapshot(reader, TAKE_SNAPSHOT, reader->name);
+    if (!err) add(reader->store, &reader->store->snapshots, reader->name);
+    return err;
 }
 
-static int try_last(struct remaking *remaking) {
-    int fault = patch_try_sum(remaking->volume->tree, remaking->sum);
-    return fault == EINVAL ? refuse(remaking, "its tree has another checksum") : fault;
+static int try_last(struct snapshot_reader *reader) {
+    int err = delta_check_sum(reader->backend->tree, reader->sum);
+    return err == EINVAL ? refuse(reader, "its tree has another checksum") : err;
 }
 
 // The image of each tree is held against the checksum in the next text, and that of the last by itself.
-static int make_each(struct remaking *remaking) {
-    int fault = 0;
-    while (!fault && remaking->at < remaking->end) fault = make_next(remaking);
-    return fault ? fault : try_last(remaking);
+static int make_each(struct snapshot_reader *reader) {
+    int err = 0;
+    while (!err && reader->at < reader->end) err = make_next(reader);
+    return err ? err : try_last(reader);
 }
 
-static int make_all(struct remaking *remaking) {
-    int fault = keep(remaking, TAKE_SNAPSHOT, SNAPSHOT_KEPT);
-    if (!fault) fault = make_each(remaking);
-    if (!fault) fault = keep(remaking, RESTORE_SNAPSHOT, SNAPSHOT_KEPT);
-    return fault ? fault : keep(remaking, DROP_SNAPSHOT, SNAPSHOT_KEPT);
+static int make_all(struct snapshot_reader *reader) {
+    int err = call_snapshot(reader, TAKE_SNAPSHOT, SNAPSHOT_SAVEPOINT);
+    if (!err) err = make_each(reader);
+    if (!err) err = call_snapshot(reader, RESTORE_SNAPSHOT, SNAPSHOT_SAVEPOINT);
+    return err ? err : call_snapshot(reader, DROP_SNAPSHOT, SNAPSHOT_SAVEPOINT);
 }
 
 // The last that is told is the first that was taken.
@@ -359,27 +364,27 @@ static void turn(struct snapshots *all) {
     }
 }
 
-static int make_of_file(struct remaking *remaking, int file, uint64_t *size) {
+static int make_of_file(struct snapshot_reader *reader, int file, uint64_t *size) {
     struct stat stat;
     if (fstat(file, &stat)) return errno;
     *size = (uint64_t)stat.st_size;
     if (!*size) return 0;
     void *bytes = mmap(0, *size, PROT_READ, MAP_PRIVATE, file, 0);
     if (bytes == MAP_FAILED) return errno;
-    remaking->at = bytes;
-    remaking->end = remaking->at + *size;
-    int fault = make_all(remaking);
-    turn(&remaking->store->snapshots);
+    reader->at = bytes;
+    reader->end = reader->at + *size;
+    int err = make_all(reader);
+    turn(&reader->store->snapshots);
     munmap(bytes, *size);
-    return fault;
+    return err;
 }
 
-static int open_and_make(struct remaking *remaking, const char *name, uint64_t *size) {
-    int file = openat(remaking->store->directory, name, O_RDONLY | O_CLOEXEC | O_NOFOLLOW);
+static int open_and_make(struct snapshot_reader *reader, const char *name, uint64_t *size) {
+    int file = openat(reader->store->directory, name, O_RDONLY | O_CLOEXEC | O_NOFOLLOW);
     if (file < 0) return errno;
-    int fault = make_of_file(remaking, file, size);
+    int err = make_of_file(reader, file, size);
     close(file);
-    return fault;
+    return err;
 }
 
 // Whether the file is there, and is whole: ENOENT where there is none.
@@ -387,20 +392,20 @@ static int try_file(const struct store *store, const char *name) {
     char sum[STORE_NAME + 8], path[PATH_MAX];
     if (!store_has(store, name)) return ENOENT;
     snprintf(sum, sizeof sum, "%s.sum", name);
-    if (!store_has(store, sum)) return store_say(store, "%s is missing", sum), EINVAL;
+    if (!store_has(store, sum)) return store_report(store, "%s is missing", sum), EINVAL;
     return store_path(store, name, path) || image_check(path) ? EINVAL : 0;
 }
 
-int store_make_snapshots(struct store *store, const struct volume *volume, uint64_t number, uint64_t *size) {
-    struct remaking remaking = {.store = store, .volume = volume, .name = "?"};
+int store_make_snapshots(struct store *store, const struct backend *backend, uint64_t number, uint64_t *size) {
+    struct snapshot_reader reader = {.store = store, .backend = backend, .name = "?"};
     char name[STORE_NAME];
     *size = 0;
     store_name(name, kind, number);
-    int fault = try_file(store, name);
-    if (fault) return fault == ENOENT ? 0 : fault;
-    fault = open_and_make(&remaking, name, size);
-    if (fault)
-        store_say(store, "%s: the snapshot %s is not made: %s", name, remaking.name,
-                  remaking.why ? remaking.why : strerror(fault));
-    return fault;
+    int err = try_file(store, name);
+    if (err) return err == ENOENT ? 0 : err;
+    err = open_and_make(&reader, name, size);
+    if (err)
+        store_report(store, "%s: the snapshot %s is not made: %s", name, reader.name,
+                     reader.why ? reader.why : strerror(err));
+    return err;
 }

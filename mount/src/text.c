@@ -1,3 +1,6 @@
+// Bytes as text: percent form of paths and names, and hexadecimal digits ("Script" in docs/FORMATS.md).
+//
+// Validity: what is read back has to be of that form to its end; else the whole is refused.
 #include "text.h"
 #include <errno.h>
 #include <stdbool.h>
@@ -43,9 +46,9 @@ int text_unescape(struct bytes *out, const char *text, size_t length) {
     return 0;
 }
 
-long text_read_hex(const char *digits, size_t length, char *out, size_t room) {
+long text_read_hex(const char *digits, size_t length, char *out, size_t capacity) {
     if (length == 1 && *digits == '-') return 0;
-    if (length % 2 || length / 2 > room) return -1;
+    if (length % 2 || length / 2 > capacity) return -1;
     for (size_t i = 0; i < length / 2; i++) {
         int high = text_digit(digits[2 * i]), low = text_digit(digits[2 * i + 1]);
         if (high < 0 || low < 0) return -1;

@@ -1,4 +1,4 @@
-// The lock of a volume and of the trees frozen of it.
+// The lock of a volume and of the trees frozen from it.
 #include "core.h"
 
 static int lock_is_mine(const Lock *lock) {
@@ -60,13 +60,13 @@ static PyObject *lock_exit(PyObject *self, PyObject *unused) {
 }
 
 static PyMethodDef lock_methods[] = {
-    {"__enter__", lock_enter, METH_NOARGS, "Waits for the lock, and takes it."},
-    {"__exit__", lock_exit, METH_VARARGS, "Gives the lock back."},
+    {"__enter__", lock_enter, METH_NOARGS, "Acquires the lock."},
+    {"__exit__", lock_exit, METH_VARARGS, "Releases the lock."},
     {NULL, NULL, 0, NULL},
 };
 
 static PyType_Slot lock_slots[] = {
-    {Py_tp_doc, "A lock that its thread may take again."},
+    {Py_tp_doc, "A reentrant lock."},
     {Py_tp_new, lock_new},
     {Py_tp_dealloc, lock_dealloc},
     {Py_tp_methods, lock_methods},

@@ -1,4 +1,4 @@
-// What a volume and a frozen tree have in common: calls that look, and change nothing; and frozen trees.
+// What a volume and a frozen tree have in common: the read-only calls; and frozen trees.
 #include "core.h"
 
 #include <stdlib.h>
@@ -18,29 +18,29 @@ int enter(Tree *tree) {
 
 void leave(Tree *tree) { lock_give(tree->lock); }
 
-int is_open(const Tree *tree) { return tree->volume.at || tree->frozen.at; }
+int is_open(const Tree *tree) { return tree->volume.ptr || tree->frozen.ptr; }
 
 static uint8_t look_read(
-    Tree *tree, const struct text *path, uint64_t offset, uint8_t *out, size_t room, size_t *got) {
-    return tree->frozen.at ? doorvervain_frozen_read(&tree->frozen, path->at, path->length, offset, out, room, got)
-                           : doorvervain_read(&tree->volume, path->at, path->length, offset, out, room, got);
+    Tree *tree, const struct text *path, uint64_t offset, uint8_t *out, size_t capacity, size_t *got) {
+    return tree->frozen.ptr ? doorvervain_frozen_read(&tree->frozen, path->at, path->length, offset, out, capacity, got)
+                           : doorvervain_read(&tree->volume, path->at, path->length, offset, out, capacity, got);
 }
 
-// What stands at a path.
+// What stat returns.
 struct stat_of {
     uint8_t kind;
     uint64_t size, modified;
 };
 
 static uint8_t look_stat(Tree *tree, const struct text *path, struct stat_of *it) {
-    return tree->frozen.at
+    return tree->frozen.ptr
                ? doorvervain_frozen_stat(&tree->frozen, path->at, path->length, &it->kind, &it->size, &it->modified)
                : doorvervain_stat(&tree->volume, path->at, path->length, &it->kind, &it->size, &it->modified);
 }
 
-static uint8_t look_readdir(Tree *tree, const struct text *path, uint8_t *out, size_t room, size_t *size) {
-    return tree->frozen.at ? doorvervain_frozen_readdir(&tree->frozen, path->at, path->length, out, room, size)
-                           : doorvervain_readdir(&tree->volume, path->at, path->length, out, room, size);
+static uint8_t look_readdir(Tree *tree, const struct text *path, uint8_t *out, size_t capacity, size_t *size) {
+    return tree->frozen.ptr ? doorvervain_frozen_readdir(&tree->frozen, path->at, path->length, out, capacity, size)
+                           : doorvervain_readdir(&tree->volume, path->at, path->length, out, capacity, size);
 }
 
 // ---- reading
@@ -85,7 +85,7 @@ static PyObject *read_many(Tree *tree, PyObject *given, const struct text *path,
 static PyObject *read_locked(Tree *tree, PyObject *given, const struct text *path, uint64_t offset, uint64_t size) {
     uint8_t few[FEW];
     size_t want = size < FEW ? (size_t)size : FEW, got = 0;
-    // A length that is greater, and named, is read where it stays.
+    // A greater length is read into its result at once.
     if (size > FEW && size < BEYOND) return read_many(tree, given, path, offset, size, NULL, 0);
     uint8_t number = look_read(tree, path, offset, few, want, &got);
     if (number) return refuse(number, given, NULL);
@@ -97,17 +97,17 @@ static const struct signature read_signature = {"read", 1, 3, {"path", "size", "
 
 static PyObject *tree_read(PyObject *self, PyObject *const *words, Py_ssize_t count, PyObject *named) {
     Tree *tree = (Tree *)self;
-    PyObject *told[4];
+    PyObject *args[4];
     struct text path;
     uint64_t size = BEYOND, offset = 0;
     int all = 1;
-    if (words_of(&read_signature, words, count, named, told)) return NULL;
-    if (told[1] && bytes_of(told[1], &size, &all)) return NULL;
+    if (words_of(&read_signature, words, count, named, args)) return NULL;
+    if (args[1] && bytes_of(args[1], &size, &all)) return NULL;
     if (all) size = BEYOND;
-    if (place_of_bytes(told[2], told[0], &offset) || text_of(told[0], &path)) return NULL;
+    if (place_of_bytes(args[2], args[0], &offset) || text_of(args[0], &path)) return NULL;
     PyObject *bytes = NULL;
     if (!enter(tree)) {
-        bytes = read_locked(tree, told[0], &path, offset, size);
+        bytes = read_locked(tree, args[0], &path, offset, size);
         leave(tree);
     }
     Py_DECREF(path.owner);
@@ -116,7 +116,7 @@ static PyObject *tree_read(PyObject *self, PyObject *const *words, Py_ssize_t co
 
 // ---- looking
 
-// Asks what stands at a path: -1 with an exception, or the number of the call.
+// Calls stat: -1 with an exception, or the number of the call.
 static int ask_stat(Tree *tree, PyObject *given, struct stat_of *it) {
     struct text path;
     if (text_of(given, &path)) return -1;
@@ -129,8 +129,8 @@ static int ask_stat(Tree *tree, PyObject *given, struct stat_of *it) {
     return number;
 }
 
-// A tuple of one of the types of `_types.py`, of items that it takes over. Null, and the items go, where one of them is
-// null.
+// A tuple of one of the types of `_types.py`, which takes the references of its items. If one of them is null, the result is
+// null, and the items are released.
 static PyObject *tuple_of(PyObject *type, PyObject **items, Py_ssize_t count) {
     PyObject *tuple = PyType_GenericAlloc((PyTypeObject *)type, count);
     int well = tuple != NULL;
@@ -159,7 +159,7 @@ static PyObject *tree_stat(PyObject *self, PyObject *given) {
     return tuple_of(known.stat, items, 3);
 }
 
-// Whether one of two kinds stands at a path. What is no path is refused.
+// Whether the entry at a path has one of two kinds. An invalid path is an error.
 static PyObject *has_kind(PyObject *self, PyObject *given, uint8_t kind, uint8_t other) {
     struct stat_of it;
     int number = ask_stat((Tree *)self, given, &it);
@@ -188,19 +188,19 @@ void listing_free(struct listing *it) {
 }
 
 uint8_t filled(Tree *tree, const struct text *words, fill call, struct listing *it) {
-    size_t room = FEW;
+    size_t capacity = FEW;
     it->at = it->few;
     for (;;) {
-        uint8_t number = call(tree, words, it->at, room, &it->size);
+        uint8_t number = call(tree, words, it->at, capacity, &it->size);
         if (number != DOORVERVAIN_ERANGE) return number;
-        room = it->size;
+        capacity = it->size;
         listing_free(it);
-        it->at = malloc(room);
+        it->at = malloc(capacity);
         if (!it->at) return DOORVERVAIN_ENOMEM;
     }
 }
 
-// The same, under the lock, while other threads go on. -1 with an exception.
+// Fills a listing under the lock, without the interpreter's lock. -1 with an exception.
 static int ask_filled(Tree *tree, PyObject *given, fill call, struct listing *it) {
     struct text path = {NULL, NULL, 0};
     uint8_t number = 0;
@@ -220,7 +220,7 @@ static int ask_filled(Tree *tree, PyObject *given, fill call, struct listing *it
     return -1;
 }
 
-// The name of an entry of a listing, and the entry behind it.
+// The name of an entry of a listing, and the entry after it.
 static PyObject *name_at(const uint8_t **at) {
     const char *name = (const char *)*at + 1;
     size_t length = strlen(name);
@@ -265,30 +265,30 @@ static PyObject *list_of(PyObject *self, PyObject *given, PyObject *(*item)(cons
 static const struct signature listdir_signature = {"listdir", 0, 1, {"path"}};
 
 static PyObject *tree_listdir(PyObject *self, PyObject *const *words, Py_ssize_t count, PyObject *named) {
-    PyObject *told[4];
-    return words_of(&listdir_signature, words, count, named, told) ? NULL : list_of(self, told[0], name_at);
+    PyObject *args[4];
+    return words_of(&listdir_signature, words, count, named, args) ? NULL : list_of(self, args[0], name_at);
 }
 
 static const struct signature scandir_signature = {"scandir", 0, 1, {"path"}};
 
 static PyObject *tree_scandir(PyObject *self, PyObject *const *words, Py_ssize_t count, PyObject *named) {
-    PyObject *told[4];
-    return words_of(&scandir_signature, words, count, named, told) ? NULL : list_of(self, told[0], entry_at);
+    PyObject *args[4];
+    return words_of(&scandir_signature, words, count, named, args) ? NULL : list_of(self, args[0], entry_at);
 }
 
 // ---- closing
 
-// Frees a tree under its lock, while other threads go on. A closed one stays so.
+// Frees a tree under its lock, without the interpreter's lock. A closed one is left unchanged.
 static void close_tree(Tree *tree) {
     if (!is_open(tree)) return;
     lock_take(tree->lock);
     struct doorvervain volume = tree->volume;
     struct doorvervain_frozen frozen = tree->frozen;
-    tree->volume.at = NULL;
-    tree->frozen.at = NULL;
+    tree->volume.ptr = NULL;
+    tree->frozen.ptr = NULL;
     Py_BEGIN_ALLOW_THREADS
     doorvervain_close(&volume);
-    doorvervain_thaw(&frozen);
+    doorvervain_frozen_close(&frozen);
     Py_END_ALLOW_THREADS
     leave(tree);
 }
@@ -354,12 +354,12 @@ static int frozen_of(Tree *frozen, Tree *volume, PyObject *name) {
     uint8_t number = 0;
     int failed = enter(volume);
     if (!failed) {
-        number = name ? doorvervain_frozen(&volume->volume, text.at, text.length, &made)
+        number = name ? doorvervain_open_snapshot(&volume->volume, text.at, text.length, &made)
                       : doorvervain_freeze(&volume->volume, &made);
         leave(volume);
         if (number) refuse(number, name, NULL);
         failed = number || begin(frozen, volume->lock);
-        if (failed) doorvervain_thaw(&made);
+        if (failed) doorvervain_frozen_close(&made);
     }
     Py_XDECREF(text.owner);
     if (!failed) frozen->frozen = made;
@@ -373,9 +373,9 @@ static int frozen_init(PyObject *self, PyObject *words, PyObject *named) {
     return frozen_of((Tree *)self, (Tree *)volume, name == Py_None ? NULL : name);
 }
 
-static uint8_t look_image(Tree *tree, const struct text *unused, uint8_t *out, size_t room, size_t *size) {
+static uint8_t look_image(Tree *tree, const struct text *unused, uint8_t *out, size_t capacity, size_t *size) {
     (void)unused;
-    return doorvervain_image(&tree->frozen, out, room, size);
+    return doorvervain_image(&tree->frozen, out, capacity, size);
 }
 
 static PyObject *frozen_image(PyObject *self, PyObject *unused) {
@@ -392,21 +392,21 @@ static PyObject *frozen_image(PyObject *self, PyObject *unused) {
 static PyMethodDef tree_methods[] = {
     {"read", FAST(tree_read),
         "read($self, /, path, size=-1, offset=0)\n--\n\n"
-        "The bytes of a file from the offset on: at most `size` of them, or all where that is negative.\n\n"
+        "The bytes of a file from the offset on: at most `size` of them, or all if that is negative.\n\n"
         ">>> volume = Volume()\n"
         ">>> _ = volume.write_bytes(\"/greeting\", b\"hello, world\")\n"
         ">>> volume.read(\"/greeting\"), volume.read(\"/greeting\", 5, 7)\n"
         "(b'hello, world', b'world')\n"},
     {"stat", tree_stat, METH_O,
         "stat($self, path, /)\n--\n\n"
-        "What stands at a path.\n\n"
+        "The kind, size and mtime of the entry at a path.\n\n"
         ">>> volume = Volume(clock=lambda: 7)\n"
         ">>> volume.mkdir(\"/d\")\n"
         ">>> volume.stat(\"/d\")\n"
         "Stat(is_dir=True, size=0, modified=7)\n"},
-    {"exists", tree_exists, METH_O, "exists($self, path, /)\n--\n\nWhether something stands at a path."},
-    {"is_dir", tree_is_dir, METH_O, "is_dir($self, path, /)\n--\n\nWhether a directory stands at a path."},
-    {"is_file", tree_is_file, METH_O, "is_file($self, path, /)\n--\n\nWhether a file stands at a path."},
+    {"exists", tree_exists, METH_O, "exists($self, path, /)\n--\n\nWhether a path exists."},
+    {"is_dir", tree_is_dir, METH_O, "is_dir($self, path, /)\n--\n\nWhether a path is a directory."},
+    {"is_file", tree_is_file, METH_O, "is_file($self, path, /)\n--\n\nWhether a path is a file."},
     {"listdir", FAST(tree_listdir),
         "listdir($self, /, path='/')\n--\n\n"
         "The names in a directory, in the order of their bytes.\n\n"
@@ -429,7 +429,7 @@ static PyGetSetDef tree_properties[] = {
 };
 
 static PyType_Slot tree_slots[] = {
-    {Py_tp_doc, "What a volume and a frozen tree have in common: calls that look, and change nothing."},
+    {Py_tp_doc, "What a volume and a frozen tree have in common: the read-only calls."},
     {Py_tp_new, PyType_GenericNew},
     {Py_tp_dealloc, tree_dealloc},
     {Py_tp_traverse, tree_traverse},
@@ -445,7 +445,7 @@ static PyMethodDef frozen_methods[] = {
 };
 
 static PyType_Slot frozen_slots[] = {
-    {Py_tp_doc, "A tree that stands still."},
+    {Py_tp_doc, "A tree that later changes of its volume do not affect."},
     {Py_tp_init, frozen_init},
     {Py_tp_methods, frozen_methods},
     {0, NULL},

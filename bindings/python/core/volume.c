@@ -1,11 +1,11 @@
-// Volumes: calls that change them, snapshots and upkeep.
+// Volumes: calls that change them, snapshots and compaction.
 #include "core.h"
 
 // The most bytes that the name of a snapshot has.
 enum { NAME = 64 };
 
-// The numbers of a shape. What is too great or too small for C stays no shape. -1 with an exception where they are no three
-// numbers.
+// The numbers of a shape. A number out of C's range is replaced by another that is not valid. -1 with an exception if they are
+// not three numbers.
 static int shape_of(PyObject *given, uint16_t *shape) {
     if (PySequence_Size(given) != 3) {
         if (!PyErr_Occurred()) PyErr_SetString(PyExc_ValueError, "a shape is three numbers");
@@ -13,23 +13,23 @@ static int shape_of(PyObject *given, uint16_t *shape) {
     }
     for (Py_ssize_t place = 0; place < 3; place++) {
         PyObject *number = PySequence_GetItem(given, place);
-        uint64_t told = 0;
-        int below = 0, failed = !number || bytes_of(number, &told, &below);
+        uint64_t value = 0;
+        int below = 0, failed = !number || bytes_of(number, &value, &below);
         Py_XDECREF(number);
         if (failed) return -1;
-        shape[place] = below ? 0 : told > UINT16_MAX ? UINT16_MAX : (uint16_t)told;
+        shape[place] = below ? 0 : value > UINT16_MAX ? UINT16_MAX : (uint16_t)value;
     }
     return 0;
 }
 
 static void refuse_shape(uint8_t number, PyObject *shape) {
     PyObject *sentence = PyUnicode_FromFormat("no volume of the shape %R", shape);
-    PyObject *told = sentence ? Py_BuildValue("iN", doorvervain_errno(number), sentence) : NULL;
-    if (told) PyErr_SetObject(PyExc_OSError, told);
-    Py_XDECREF(told);
+    PyObject *value = sentence ? Py_BuildValue("iN", doorvervain_errno(number), sentence) : NULL;
+    if (value) PyErr_SetObject(PyExc_OSError, value);
+    Py_XDECREF(value);
 }
 
-// Takes a clock and an opened volume over.
+// Takes ownership of a clock and an opened volume.
 static void volume_begins(Tree *tree, struct doorvervain opened, PyObject *clock) {
     tree->volume = opened;
     if (clock == known.time_ns || clock == Py_None) return;
@@ -53,11 +53,11 @@ static int volume_init(PyObject *self, PyObject *words, PyObject *named) {
     return 0;
 }
 
-// Raises the exception of a text that is bad from a line on.
+// Raises the exception of a text with a first bad line.
 static void refuse_text(PyObject *kind, uint64_t line) {
-    PyObject *told = PyObject_CallFunction(kind, "K", (unsigned long long)line);
-    if (told) PyErr_SetObject(kind, told);
-    Py_XDECREF(told);
+    PyObject *value = PyObject_CallFunction(kind, "K", (unsigned long long)line);
+    if (value) PyErr_SetObject(kind, value);
+    Py_XDECREF(value);
 }
 
 static PyObject *volume_load(PyObject *self, PyObject *words) {
@@ -81,73 +81,73 @@ static PyObject *volume_load(PyObject *self, PyObject *words) {
     Py_RETURN_NONE;
 }
 
-typedef uint8_t (*change)(struct doorvervain *fs, const uint8_t *path, size_t length, uint64_t at);
+typedef uint8_t (*path_fn)(struct doorvervain *fs, const uint8_t *path, size_t length, uint64_t at);
 
-// Does a call that changes what stands at one path.
-static PyObject *change_path(
-    PyObject *self, PyObject *const *words, Py_ssize_t count, PyObject *named, const char *name, change call) {
+// Makes a call that changes the entry at one path.
+static PyObject *path_call(
+    PyObject *self, PyObject *const *words, Py_ssize_t count, PyObject *named, const char *name, path_fn call) {
     const struct signature signature = {name, 1, 1, {"path", "at"}};
     Tree *tree = (Tree *)self;
-    PyObject *told[4];
+    PyObject *args[4];
     struct text path;
-    uint64_t moment;
-    if (words_of(&signature, words, count, named, told) || moment_of(tree, told[1], &moment)) return NULL;
-    if (text_of(told[0], &path)) return NULL;
+    uint64_t timestamp;
+    if (words_of(&signature, words, count, named, args) || timestamp_of(tree, args[1], &timestamp)) return NULL;
+    if (text_of(args[0], &path)) return NULL;
     PyObject *done = NULL;
     if (!enter(tree)) {
-        uint8_t number = call(&tree->volume, path.at, path.length, moment);
+        uint8_t number = call(&tree->volume, path.at, path.length, timestamp);
         leave(tree);
-        done = answer(number, told[0]);
+        done = answer(number, args[0]);
     }
     Py_DECREF(path.owner);
     return done;
 }
 
 static PyObject *volume_mkdir(PyObject *self, PyObject *const *words, Py_ssize_t count, PyObject *named) {
-    return change_path(self, words, count, named, "mkdir", doorvervain_mkdir);
+    return path_call(self, words, count, named, "mkdir", doorvervain_mkdir);
 }
 
 static PyObject *volume_create(PyObject *self, PyObject *const *words, Py_ssize_t count, PyObject *named) {
-    return change_path(self, words, count, named, "create", doorvervain_create);
+    return path_call(self, words, count, named, "create", doorvervain_create);
 }
 
 static PyObject *volume_unlink(PyObject *self, PyObject *const *words, Py_ssize_t count, PyObject *named) {
-    return change_path(self, words, count, named, "unlink", doorvervain_unlink);
+    return path_call(self, words, count, named, "unlink", doorvervain_unlink);
 }
 
 static PyObject *volume_rmdir(PyObject *self, PyObject *const *words, Py_ssize_t count, PyObject *named) {
-    return change_path(self, words, count, named, "rmdir", doorvervain_rmdir);
+    return path_call(self, words, count, named, "rmdir", doorvervain_rmdir);
 }
 
 static PyObject *volume_rmtree(PyObject *self, PyObject *const *words, Py_ssize_t count, PyObject *named) {
-    return change_path(self, words, count, named, "rmtree", doorvervain_rmtree);
+    return path_call(self, words, count, named, "rmtree", doorvervain_rmtree);
 }
 
-// Makes an empty file, or empties the one that is there.
+// Creates an empty file, or truncates the one that exists.
 static uint8_t emptied(struct doorvervain *fs, const uint8_t *path, size_t length, uint64_t at) {
     uint8_t number = doorvervain_create(fs, path, length, at);
     return number == DOORVERVAIN_EEXIST ? doorvervain_truncate(fs, path, length, 0, at) : number;
 }
 
 static PyObject *volume_empty(PyObject *self, PyObject *const *words, Py_ssize_t count, PyObject *named) {
-    return change_path(self, words, count, named, "_empty", emptied);
+    return path_call(self, words, count, named, "_empty", emptied);
 }
 
 static const struct signature rename_signature = {"rename", 2, 2, {"old", "new", "at"}};
 
 static PyObject *volume_rename(PyObject *self, PyObject *const *words, Py_ssize_t count, PyObject *named) {
     Tree *tree = (Tree *)self;
-    PyObject *told[4], *done = NULL;
+    PyObject *args[4], *done = NULL;
     struct text old = {NULL, NULL, 0}, new = {NULL, NULL, 0};
-    uint64_t moment;
-    if (words_of(&rename_signature, words, count, named, told) || moment_of(tree, told[2], &moment)) return NULL;
-    if (!text_of(told[0], &old) && !text_of(told[1], &new) && !enter(tree)) {
+    uint64_t timestamp;
+    if (words_of(&rename_signature, words, count, named, args) || timestamp_of(tree, args[2], &timestamp)) return NULL;
+    if (!text_of(args[0], &old) && !text_of(args[1], &new) && !enter(tree)) {
         uint8_t number;
         Py_BEGIN_ALLOW_THREADS
-        number = doorvervain_rename(&tree->volume, old.at, old.length, new.at, new.length, moment);
+        number = doorvervain_rename(&tree->volume, old.at, old.length, new.at, new.length, timestamp);
         Py_END_ALLOW_THREADS
         leave(tree);
-        done = number ? refuse(number, told[0], told[1]) : answer(0, NULL);
+        done = number ? refuse(number, args[0], args[1]) : answer(0, NULL);
     }
     Py_XDECREF(old.owner);
     Py_XDECREF(new.owner);
@@ -158,21 +158,21 @@ static const struct signature truncate_signature = {"truncate", 2, 2, {"path", "
 
 static PyObject *volume_truncate(PyObject *self, PyObject *const *words, Py_ssize_t count, PyObject *named) {
     Tree *tree = (Tree *)self;
-    PyObject *told[4], *done = NULL;
+    PyObject *args[4], *done = NULL;
     struct text path;
-    uint64_t size, moment;
-    if (words_of(&truncate_signature, words, count, named, told) || moment_of(tree, told[2], &moment)) return NULL;
-    if (place_of_bytes(told[1], told[0], &size) || text_of(told[0], &path)) return NULL;
+    uint64_t size, timestamp;
+    if (words_of(&truncate_signature, words, count, named, args) || timestamp_of(tree, args[2], &timestamp)) return NULL;
+    if (place_of_bytes(args[1], args[0], &size) || text_of(args[0], &path)) return NULL;
     if (!enter(tree)) {
-        uint8_t number = doorvervain_truncate(&tree->volume, path.at, path.length, size, moment);
+        uint8_t number = doorvervain_truncate(&tree->volume, path.at, path.length, size, timestamp);
         leave(tree);
-        done = answer(number, told[0]);
+        done = answer(number, args[0]);
     }
     Py_DECREF(path.owner);
     return done;
 }
 
-// The bytes of an object that has some.
+// The bytes of an object that has a buffer.
 static PyObject *plain_bytes(PyObject *data) {
     if (PyBytes_Check(data)) {
         Py_INCREF(data);
@@ -184,37 +184,37 @@ static PyObject *plain_bytes(PyObject *data) {
     return bytes;
 }
 
-// What a write is given.
+// The arguments of a write.
 struct write {
     struct text path;
-    uint64_t offset, moment;
+    uint64_t offset, timestamp;
     PyObject *bytes;
 };
 
-typedef uint8_t (*writes)(struct doorvervain *fs, const struct write *it);
+typedef uint8_t (*write_fn)(struct doorvervain *fs, const struct write *it);
 
-static uint8_t lay_over(struct doorvervain *fs, const struct write *it) {
+static uint8_t write_at(struct doorvervain *fs, const struct write *it) {
     return doorvervain_write(fs, it->path.at, it->path.length, it->offset, (const uint8_t *)PyBytes_AsString(it->bytes),
-        (size_t)PyBytes_Size(it->bytes), it->moment);
+        (size_t)PyBytes_Size(it->bytes), it->timestamp);
 }
 
 static uint8_t cut(struct doorvervain *fs, const struct write *it, uint64_t size) {
-    return doorvervain_truncate(fs, it->path.at, it->path.length, size, it->moment);
+    return doorvervain_truncate(fs, it->path.at, it->path.length, size, it->timestamp);
 }
 
-// Makes a file hold the bytes and no others: the fewest calls that do it.
+// Replaces the content of a file, with as few calls as possible.
 static uint8_t replace(struct doorvervain *fs, const struct write *it) {
     uint8_t kind;
     uint64_t size, modified, count = (uint64_t)PyBytes_Size(it->bytes);
     uint8_t number = doorvervain_stat(fs, it->path.at, it->path.length, &kind, &size, &modified);
     int is_new = number == DOORVERVAIN_ENOENT;
-    if (is_new) number = doorvervain_create(fs, it->path.at, it->path.length, it->moment);
-    if (!number && count) number = lay_over(fs, it);
+    if (is_new) number = doorvervain_create(fs, it->path.at, it->path.length, it->timestamp);
+    if (!number && count) number = write_at(fs, it);
     return number || is_new || (count && size <= count) ? number : cut(fs, it, count);
 }
 
-// Does a write under the lock. Where it is long, other threads go on.
-static uint8_t write_locked(Tree *tree, const struct write *it, writes call) {
+// Makes a write under the lock, without the interpreter's lock if it is long.
+static uint8_t write_locked(Tree *tree, const struct write *it, write_fn call) {
     uint8_t number;
     if (PyBytes_Size(it->bytes) < FEW) return call(&tree->volume, it);
     Py_BEGIN_ALLOW_THREADS
@@ -223,8 +223,8 @@ static uint8_t write_locked(Tree *tree, const struct write *it, writes call) {
     return number;
 }
 
-// Writes, and tells how many bytes that were.
-static PyObject *write_bytes_of(Tree *tree, PyObject *path, PyObject *data, struct write *it, writes call) {
+// Writes, and returns how many bytes.
+static PyObject *write_bytes_of(Tree *tree, PyObject *path, PyObject *data, struct write *it, write_fn call) {
     if (text_of(path, &it->path)) return NULL;
     it->bytes = plain_bytes(data);
     PyObject *done = NULL;
@@ -242,30 +242,30 @@ static const struct signature write_signature = {"write", 2, 3, {"path", "data",
 
 static PyObject *volume_write(PyObject *self, PyObject *const *words, Py_ssize_t count, PyObject *named) {
     Tree *tree = (Tree *)self;
-    PyObject *told[4];
+    PyObject *args[4];
     struct write it;
-    if (words_of(&write_signature, words, count, named, told) || moment_of(tree, told[3], &it.moment)) return NULL;
-    if (place_of_bytes(told[2], told[0], &it.offset)) return NULL;
-    return write_bytes_of(tree, told[0], told[1], &it, lay_over);
+    if (words_of(&write_signature, words, count, named, args) || timestamp_of(tree, args[3], &it.timestamp)) return NULL;
+    if (place_of_bytes(args[2], args[0], &it.offset)) return NULL;
+    return write_bytes_of(tree, args[0], args[1], &it, write_at);
 }
 
 static const struct signature write_bytes_signature = {"write_bytes", 2, 2, {"path", "data", "at"}};
 
 static PyObject *volume_write_bytes(PyObject *self, PyObject *const *words, Py_ssize_t count, PyObject *named) {
     Tree *tree = (Tree *)self;
-    PyObject *told[4];
+    PyObject *args[4];
     struct write it = {.offset = 0};
-    if (words_of(&write_bytes_signature, words, count, named, told)) return NULL;
-    if (moment_of(tree, told[2], &it.moment)) return NULL;
-    return write_bytes_of(tree, told[0], told[1], &it, replace);
+    if (words_of(&write_bytes_signature, words, count, named, args)) return NULL;
+    if (timestamp_of(tree, args[2], &it.timestamp)) return NULL;
+    return write_bytes_of(tree, args[0], args[1], &it, replace);
 }
 
 // ---- snapshots
 
-typedef uint8_t (*keeps)(struct doorvervain *fs, const uint8_t *name, size_t length);
+typedef uint8_t (*snapshot_fn)(struct doorvervain *fs, const uint8_t *name, size_t length);
 
-// Does a call that takes the name of a snapshot. Where a tree goes by it, other threads go on.
-static PyObject *keep(PyObject *self, PyObject *name, keeps call, int is_long) {
+// Makes a call that takes the name of a snapshot, without the interpreter's lock if it may free a tree.
+static PyObject *snapshot_call(PyObject *self, PyObject *name, snapshot_fn call, int is_long) {
     Tree *tree = (Tree *)self;
     struct text text;
     PyObject *done = NULL;
@@ -281,9 +281,9 @@ static PyObject *keep(PyObject *self, PyObject *name, keeps call, int is_long) {
     return done;
 }
 
-static PyObject *volume_snapshot(PyObject *self, PyObject *name) { return keep(self, name, doorvervain_snapshot, 0); }
-static PyObject *volume_drop(PyObject *self, PyObject *name) { return keep(self, name, doorvervain_drop, 1); }
-static PyObject *volume_restore(PyObject *self, PyObject *name) { return keep(self, name, doorvervain_restore, 1); }
+static PyObject *volume_snapshot(PyObject *self, PyObject *name) { return snapshot_call(self, name, doorvervain_snapshot, 0); }
+static PyObject *volume_drop_snapshot(PyObject *self, PyObject *name) { return snapshot_call(self, name, doorvervain_drop_snapshot, 1); }
+static PyObject *volume_restore(PyObject *self, PyObject *name) { return snapshot_call(self, name, doorvervain_restore, 1); }
 
 // The list of the names of all snapshots, under the lock.
 static PyObject *names_of(struct doorvervain *fs) {
@@ -309,15 +309,15 @@ static PyObject *volume_snapshots(PyObject *self, PyObject *unused) {
     return names;
 }
 
-// ---- differences
+// ---- deltas
 
-// Two names are the words.
-static uint8_t look_delta(Tree *tree, const struct text *names, uint8_t *out, size_t room, size_t *size) {
+// The arguments are two names.
+static uint8_t look_delta(Tree *tree, const struct text *names, uint8_t *out, size_t capacity, size_t *size) {
     return doorvervain_delta(
-        &tree->volume, names[0].at, names[0].length, names[1].at, names[1].length, out, room, size);
+        &tree->volume, names[0].at, names[0].length, names[1].at, names[1].length, out, capacity, size);
 }
 
-// What two names differ in, as bytes.
+// The delta between two names, as bytes.
 static PyObject *delta_of(Tree *tree, const struct text *names) {
     struct listing it;
     uint8_t number;
@@ -337,16 +337,16 @@ static PyObject *delta_of(Tree *tree, const struct text *names) {
 static const struct signature delta_signature = {"delta", 1, 2, {"old", "new"}};
 
 static PyObject *volume_delta(PyObject *self, PyObject *const *words, Py_ssize_t count, PyObject *named) {
-    PyObject *told[4], *text = NULL;
+    PyObject *args[4], *text = NULL;
     struct text names[2] = {{NULL, NULL, 0}, {NULL, NULL, 0}};
-    if (words_of(&delta_signature, words, count, named, told) || text_of(told[0], &names[0])) return NULL;
-    if (!told[1] || !text_of(told[1], &names[1])) text = delta_of((Tree *)self, names);
+    if (words_of(&delta_signature, words, count, named, args) || text_of(args[0], &names[0])) return NULL;
+    if (!args[1] || !text_of(args[1], &names[1])) text = delta_of((Tree *)self, names);
     Py_DECREF(names[0].owner);
     Py_XDECREF(names[1].owner);
     return text;
 }
 
-static PyObject *volume_apply(PyObject *self, PyObject *given) {
+static PyObject *volume_apply_delta(PyObject *self, PyObject *given) {
     Tree *tree = (Tree *)self;
     char *text;
     Py_ssize_t length;
@@ -354,7 +354,7 @@ static PyObject *volume_apply(PyObject *self, PyObject *given) {
     uint8_t number;
     if (PyBytes_AsStringAndSize(given, &text, &length) || enter(tree)) return NULL;
     Py_BEGIN_ALLOW_THREADS
-    number = doorvervain_apply(&tree->volume, (const uint8_t *)text, (size_t)length, &line);
+    number = doorvervain_apply_delta(&tree->volume, (const uint8_t *)text, (size_t)length, &line);
     Py_END_ALLOW_THREADS
     leave(tree);
     if (number != DOORVERVAIN_EINVAL) return answer(number, NULL);
@@ -362,22 +362,22 @@ static PyObject *volume_apply(PyObject *self, PyObject *given) {
     return NULL;
 }
 
-static const struct signature relieve_signature = {"relieve", 0, 1, {"steps"}};
+static const struct signature compact_signature = {"compact", 0, 1, {"steps"}};
 
-static PyObject *volume_relieve(PyObject *self, PyObject *const *words, Py_ssize_t count, PyObject *named) {
+static PyObject *volume_compact(PyObject *self, PyObject *const *words, Py_ssize_t count, PyObject *named) {
     Tree *tree = (Tree *)self;
-    PyObject *told[4];
+    PyObject *args[4];
     uint64_t steps = UINT32_MAX;
     int below = 0;
     uint32_t done;
-    if (words_of(&relieve_signature, words, count, named, told) || enter(tree)) return NULL;
-    if (told[0] && told[0] != Py_None && bytes_of(told[0], &steps, &below)) {
+    if (words_of(&compact_signature, words, count, named, args) || enter(tree)) return NULL;
+    if (args[0] && args[0] != Py_None && bytes_of(args[0], &steps, &below)) {
         leave(tree);
         return NULL;
     }
     int open = is_open(tree);
     Py_BEGIN_ALLOW_THREADS
-    done = doorvervain_relieve(&tree->volume, steps < UINT32_MAX ? (uint32_t)steps : UINT32_MAX);
+    done = doorvervain_compact(&tree->volume, steps < UINT32_MAX ? (uint32_t)steps : UINT32_MAX);
     Py_END_ALLOW_THREADS
     leave(tree);
     return open ? PyLong_FromUnsignedLong(done) : refuse(DOORVERVAIN_CLOSED, NULL, NULL);
@@ -386,62 +386,62 @@ static PyObject *volume_relieve(PyObject *self, PyObject *const *words, Py_ssize
 // ---- the type
 
 static PyMethodDef volume_methods[] = {
-    {"_load", volume_load, METH_VARARGS, "Begins the volume with the tree of an image."},
-    {"mkdir", FAST(volume_mkdir), "mkdir($self, /, path, *, at=None)\n--\n\nMakes an empty directory."},
+    {"_load", volume_load, METH_VARARGS, "Initialises the volume from an image."},
+    {"mkdir", FAST(volume_mkdir), "mkdir($self, /, path, *, at=None)\n--\n\nCreates an empty directory."},
     {"create", FAST(volume_create),
-        "create($self, /, path, *, at=None)\n--\n\nMakes an empty file where nothing stands."},
+        "create($self, /, path, *, at=None)\n--\n\nCreates an empty file."},
     {"unlink", FAST(volume_unlink),
-        "unlink($self, /, path, *, at=None)\n--\n\nTakes a file out. A directory is a PermissionError."},
-    {"rmdir", FAST(volume_rmdir), "rmdir($self, /, path, *, at=None)\n--\n\nTakes an empty directory out."},
+        "unlink($self, /, path, *, at=None)\n--\n\nRemoves a file. A directory is a PermissionError."},
+    {"rmdir", FAST(volume_rmdir), "rmdir($self, /, path, *, at=None)\n--\n\nRemoves an empty directory."},
     {"rmtree", FAST(volume_rmtree),
-        "rmtree($self, /, path, *, at=None)\n--\n\nTakes a file out, or a directory with all below it."},
+        "rmtree($self, /, path, *, at=None)\n--\n\nRemoves a file, or a directory with everything below it."},
     {"rename", FAST(volume_rename),
         "rename($self, /, old, new, *, at=None)\n--\n\n"
-        "Moves what stands at the first path, with all below it, to the second. There it replaces a file by a file, or\n"
-        "an empty directory by a directory."},
+        "Moves the entry at the first path, with everything below it, to the second. A file replaces a file there, and a\n"
+        "directory an empty directory."},
     {"truncate", FAST(volume_truncate),
         "truncate($self, /, path, size, *, at=None)\n--\n\n"
-        "Cuts a file to `size` bytes, or lengthens it to them by zeros."},
+        "Truncates a file to `size` bytes, or extends it to them with zeros."},
     {"write", FAST(volume_write),
         "write($self, /, path, data, offset=0, *, at=None)\n--\n\n"
-        "Lays bytes over a file from the offset on, and lengthens it where they reach past its end: all of them, or\n"
-        "none. It answers how many."},
+        "Writes bytes to a file at the offset, and extends it if they reach past its end. The write is atomic. Returns how\n"
+        "many bytes."},
     {"write_bytes", FAST(volume_write_bytes),
         "write_bytes($self, /, path, data, *, at=None)\n--\n\n"
-        "Makes the file hold these bytes and no others; it is made where nothing stands."},
+        "Replaces the content of a file, which is created if it does not exist."},
     {"_empty", FAST(volume_empty),
-        "_empty($self, /, path, *, at=None)\n--\n\nMakes an empty file, or empties the one that is there."},
+        "_empty($self, /, path, *, at=None)\n--\n\nCreates an empty file, or truncates the one that exists."},
     {"snapshot", volume_snapshot, METH_O,
         "snapshot($self, name, /)\n--\n\n"
-        "Keeps the tree as it stands, under a name: 1 to 64 letters, digits, `.`, `_` and `-`. At most 64 are kept.\n\n"
+        "Takes a snapshot under a name: 1 to 64 letters, digits, `.`, `_` and `-`. A volume has at most 64.\n\n"
         ">>> volume = Volume()\n"
         ">>> volume.snapshot(\"empty\")\n"
         ">>> volume.create(\"/x\")\n"
         ">>> volume.restore(\"empty\")\n"
         ">>> volume.listdir(), volume.snapshots()\n"
         "([], ['empty'])\n"},
-    {"drop", volume_drop, METH_O, "drop($self, name, /)\n--\n\nForgets a snapshot."},
+    {"drop_snapshot", volume_drop_snapshot, METH_O, "drop_snapshot($self, name, /)\n--\n\nDrops a snapshot."},
     {"restore", volume_restore, METH_O,
-        "restore($self, name, /)\n--\n\nMakes the volume's tree that of a snapshot, which stays."},
+        "restore($self, name, /)\n--\n\nRestores the volume's tree from a snapshot, which is kept."},
     {"snapshots", volume_snapshots, METH_NOARGS, "snapshots($self, /)\n--\n\nThe names of the snapshots, in order."},
     {"delta", FAST(volume_delta),
         "delta($self, /, old, new='')\n--\n\n"
-        "What makes one tree of another, as text that `apply` takes. Each is named as its snapshot; an empty name is the\n"
-        "tree as it stands.\n\n"
+        "The delta from one tree to another, as text for `apply_delta`. Each is the snapshot of that name; an empty name is the\n"
+        "current tree.\n\n"
         ">>> near, far = Volume(), Volume()\n"
         ">>> near.snapshot(\"sent\")\n"
         ">>> near.create(\"/x\")\n"
-        ">>> far.apply(near.delta(\"sent\"))\n"
+        ">>> far.apply_delta(near.delta(\"sent\"))\n"
         ">>> far.listdir()\n"
         "['x']\n"},
-    {"apply", volume_apply, METH_O,
-        "apply($self, text, /)\n--\n\n"
-        "Makes the tree the one that a difference makes of it. The volume is as one that was loaded then: its snapshots are\n"
-        "gone. The difference of another tree is a FileNotFoundError, and a text that is none a `BadDelta`."},
-    {"relieve", FAST(volume_relieve),
-        "relieve($self, /, steps=None)\n--\n\n"
-        "Moves waiting changes down the trees, by at most so many steps, or all of them: how many steps it tried. No\n"
-        "answer changes, but later calls that look cost less."},
+    {"apply_delta", volume_apply_delta, METH_O,
+        "apply_delta($self, text, /)\n--\n\n"
+        "Applies a delta to the tree. Afterwards the volume is like one that was just loaded: its snapshots are dropped. The delta\n"
+        "of another tree is a FileNotFoundError, and a text that is not a delta a `BadDelta`."},
+    {"compact", FAST(volume_compact),
+        "compact($self, /, steps=None)\n--\n\n"
+        "Compacts the trees: moves pending changes down, by at most `steps` steps, or all of them. Returns how many steps it\n"
+        "tried. No result changes, but later read-only calls take less time."},
     {NULL, NULL, 0, NULL},
 };
 

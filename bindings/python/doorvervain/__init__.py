@@ -11,12 +11,12 @@
 ...     volume.read("/notes/today")
 b'rain'
 
-The package stands over the C library `doorvervain`. `docs/PYTHON.md` says more.
+The package is a binding of the C library `doorvervain`. `docs/PYTHON.md` describes it.
 """
 from ._core import BUILD as __build__
 from ._file import File
 from ._types import BadDelta, BadImage, Entry, Stat
 from ._volume import LARGE, USUAL, Frozen, Shape, Volume
 
-__version__ = "0.1.0"
+__version__ = "0.2.0"
 __all__ = ["BadDelta", "BadImage", "Entry", "File", "Frozen", "LARGE", "Shape", "Stat", "USUAL", "Volume"]

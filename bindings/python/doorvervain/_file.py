@@ -6,7 +6,7 @@ import io
 import os
 from typing import IO, TYPE_CHECKING, Any, Optional, Union, cast
 
-from ._types import fault
+from ._types import os_error
 
 if TYPE_CHECKING:
     from ._volume import StrPath, Tree, Volume
@@ -32,12 +32,12 @@ class File(io.RawIOBase):
         self._appends = action == "a"
         self._at = 0
         if self._writes and not hasattr(tree, "write"):
-            raise fault(errno.EROFS, path)
+            raise os_error(errno.EROFS, path)
         self._begin(action)
 
     @property
     def mode(self) -> str:
-        """The mode, as files of the system tell it."""
+        """The mode, as files of the system return it."""
         if self._appends:
             return "ab+" if self._reads else "ab"
         if self._writes:
@@ -58,7 +58,7 @@ class File(io.RawIOBase):
         elif action == "a" and not tree.exists(self._path):
             tree.create(self._path)
         elif tree.stat(self._path).is_dir:
-            raise fault(errno.EISDIR, self._path)
+            raise os_error(errno.EISDIR, self._path)
         if action == "a":
             self._at = tree.stat(self._path).size
 
@@ -109,7 +109,7 @@ class File(io.RawIOBase):
         return data
 
     def write(self, data: Any) -> int:
-        """Writes all bytes at its place, or at the file's end where it appends."""
+        """Writes all bytes at its position, or at the file's end if it appends."""
         volume = self._check_writes()
         with volume._lock:
             if self._appends:
@@ -130,7 +130,7 @@ class File(io.RawIOBase):
         else:
             raise ValueError(f"invalid whence: {whence}")
         if base + offset < 0:
-            raise fault(errno.EINVAL, self._path)
+            raise os_error(errno.EINVAL, self._path)
         self._at = base + offset
         return self._at
 

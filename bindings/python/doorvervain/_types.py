@@ -1,4 +1,4 @@
-"""What calls of a volume give and raise."""
+"""Results and exceptions of the calls of a volume."""
 from __future__ import annotations
 
 import errno
@@ -7,8 +7,7 @@ from typing import NamedTuple, Union
 
 
 class Stat(NamedTuple):
-    """What stands at a path: whether it is a directory, its size in bytes (0 for a directory), and the moment of its
-    last change."""
+    """An entry: whether it is a directory, its size in bytes (0 for a directory), and its mtime."""
 
     is_dir: bool
     size: int
@@ -28,7 +27,7 @@ class Entry(NamedTuple):
 
 
 class BadImage(OSError):
-    """A text that is no image. `line` is the first line with which it is none."""
+    """A text that is not an image. `line` is its first bad line."""
 
     def __init__(self, line: int) -> None:
         super().__init__(errno.EINVAL, f"no image, from line {line} on")
@@ -36,13 +35,13 @@ class BadImage(OSError):
 
 
 class BadDelta(OSError):
-    """A text that is no difference. `line` is the first line with which it is none, or 0 where what it makes is no tree."""
+    """A text that is not a delta. `line` is its first bad line, or 0 if the result would not be a tree."""
 
     def __init__(self, line: int) -> None:
-        super().__init__(errno.EINVAL, f"no difference, from line {line} on" if line else "difference that makes no tree")
+        super().__init__(errno.EINVAL, f"no delta, from line {line} on" if line else "delta that makes no tree")
         self.line = line
 
 
-def fault(number: int, path: Union[str, bytes, "os.PathLike[str]", "os.PathLike[bytes]"]) -> OSError:
-    """The exception of one of the system's numbers, with a path."""
+def os_error(number: int, path: Union[str, bytes, "os.PathLike[str]", "os.PathLike[bytes]"]) -> OSError:
+    """Builds the `OSError` for one of the system's numbers, with a path."""
     return OSError(number, os.strerror(number), os.fspath(path))

@@ -1,7 +1,7 @@
 """Volumes and frozen trees.
 
-A volume and the trees that were frozen of it share nodes, so one lock stands round each call into any of them. The lock is
-reentrant: what asks twice, as an append, holds it throughout.
+A volume and the trees that were frozen from it share nodes, so each call into any of them holds one lock. The lock is
+reentrant: a method that makes two calls, as an append, holds it throughout.
 """
 from __future__ import annotations
 
@@ -17,7 +17,7 @@ StrPath = Union[str, bytes, "os.PathLike[str]", "os.PathLike[bytes]"]
 
 
 class Shape(NamedTuple):
-    """The shape of the trees behind a volume, which changes no answer, only time."""
+    """The shape of a volume's trees, which changes no result, only time."""
 
     fanout: int
     pending: int
@@ -25,7 +25,7 @@ class Shape(NamedTuple):
 
 
 USUAL = Shape(16, 256, 256)
-"""The shape for a volume of which nothing is known."""
+"""The default shape."""
 LARGE = Shape(64, 1024, 1024)
 """The shape for a volume of many entries that is kept for long."""
 
@@ -33,7 +33,7 @@ T = TypeVar("T", bound="Tree")
 
 
 class Tree(_core.Tree):
-    """What a volume and a frozen tree have in common: calls that look, and change nothing."""
+    """What a volume and a frozen tree have in common: the read-only calls."""
 
     def __enter__(self: T) -> T:
         return self
@@ -47,8 +47,8 @@ class Tree(_core.Tree):
         self.close()
 
     def walk(self, top: StrPath = "/") -> Iterator[Tuple[str, List[str], List[str]]]:
-        """Each directory from `top` on with the names of its directories and files, as `os.walk` gives them from above.
-        A name that is taken out of the first list is not walked into.
+        """Each directory from `top` on with the names of its directories and files, as `os.walk` yields them from the top
+        down. A name that is removed from the first list is not walked into.
 
         >>> volume = Volume()
         >>> volume.makedirs("/a/b")
@@ -75,9 +75,9 @@ class Tree(_core.Tree):
         errors: Optional[str] = None,
         newline: Optional[str] = None,
     ) -> IO[Any]:
-        """A file object, as the builtin `open` gives it. Text is UTF-8 where no encoding is named.
+        """A file object, as the builtin `open` returns it. Text is UTF-8 if no encoding is given.
 
-        It names its path: once the file is renamed or unlinked, its calls find what stands there then, or nothing.
+        It refers to its path: after the file is renamed or unlinked, its calls use what is at the path then, or fail.
 
         >>> volume = Volume()
         >>> with volume.open("/lines", "w") as file:
@@ -91,9 +91,9 @@ class Tree(_core.Tree):
 class Volume(Tree, _core.Volume):
     """A tree of directories and files in memory, with snapshots.
 
-    A path begins with a slash, and has no empty name, `.` or `..`. A change is done at the moment `at`; where none is
-    given, at that which the clock tells, nanoseconds since 1970. A refusal is an `OSError` of the subclass that Python has
-    for its number, and then nothing has changed.
+    A path begins with a slash, and has no empty name, `.` or `..`. A change has the timestamp `at`; if none is
+    given, that of the clock, in nanoseconds since 1970. An error is an `OSError` of the subclass that Python has for its
+    number, and then nothing has changed.
 
     >>> volume = Volume()
     >>> volume.mkdir("/a/b")
@@ -109,7 +109,7 @@ class Volume(Tree, _core.Volume):
     def load(
         cls, text: Union[bytes, str], *, shape: Tuple[int, int, int] = USUAL, clock: Callable[[], int] = time.time_ns
     ) -> "Volume":
-        """A volume with the tree whose image the text is, without snapshots. A text that is none is a `BadImage`.
+        """Loads a volume from an image, without snapshots. A text that is not an image is a `BadImage`.
 
         >>> Volume.load("D / 5\\nF /x 3 7\\nb 0 616263\\n").read("/x")
         b'abc'
@@ -120,7 +120,7 @@ class Volume(Tree, _core.Volume):
         return volume
 
     def makedirs(self, path: StrPath, exist_ok: bool = False, *, at: Optional[int] = None) -> None:
-        """Makes a directory, and those above it that are not there."""
+        """Creates a directory, and those above it that do not exist."""
         whole = _text(path)
         with self._lock:
             cut = whole.find("/", 1)
@@ -135,15 +135,15 @@ class Volume(Tree, _core.Volume):
                     raise
 
     def freeze(self) -> "Frozen":
-        """The tree as it stands now, which later changes do not touch."""
+        """Freezes the current tree, which later changes do not affect."""
         return Frozen(self)
 
-    def frozen(self, name: Union[str, bytes]) -> "Frozen":
-        """The tree of a snapshot."""
+    def open_snapshot(self, name: Union[str, bytes]) -> "Frozen":
+        """Opens a snapshot for reading."""
         return Frozen(self, name)
 
     def image(self) -> bytes:
-        """The tree as text, without snapshots: `Volume.load` makes a volume of it.
+        """The image of the tree, without snapshots: text that `Volume.load` accepts.
 
         >>> volume = Volume(clock=lambda: 0)
         >>> _ = volume.write_bytes("/x", b"abc")
@@ -155,8 +155,8 @@ class Volume(Tree, _core.Volume):
 
 
 class Frozen(Tree, _core.Frozen):
-    """A tree that stands still: later changes of its volume do not touch it, nor does the volume's close. It is the
-    volume's tree, or that of a snapshot where one is named.
+    """A frozen tree: later changes of its volume do not affect it, nor does the volume's close. It is the volume's tree, or
+    that of a snapshot if one is named.
 
     >>> volume = Volume()
     >>> volume.create("/x")

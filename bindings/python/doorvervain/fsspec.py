@@ -25,7 +25,7 @@ from typing import Any, Dict, List, Optional, Union
 from fsspec import AbstractFileSystem
 
 from ._file import File
-from ._types import Entry, fault
+from ._types import Entry, os_error
 from ._volume import Volume
 
 _volumes: Dict[str, Volume] = {}
@@ -79,7 +79,7 @@ class DoorvervainFileSystem(AbstractFileSystem):
         }
 
     def info(self, path: str, **kwargs: Any) -> Dict[str, Any]:
-        """What stands at a path; `modified` is its moment of last change."""
+        """The entry at a path; `modified` is its mtime."""
         path = self._strip_protocol(path)
         try:
             return self._info(path)
@@ -87,15 +87,15 @@ class DoorvervainFileSystem(AbstractFileSystem):
             raise FileNotFoundError(path) from None
 
     def exists(self, path: str, **kwargs: Any) -> bool:
-        """Whether something stands at a path."""
+        """Whether a path exists."""
         return self.volume.exists(self._strip_protocol(path))
 
     def isdir(self, path: str) -> bool:
-        """Whether a directory stands at a path."""
+        """Whether a path is a directory."""
         return self.volume.is_dir(self._strip_protocol(path))
 
     def isfile(self, path: str) -> bool:
-        """Whether a file stands at a path."""
+        """Whether a path is a file."""
         return self.volume.is_file(self._strip_protocol(path))
 
     def ls(self, path: str, detail: bool = True, **kwargs: Any) -> List[Any]:
@@ -215,7 +215,7 @@ class DoorvervainFileSystem(AbstractFileSystem):
         self._made(path2, lambda to: self.volume.rename(path1, to))
 
     def touch(self, path: str, truncate: bool = True, **kwargs: Any) -> None:
-        """Makes an empty file; one that is there is emptied, or gets the moment alone."""
+        """Creates an empty file; an existing one is truncated, or only gets the timestamp."""
         path = self._strip_protocol(path)
         if truncate or not self.volume.exists(path):
             self._made(path, self.volume._empty)
@@ -223,7 +223,7 @@ class DoorvervainFileSystem(AbstractFileSystem):
             self.volume.truncate(path, self.volume.stat(path).size)
 
     def created(self, path: str) -> datetime:
-        """There is no moment of making: that of the last change."""
+        """The mtime: a time of creation is not stored."""
         return self.modified(path)
 
     def modified(self, path: str) -> datetime:
@@ -273,7 +273,7 @@ class _Pending(io.BufferedWriter):
         self._to = path
         self._beside = f"{path}.{id(self):x}.pending"
         if mode.startswith("x") and files.volume.exists(path):
-            raise fault(errno.EEXIST, path)
+            raise os_error(errno.EEXIST, path)
         if mode.startswith("a") and files.volume.exists(path):
             files.volume.write_bytes(self._beside, files.volume.read(path))
         super().__init__(files._made(self._beside, lambda to: File(files.volume, to, mode[0])))

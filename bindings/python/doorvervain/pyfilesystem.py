@@ -29,7 +29,7 @@ from ._file import open_file
 from ._types import Stat
 from ._volume import Volume
 
-# What a refusal is called where a file was asked for, and where a directory was.
+# The exceptions for an error number if a file was expected, and if a directory was.
 _OF_FILES = {
     errno.ENOENT: errors.ResourceNotFound,
     errno.ENOTDIR: errors.ResourceNotFound,
@@ -50,8 +50,8 @@ _OF_DIRECTORIES = {
 }
 
 
-def _told(error: OSError, path: str, names: Mapping[int, Any] = _OF_FILES) -> Exception:
-    """A refusal as PyFilesystem2 calls it."""
+def _fs_error(error: OSError, path: str, names: Mapping[int, Any] = _OF_FILES) -> Exception:
+    """An error as an exception of PyFilesystem2."""
     return cast(Exception, names.get(error.errno or 0, errors.OperationFailed)(path=path))
 
 
@@ -102,19 +102,19 @@ class DoorvervainFS(FS):
         try:
             stat = self.volume.stat(at)
         except OSError as error:
-            raise _told(error, path) from None
+            raise _fs_error(error, path) from None
         return Info(_raw(basename(at), stat, namespaces or ()))
 
     def exists(self, path: str) -> bool:
-        """Whether something stands at a path."""
+        """Whether a path exists."""
         return self.volume.exists(self.validatepath(path))
 
     def isdir(self, path: str) -> bool:
-        """Whether a directory stands at a path."""
+        """Whether a path is a directory."""
         return self.volume.is_dir(self.validatepath(path))
 
     def isfile(self, path: str) -> bool:
-        """Whether a file stands at a path."""
+        """Whether a path is a file."""
         return self.volume.is_file(self.validatepath(path))
 
     def listdir(self, path: str) -> List[str]:
@@ -123,7 +123,7 @@ class DoorvervainFS(FS):
         try:
             return self.volume.listdir(at)
         except OSError as error:
-            raise _told(error, path, _OF_DIRECTORIES) from None
+            raise _fs_error(error, path, _OF_DIRECTORIES) from None
 
     def scandir(
         self, path: str, namespaces: Optional[Collection[str]] = None, page: Optional[Tuple[int, int]] = None
@@ -134,17 +134,17 @@ class DoorvervainFS(FS):
             try:
                 entries = self.volume.scandir(at)
             except OSError as error:
-                raise _told(error, path, _OF_DIRECTORIES) from None
+                raise _fs_error(error, path, _OF_DIRECTORIES) from None
             if page is not None:
                 entries = entries[page[0] : page[1]]
             if not namespaces:
-                told = [Info({"basic": {"name": entry.name, "is_dir": entry.is_dir}}) for entry in entries]
+                infos = [Info({"basic": {"name": entry.name, "is_dir": entry.is_dir}}) for entry in entries]
             else:
                 before = "/" if at == "/" else at + "/"
-                told = [
+                infos = [
                     Info(_raw(entry.name, self.volume.stat(before + entry.name), namespaces)) for entry in entries
                 ]
-        return iter(told)
+        return iter(infos)
 
     def makedir(
         self, path: str, permissions: Optional[Permissions] = None, recreate: bool = False
@@ -159,7 +159,7 @@ class DoorvervainFS(FS):
         except NotADirectoryError:
             raise errors.ResourceNotFound(path) from None
         except OSError as error:
-            raise _told(error, path, _OF_DIRECTORIES) from None
+            raise _fs_error(error, path, _OF_DIRECTORIES) from None
         return cast("SubFS[DoorvervainFS]", self.opendir(path))
 
     def open(
@@ -189,10 +189,10 @@ class DoorvervainFS(FS):
         try:
             return open_file(self.volume, at, mode, buffering, *text)
         except FileExistsError:
-            # The root stands there too, and is no file.
+            # The root exists too, and is not a file.
             raise (errors.FileExpected if at == "/" else errors.FileExists)(path) from None
         except OSError as error:
-            raise _told(error, path) from None
+            raise _fs_error(error, path) from None
 
     def create(self, path: str, wipe: bool = False) -> bool:
         """Makes an empty file, or with `wipe` empties the one that is there: whether it did."""
@@ -205,7 +205,7 @@ class DoorvervainFS(FS):
         except FileExistsError:
             return False
         except OSError as error:
-            raise _told(error, path) from None
+            raise _fs_error(error, path) from None
         return True
 
     def readbytes(self, path: str) -> bytes:
@@ -214,7 +214,7 @@ class DoorvervainFS(FS):
         try:
             return self.volume.read(at)
         except OSError as error:
-            raise _told(error, path) from None
+            raise _fs_error(error, path) from None
 
     def writebytes(self, path: str, contents: bytes) -> None:
         """Makes a file hold these bytes and no others."""
@@ -224,7 +224,7 @@ class DoorvervainFS(FS):
         try:
             self.volume.write_bytes(at, contents)
         except OSError as error:
-            raise _told(error, path) from None
+            raise _fs_error(error, path) from None
 
     def remove(self, path: str) -> None:
         """Takes a file out."""
@@ -232,7 +232,7 @@ class DoorvervainFS(FS):
         try:
             self.volume.unlink(at)
         except OSError as error:
-            raise _told(error, path) from None
+            raise _fs_error(error, path) from None
 
     def removedir(self, path: str) -> None:
         """Takes an empty directory out."""
@@ -240,7 +240,7 @@ class DoorvervainFS(FS):
         try:
             self.volume.rmdir(at)
         except OSError as error:
-            raise _told(error, path, _OF_DIRECTORIES) from None
+            raise _fs_error(error, path, _OF_DIRECTORIES) from None
 
     def removetree(self, dir_path: str) -> None:
         """Takes a directory out with all below it, by one call; of the root, what it holds."""
@@ -253,10 +253,10 @@ class DoorvervainFS(FS):
                 for below in [at] if at != "/" else ["/" + name for name in names]:
                     self.volume.rmtree(below)
             except OSError as error:
-                raise _told(error, dir_path, _OF_DIRECTORIES) from None
+                raise _fs_error(error, dir_path, _OF_DIRECTORIES) from None
 
     def move(self, src_path: str, dst_path: str, overwrite: bool = False, preserve_time: bool = False) -> None:
-        """Moves a file, by one call. It keeps its moment."""
+        """Moves a file, by one call. It keeps its mtime."""
         old, new = self.validatepath(src_path), self.validatepath(dst_path)
         with self.volume._lock:
             if not overwrite and self.volume.exists(new):
@@ -267,11 +267,11 @@ class DoorvervainFS(FS):
                 self.volume.rename(old, new)
             except OSError as error:
                 is_there = self.volume.exists(old)
-                raise _told(error, dst_path if is_there else src_path) from None
+                raise _fs_error(error, dst_path if is_there else src_path) from None
 
     def movedir(self, src_path: str, dst_path: str, create: bool = False, preserve_time: bool = False) -> None:
-        """Moves a directory with all below it: by one call where nothing stands at its new path, and else into what
-        stands there."""
+        """Moves a directory with everything below it: by one call if its new path does not exist, and else into the
+        directory there."""
         old, new = self.validatepath(src_path), self.validatepath(dst_path)
         with self.volume._lock:
             if create and old != new and not isbase(old, new) and self.volume.is_dir(old):
@@ -281,36 +281,36 @@ class DoorvervainFS(FS):
         super().movedir(src_path, dst_path, create=create, preserve_time=preserve_time)
 
     def setinfo(self, path: str, info: Mapping[str, Mapping[str, object]]) -> None:
-        """Sets the moment of last change of a file. Nothing else can be set."""
+        """Sets the mtime of a file. Nothing else can be set."""
         at = self.validatepath(path)
         modified: Any = info.get("details", {}).get("modified")
         with self.volume._lock:
             try:
                 stat = self.volume.stat(at)
                 if modified is not None and stat.is_file:
-                    self.volume.truncate(at, stat.size, at=_moment_of(modified))
+                    self.volume.truncate(at, stat.size, at=_timestamp_of(modified))
             except OSError as error:
-                raise _told(error, path) from None
+                raise _fs_error(error, path) from None
 
 
-def _moment_of(modified: Union[float, datetime]) -> int:
-    """Nanoseconds of a time that is told in seconds since 1970, to the microsecond."""
+def _timestamp_of(modified: Union[float, datetime]) -> int:
+    """Nanoseconds of a time in seconds since 1970, to the microsecond."""
     seconds = modified.timestamp() if isinstance(modified, datetime) else modified
     return max(round(seconds * 1_000_000), 0) * 1000
 
 
 def _raw(name: str, stat: Stat, namespaces: Collection[str]) -> Dict[str, Dict[str, object]]:
     """What is known of an entry, as `Info` has it."""
-    told: Dict[str, Dict[str, object]] = {"basic": {"name": name, "is_dir": stat.is_dir}}
+    infos: Dict[str, Dict[str, object]] = {"basic": {"name": name, "is_dir": stat.is_dir}}
     if "details" in namespaces:
-        told["details"] = {
+        infos["details"] = {
             "_write": [] if stat.is_dir else ["modified"],
             "type": int(ResourceType.directory if stat.is_dir else ResourceType.file),
             "size": stat.size,
             # A quotient of whole numbers is rounded once.
             "modified": stat.modified / 1_000_000_000,
         }
-    return told
+    return infos
 
 
 class DoorvervainOpener(Opener):

@@ -58,9 +58,9 @@ class System:
         return sorted(os.listdir(self.at(path)), key=os.fsencode)
 
     def stat(self, path):
-        told = os.stat(self.at(path))
+        result = os.stat(self.at(path))
         is_dir = os.path.isdir(self.at(path))
-        return is_dir, 0 if is_dir else told.st_size
+        return is_dir, 0 if is_dir else result.st_size
 
 
 def answer(name, call, *words):
@@ -94,7 +94,7 @@ class BesideTheSystem(unittest.TestCase):
                     continue
                 self.assertEqual(got, wanted, (seed, number, name, words))
                 if number % 16 == 0:
-                    volume.relieve(3)
+                    volume.compact(3)
             self.assertGreater(len(kinds), 30)
 
     def path(self, rng):
@@ -143,10 +143,10 @@ class FilesBesideTheSystem(unittest.TestCase):
             with open(path, "wb") as file:
                 file.write(stands)
         encoding = None if "b" in mode else "utf-8"
-        told = []
+        result = []
         for opens in [lambda: volume.open("/f", mode, buffering, encoding), lambda: open(path, mode, buffering, encoding)]:
             seen = []
-            told.append(seen)
+            result.append(seen)
             try:
                 file = opens()
             except OSError as error:
@@ -155,7 +155,7 @@ class FilesBesideTheSystem(unittest.TestCase):
             with file:
                 self.ask(file, "b" in mode, seen)
             seen.append(file.closed)
-        self.assertEqual(*told)
+        self.assertEqual(*result)
         there = os.path.exists(path)
         self.assertEqual(volume.exists("/f"), there)
         if there:
@@ -237,9 +237,9 @@ class FilesBesideTheSystem(unittest.TestCase):
 
     def test_what_a_file_tells(self):
         volume = Volume()
-        for mode, told in [("wb", "wb"), ("rb", "rb"), ("r+b", "rb+"), ("ab", "ab"), ("a+b", "ab+")]:
+        for mode, expected in [("wb", "wb"), ("rb", "rb"), ("r+b", "rb+"), ("ab", "ab"), ("a+b", "ab+")]:
             with volume.open("/f", mode, 0) as file:
-                self.assertEqual((file.name, file.mode), ("/f", told))
+                self.assertEqual((file.name, file.mode), ("/f", expected))
                 self.assertIn("/f", repr(file))
             self.assertIn("closed", repr(file))
             for call in [file.read, file.tell, file.readable, file.writable, file.seekable]:

@@ -31,9 +31,9 @@ class Examples(unittest.TestCase):
         pages = [page for page in PAGES if page.exists()]
         self.assertTrue(pages, "no page is there")
         for page in pages:
-            told = doctest.testfile(str(page), module_relative=False)
-            self.assertGreater(told.attempted, 10)
-            self.assertEqual(told.failed, 0)
+            result = doctest.testfile(str(page), module_relative=False)
+            self.assertGreater(result.attempted, 10)
+            self.assertEqual(result.failed, 0)
 
 
 if __name__ == "__main__":

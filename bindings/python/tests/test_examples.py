@@ -21,8 +21,8 @@ class Examples(unittest.TestCase):
     @unittest.skipUnless(importlib.util.find_spec("pytest"), "pytest is not installed")
     def test_fixture(self):
         options = ["-q", "-p", "no:cacheprovider", "--tree", "volume"]
-        told = said("-m", "pytest", *options, cwd=EXAMPLES / "fixture", env={**os.environ, "PYTHONSAFEPATH": "1"})
-        self.assertIn("1000 passed", told)
+        result = said("-m", "pytest", *options, cwd=EXAMPLES / "fixture", env={**os.environ, "PYTHONSAFEPATH": "1"})
+        self.assertIn("1000 passed", result)
 
 
 if __name__ == "__main__":

@@ -55,8 +55,8 @@ class Refusals(unittest.TestCase):
             (OSError, errno.EBUSY, volume.rmdir, "/"),
             (OSError, errno.EBUSY, volume.rmtree, "/"),
             (FileNotFoundError, errno.ENOENT, volume.restore, "none"),
-            (FileNotFoundError, errno.ENOENT, volume.drop, "none"),
-            (FileNotFoundError, errno.ENOENT, volume.frozen, "none"),
+            (FileNotFoundError, errno.ENOENT, volume.drop_snapshot, "none"),
+            (FileNotFoundError, errno.ENOENT, volume.open_snapshot, "none"),
             (OSError, errno.EINVAL, volume.snapshot, "a/b"),
         ]:
             with self.subTest(call=call.__name__, words=words):
@@ -69,8 +69,8 @@ class Refusals(unittest.TestCase):
             (IsADirectoryError, errno.EISDIR, "/d/f", "/d"),
             (OSError, errno.EBUSY, "/", "/r"),
         ]:
-            told = refused(self, kind, number, self.volume.rename, old, new)
-            self.assertEqual((told.filename, told.filename2), (old, new))
+            error = refused(self, kind, number, self.volume.rename, old, new)
+            self.assertEqual((error.filename, error.filename2), (old, new))
 
     def test_the_path_is_told_as_it_was_given(self):
         self.assertEqual(refused(self, FileNotFoundError, errno.ENOENT, self.volume.stat, b"/x").filename, b"/x")
@@ -114,8 +114,8 @@ class Refusals(unittest.TestCase):
             (volume.mkdir, "/e"), (volume.create, "/e"), (volume.unlink, "/d/f"), (volume.rmdir, "/d"),
             (volume.rmtree, "/d"), (volume.rename, "/d", "/e"), (volume.truncate, "/d/f", 1),
             (volume.write, "/d/f", b"x"), (volume.write_bytes, "/d/f", b"x"), (volume.read, "/d/f"),
-            (volume.stat, "/d"), (volume.listdir, "/"), (volume.snapshot, "t"), (volume.drop, "s"),
-            (volume.restore, "s"), (volume.freeze,), (volume.frozen, "s"), (volume.image,), (volume.relieve, 1),
+            (volume.stat, "/d"), (volume.listdir, "/"), (volume.snapshot, "t"), (volume.drop_snapshot, "s"),
+            (volume.restore, "s"), (volume.freeze,), (volume.open_snapshot, "s"), (volume.image,), (volume.compact, 1),
             (volume.makedirs, "/e/f"), (volume.open, "/d/f"), (file.read, 1), (file.readall,),
         ]:
             with self.subTest(call=call.__name__):
@@ -233,9 +233,9 @@ class Snapshots(unittest.TestCase):
             volume.snapshot(name)
         self.assertEqual(volume.snapshots(), ["B", "_", "a", "a-1", "a.1", "b"])
         refused(self, FileExistsError, errno.EEXIST, volume.snapshot, "a")
-        volume.drop("a")
+        volume.drop_snapshot("a")
         self.assertNotIn("a", volume.snapshots())
-        refused(self, FileNotFoundError, errno.ENOENT, volume.drop, "a")
+        refused(self, FileNotFoundError, errno.ENOENT, volume.drop_snapshot, "a")
         for number in range(64 - 5):
             volume.snapshot(f"n{number}")
         refused(self, OSError, errno.ENOSPC, volume.snapshot, "more")
@@ -246,9 +246,9 @@ class Snapshots(unittest.TestCase):
         volume.write_bytes("/f", b"one")
         volume.snapshot("one")
         volume.write_bytes("/f", b"two")
-        with volume.frozen("one") as tree:
+        with volume.open_snapshot("one") as tree:
             self.assertEqual(tree.read("/f"), b"one")
-            volume.drop("one")
+            volume.drop_snapshot("one")
             volume.rmtree("/f")
             self.assertEqual(tree.read("/f", 2, 1), b"ne")
             self.assertEqual(list(tree.walk()), [("/", [], ["f"])])
@@ -282,10 +282,10 @@ class Snapshots(unittest.TestCase):
         with self.assertRaises(BadImage) as caught:
             Volume.load("D / 5\nD /b 1\nD /a 1\n")
         self.assertEqual((caught.exception.line, caught.exception.errno), (3, errno.EINVAL))
-        told = refused(self, OSError, errno.EINVAL, Volume.load, "D / 5\n", shape=(0, 0, 0))
-        self.assertNotIsInstance(told, BadImage)
+        error = refused(self, OSError, errno.EINVAL, Volume.load, "D / 5\n", shape=(0, 0, 0))
+        self.assertNotIsInstance(error, BadImage)
 
-    def test_difference(self):
+    def test_delta(self):
         volume = Volume(clock=lambda: 9)
         volume.snapshot("empty")
         for number in range(300):
@@ -294,28 +294,28 @@ class Snapshots(unittest.TestCase):
         self.assertGreater(len(whole), 1 << 20)
         far = Volume(clock=lambda: 0)
         far.snapshot("gone")
-        far.apply(whole)
+        far.apply_delta(whole)
         self.assertEqual((far.image(), far.snapshots()), (volume.image(), []))
         volume.snapshot("full")
         self.assertEqual(volume.delta("empty", "full"), volume.delta("empty", ""))
-        far.apply(volume.delta(new="empty", old="full"))
+        far.apply_delta(volume.delta(new="empty", old="full"))
         self.assertEqual(far.listdir(), [])
 
-    def test_difference_that_is_refused(self):
+    def test_bad_deltas(self):
         volume = Volume.load("D / 5\n")
         volume.snapshot("kept")
         first, other = volume.delta("kept"), Volume(clock=lambda: 0).delta("")
         for text, line in [(b"", 1), (first.replace(b"=", b"*"), 2), (first.replace(b"=", b"-"), 0)]:
             with self.assertRaises(BadDelta) as caught:
-                volume.apply(text)
+                volume.apply_delta(text)
             self.assertEqual((caught.exception.line, caught.exception.errno), (line, errno.EINVAL))
-        refused(self, FileNotFoundError, errno.ENOENT, volume.apply, other)
+        refused(self, FileNotFoundError, errno.ENOENT, volume.apply_delta, other)
         refused(self, FileNotFoundError, errno.ENOENT, volume.delta, "none")
         refused(self, OSError, errno.EINVAL, volume.delta, "kept", "a/b")
-        self.assertRaises(TypeError, volume.apply, "text")
+        self.assertRaises(TypeError, volume.apply_delta, "text")
         self.assertEqual((volume.image(), volume.snapshots()), (b"D / 5\n", ["kept"]))
         volume.close()
-        refused(self, OSError, errno.EBADF, volume.apply, first)
+        refused(self, OSError, errno.EBADF, volume.apply_delta, first)
         refused(self, OSError, errno.EBADF, volume.delta, "kept")
 
     def test_relief_changes_no_answer(self):
@@ -323,13 +323,13 @@ class Snapshots(unittest.TestCase):
         for number in range(500):
             volume.create(f"/f{number}")
         before = volume.image()
-        while volume.relieve(50) == 50:
+        while volume.compact(50) == 50:
             self.assertEqual(volume.image(), before)
-        self.assertEqual(volume.relieve(1), 0)
+        self.assertEqual(volume.compact(1), 0)
         volume.create("/more")
         before = volume.image()
-        self.assertGreater(volume.relieve(), 0)
-        self.assertEqual((volume.relieve(None), volume.relieve(-1), volume.relieve(1 << 80)), (0, 0, 0))
+        self.assertGreater(volume.compact(), 0)
+        self.assertEqual((volume.compact(None), volume.compact(-1), volume.compact(1 << 80)), (0, 0, 0))
         self.assertEqual(volume.image(), before)
 
 
@@ -356,7 +356,7 @@ class Words(unittest.TestCase):
             (volume.mkdir, (), {}), (volume.mkdir, ("/d", 7), {}), (volume.mkdir, ("/d",), {"when": 7}),
             (volume.mkdir, ("/d",), {"path": "/e"}), (volume.write, ("/d",), {"offset": 7}), (volume.stat, (), {}),
             (volume.read, ("/d", 1.5), {}), (volume.read, ("/d", 1, "0"), {}), (volume.mkdir, ("/d",), {"at": "7"}),
-            (volume.listdir, ("/", 1), {}), (volume.snapshot, (7,), {}), (volume.relieve, ("all",), {}),
+            (volume.listdir, ("/", 1), {}), (volume.snapshot, (7,), {}), (volume.compact, ("all",), {}),
             (doorvervain.Frozen, ("/",), {}), (Volume, (), {"shape": 7}), (Volume, ((16, 256, 256),), {}),
         ]:
             with self.subTest(call=call.__name__, words=words, named=named), self.assertRaises(TypeError):
@@ -374,7 +374,7 @@ class Words(unittest.TestCase):
         never = Volume.__new__(Volume)
         self.assertTrue(never.closed)
         never.close()
-        for call, *words in [(never.listdir,), (never.mkdir, "/d"), (never.write, "/f", b"x"), (never.freeze,), (never.relieve,)]:
+        for call, *words in [(never.listdir,), (never.mkdir, "/d"), (never.write, "/f", b"x"), (never.freeze,), (never.compact,)]:
             refused(self, OSError, errno.EBADF, call, *words)
 
     def test_a_volume_that_its_clock_holds_goes(self):

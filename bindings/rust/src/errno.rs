@@ -1,8 +1,8 @@
-//! Why a call is refused.
+//! Errors.
 use std::error::Error;
 use std::{fmt, io};
 
-/// Why a call was refused, under the names of POSIX.
+/// The error of a call, with the names of POSIX.
 ///
 /// ```
 /// use doorvervain::{Errno, Volume};
@@ -23,7 +23,7 @@ pub enum Errno {
     ENOTDIR = 2,
     /// A directory.
     EISDIR = 3,
-    /// Something stands there already.
+    /// The path or snapshot exists already.
     EEXIST = 4,
     /// The directory is not empty.
     ENOTEMPTY = 5,
@@ -37,13 +37,13 @@ pub enum Errno {
     EFBIG = 9,
     /// The root, which stays.
     EBUSY = 10,
-    /// Memory was refused.
+    /// Allocation failure.
     ENOMEM = 11,
     /// All 64 names of snapshots are taken.
     ENOSPC = 12,
 }
 
-/// Each refusal with its word, what it says, and Linux's number for it, in the order of the library's numbers.
+/// Each error with its name, its message, and Linux's number for it, in the order of the library's numbers.
 const TABLE: [(Errno, &str, &str, i32); 12] = [
     (Errno::ENOENT, "ENOENT", "no such file or directory", 2),
     (Errno::ENOTDIR, "ENOTDIR", "not a directory", 20),
@@ -59,32 +59,32 @@ const TABLE: [(Errno, &str, &str, i32); 12] = [
     (Errno::ENOSPC, "ENOSPC", "all 64 names of snapshots are taken", 28),
 ];
 
-/// The library's number for a buffer with too little room. It is no refusal: who called asks again with more.
+/// The library's number for a buffer that is too short. It is no error of this crate, which calls again with more capacity.
 pub(crate) const SHORT: u8 = 13;
 
 impl Errno {
-    /// The refusal's number, from 1 to 12, as the library for C has it.
+    /// The number of the error, from 1 to 12, as in the library for C.
     pub fn number(self) -> u8 {
         self as u8
     }
 
-    /// The refusal of a number of the library; none for other numbers.
-    pub fn of_number(number: u8) -> Option<Errno> {
+    /// The error with a number of the library; none for other numbers.
+    pub fn from_number(number: u8) -> Option<Errno> {
         let row = TABLE.get(usize::from(number).checked_sub(1)?)?;
         Some(row.0)
     }
 
-    /// The refusal's word, as `ENOENT`.
+    /// The name of the error, as `ENOENT`.
     pub fn name(self) -> &'static str {
         self.row().1
     }
 
-    /// What the refusal says, as a short sentence without a full stop.
-    pub fn sentence(self) -> &'static str {
+    /// The message of the error, a short sentence without a full stop.
+    pub fn message(self) -> &'static str {
         self.row().2
     }
 
-    /// Linux's number for the refusal.
+    /// Linux's number for the error.
     pub fn raw_os_error(self) -> i32 {
         self.row().3
     }
@@ -96,7 +96,7 @@ impl Errno {
 
 impl fmt::Display for Errno {
     fn fmt(&self, f: &mut fmt::Formatter<'_>) -> fmt::Result {
-        write!(f, "{}: {}", self.name(), self.sentence())
+        write!(f, "{}: {}", self.name(), self.message())
     }
 }
 
@@ -108,12 +108,12 @@ impl From<Errno> for io::Error {
     }
 }
 
-/// Why no volume was made of an image.
+/// Why an image was not loaded.
 #[derive(Clone, Copy, Debug, PartialEq, Eq)]
 pub enum LoadError {
-    /// The text is no image; this is the first line with which it is none.
+    /// The text is not an image; this is its first bad line.
     BadLine(u64),
-    /// No such shape, or memory was refused.
+    /// No such shape, or allocation failure.
     Refused(Errno),
 }
 
@@ -144,25 +144,25 @@ impl From<LoadError> for io::Error {
     }
 }
 
-/// Why a difference was not applied.
+/// Why a delta was not applied.
 #[derive(Clone, Copy, Debug, PartialEq, Eq)]
 pub enum DeltaError {
-    /// The text is no difference; this is the first line with which it is none.
+    /// The text is not a delta; this is its first bad line.
     BadLine(u64),
-    /// It is the difference of another tree.
+    /// It is the delta of another tree.
     OtherTree,
-    /// What it makes of the tree is none.
+    /// The result would not be a tree.
     NoTree,
-    /// Memory was refused.
+    /// Allocation failure.
     Refused(Errno),
 }
 
 impl fmt::Display for DeltaError {
     fn fmt(&self, f: &mut fmt::Formatter<'_>) -> fmt::Result {
         match self {
-            DeltaError::BadLine(line) => write!(f, "bad difference at line {line}"),
-            DeltaError::OtherTree => f.write_str("difference of another tree"),
-            DeltaError::NoTree => f.write_str("difference makes no tree"),
+            DeltaError::BadLine(line) => write!(f, "bad delta at line {line}"),
+            DeltaError::OtherTree => f.write_str("delta of another tree"),
+            DeltaError::NoTree => f.write_str("delta makes no tree"),
             DeltaError::Refused(refused) => refused.fmt(f),
         }
     }
@@ -194,10 +194,10 @@ mod tests {
     fn the_table_is_in_the_order_of_numbers() {
         for (number, row) in (1..).zip(TABLE) {
             assert_eq!(row.0.number(), number);
-            assert_eq!(Errno::of_number(number), Some(row.0));
+            assert_eq!(Errno::from_number(number), Some(row.0));
         }
         for number in [0, SHORT, 254, 255] {
-            assert_eq!(Errno::of_number(number), None);
+            assert_eq!(Errno::from_number(number), None);
         }
     }
 }

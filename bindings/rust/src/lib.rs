@@ -8,10 +8,10 @@ mod raw;
 mod volume;
 
 pub use errno::{DeltaError, Errno, LoadError};
-pub use listing::{Entries, Entry, Kind, Listing, Stat, Walk, Walked};
+pub use listing::{Entries, Entry, Kind, Listing, Stat, Walk, WalkEntry};
 pub use path::AsPath;
 pub use volume::{Frozen, Shape, Volume};
 
-/// What the library that is linked was built from: the release, the commit, and `proved` or `unproved`, as
-/// `0.1.0, commit 0123456789ab, proved`.
+/// What the linked library was built from: the release, the commit, and `proved` or `unproved`, as
+/// `0.2.0, commit 0123456789ab, proved`.
 pub const BUILD: &str = env!("DOORVERVAIN_BUILD");

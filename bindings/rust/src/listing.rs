@@ -1,8 +1,8 @@
-//! What stands at a path, and what a directory has.
+//! Entries and listings of directories.
 use crate::errno::Errno;
 use std::iter::FusedIterator;
 
-/// What stands at a path.
+/// The kind of an entry.
 #[derive(Clone, Copy, Debug, PartialEq, Eq, Hash)]
 pub enum Kind {
     /// A directory.
@@ -11,14 +11,14 @@ pub enum Kind {
     File,
 }
 
-/// What is known of a path.
+/// The result of `stat`.
 #[derive(Clone, Copy, Debug, PartialEq, Eq, Hash)]
 pub struct Stat {
     /// Whether it is a directory or a file.
     pub kind: Kind,
     /// The size in bytes; 0 for a directory.
     pub size: u64,
-    /// The moment of its last change.
+    /// Its mtime.
     pub modified: u64,
 }
 
@@ -43,7 +43,7 @@ impl Listing {
         Listing { bytes }
     }
 
-    /// Goes over the entries.
+    /// Iterates over the entries.
     pub fn iter(&self) -> Entries<'_> {
         Entries { rest: &self.bytes }
     }
@@ -63,7 +63,7 @@ impl<'a> IntoIterator for &'a Listing {
     }
 }
 
-/// Goes over the entries of a listing.
+/// Iterates over the entries of a listing.
 #[derive(Clone, Debug)]
 pub struct Entries<'a> {
     rest: &'a [u8],
@@ -83,34 +83,34 @@ impl<'a> Iterator for Entries<'a> {
 
 impl FusedIterator for Entries<'_> {}
 
-/// Whoever lists a directory.
+/// Whatever can list a directory.
 pub(crate) trait Lists {
     fn list(&self, path: &[u8]) -> Result<Listing, Errno>;
 }
 
-/// An entry that a walk came to.
+/// An entry of a walk.
 #[derive(Clone, Debug, PartialEq, Eq, Hash)]
-pub struct Walked {
+pub struct WalkEntry {
     /// Its path.
     pub path: Vec<u8>,
     /// Whether it is a directory or a file.
     pub kind: Kind,
 }
 
-/// Goes over an entry and all that lies below it: each directory right before what it holds, and names in byte order.
-/// A refusal is told once, and then the walk goes on with what is left.
+/// Iterates over an entry and everything below it: each directory right before its entries, and names in byte order.
+/// An error is returned once, and then the walk continues with the rest.
 pub struct Walk<'a> {
     tree: &'a dyn Lists,
-    // What is still to come, the next one last.
-    waiting: Vec<Walked>,
+    // What is still to be returned, the next one last.
+    pending: Vec<WalkEntry>,
     refused: Option<Errno>,
 }
 
 impl<'a> Walk<'a> {
     pub(crate) fn new(tree: &'a dyn Lists, path: &[u8], top: Result<Stat, Errno>) -> Walk<'a> {
-        let (waiting, refused) = match top {
+        let (pending, refused) = match top {
             Ok(stat) => (
-                vec![Walked {
+                vec![WalkEntry {
                     path: path.to_vec(),
                     kind: stat.kind,
                 }],
@@ -118,36 +118,36 @@ impl<'a> Walk<'a> {
             ),
             Err(refused) => (Vec::new(), Some(refused)),
         };
-        Walk { tree, waiting, refused }
+        Walk { tree, pending, refused }
     }
 
-    /// Puts what a directory holds before what waits.
+    /// Inserts the entries of a directory before what is pending.
     fn enter(&mut self, path: &[u8]) {
         match self.tree.list(path) {
             Ok(listing) => {
-                let from = self.waiting.len();
-                self.waiting.extend(listing.iter().map(|entry| below(path, entry)));
-                self.waiting[from..].reverse();
+                let from = self.pending.len();
+                self.pending.extend(listing.iter().map(|entry| below(path, entry)));
+                self.pending[from..].reverse();
             }
             Err(refused) => self.refused = Some(refused),
         }
     }
 }
 
-fn below(path: &[u8], entry: Entry<'_>) -> Walked {
+fn below(path: &[u8], entry: Entry<'_>) -> WalkEntry {
     let above = path.strip_suffix(b"/").unwrap_or(path);
     let path = [above, entry.name].join(&b'/');
-    Walked { path, kind: entry.kind }
+    WalkEntry { path, kind: entry.kind }
 }
 
 impl Iterator for Walk<'_> {
-    type Item = Result<Walked, Errno>;
+    type Item = Result<WalkEntry, Errno>;
 
-    fn next(&mut self) -> Option<Result<Walked, Errno>> {
+    fn next(&mut self) -> Option<Result<WalkEntry, Errno>> {
         if let Some(refused) = self.refused.take() {
             return Some(Err(refused));
         }
-        let next = self.waiting.pop()?;
+        let next = self.pending.pop()?;
         if next.kind == Kind::Directory {
             self.enter(&next.path);
         }

@@ -3,7 +3,7 @@ use std::ffi::{OsStr, OsString};
 use std::os::unix::ffi::OsStrExt;
 use std::path::{Path, PathBuf};
 
-/// What may be given as a path: bytes, text, or a path of the system, whose bytes are taken as they are.
+/// What may be passed as a path: bytes, text, or a path of the system, whose bytes are used unchanged.
 ///
 /// ```
 /// use doorvervain::Volume;

@@ -1,9 +1,9 @@
-//! The symbols of the archive, behind types that keep what they ask for. All `unsafe` code of the crate stands here.
+//! The symbols of the archive, behind types that meet the caller's obligations. All `unsafe` code of the crate is here.
 //!
-//! What the library asks of its caller, and how it is kept:
-//! - *No null pointer, and no volume that is closed*: a handle owns a volume from its making to its drop, and a slice is never
+//! The obligations of a caller of the library, and how they are met:
+//! - *No null pointer, and no volume that is closed*: a handle owns a volume from its creation to its drop, and a slice is never
 //!   null.
-//! - *One thread at a time in a volume and in the trees frozen of it*: they share one lock, which each call holds.
+//! - *One thread at a time in a volume and in the trees frozen from it*: they share one lock, which each call holds.
 //! - *Bytes that a call writes overlap no others*: they are borrowed by `&mut`.
 #![allow(unsafe_code)]
 
@@ -19,77 +19,77 @@ const MOST: usize = 1 << 20;
 /// The most bytes that the name of a snapshot has.
 const LONGEST_NAME: usize = 64;
 
-/// What C takes for a directory.
+/// The kind of a directory in C.
 const DIRECTORY: u8 = 1;
 
 /// A volume or a frozen tree, as C has it. A copy is the same one.
 #[repr(C)]
-struct Place {
-    at: *mut c_void,
+struct RawHandle {
+    ptr: *mut c_void,
 }
 
-type OneText = unsafe extern "C" fn(*mut Place, *const u8, usize) -> u8;
-type OnePath = unsafe extern "C" fn(*mut Place, *const u8, usize, u64) -> u8;
-type Read = unsafe extern "C" fn(*mut Place, *const u8, usize, u64, *mut u8, usize, *mut usize) -> u8;
-type ReadStat = unsafe extern "C" fn(*mut Place, *const u8, usize, *mut u8, *mut u64, *mut u64) -> u8;
-type List = unsafe extern "C" fn(*mut Place, *const u8, usize, *mut u8, usize, *mut usize) -> u8;
+type OneText = unsafe extern "C" fn(*mut RawHandle, *const u8, usize) -> u8;
+type OnePath = unsafe extern "C" fn(*mut RawHandle, *const u8, usize, u64) -> u8;
+type Read = unsafe extern "C" fn(*mut RawHandle, *const u8, usize, u64, *mut u8, usize, *mut usize) -> u8;
+type ReadStat = unsafe extern "C" fn(*mut RawHandle, *const u8, usize, *mut u8, *mut u64, *mut u64) -> u8;
+type List = unsafe extern "C" fn(*mut RawHandle, *const u8, usize, *mut u8, usize, *mut usize) -> u8;
 
 #[rustfmt::skip]
 extern "C" {
-    fn doorvervain_raw_open(fanout: u16, pending: u16, leaf: u16, out: *mut Place) -> u8;
+    fn doorvervain_raw_open(fanout: u16, pending: u16, leaf: u16, out: *mut RawHandle) -> u8;
     fn doorvervain_raw_load(
-        fanout: u16, pending: u16, leaf: u16, text: *const u8, length: usize, line: *mut u64, out: *mut Place,
+        fanout: u16, pending: u16, leaf: u16, text: *const u8, length: usize, line: *mut u64, out: *mut RawHandle,
     ) -> u8;
-    fn doorvervain_raw_close(fs: Place);
-    fn doorvervain_raw_mkdir(fs: *mut Place, path: *const u8, length: usize, at: u64) -> u8;
-    fn doorvervain_raw_create(fs: *mut Place, path: *const u8, length: usize, at: u64) -> u8;
-    fn doorvervain_raw_unlink(fs: *mut Place, path: *const u8, length: usize, at: u64) -> u8;
-    fn doorvervain_raw_rmdir(fs: *mut Place, path: *const u8, length: usize, at: u64) -> u8;
-    fn doorvervain_raw_rmtree(fs: *mut Place, path: *const u8, length: usize, at: u64) -> u8;
+    fn doorvervain_raw_close(fs: RawHandle);
+    fn doorvervain_raw_mkdir(fs: *mut RawHandle, path: *const u8, length: usize, at: u64) -> u8;
+    fn doorvervain_raw_create(fs: *mut RawHandle, path: *const u8, length: usize, at: u64) -> u8;
+    fn doorvervain_raw_unlink(fs: *mut RawHandle, path: *const u8, length: usize, at: u64) -> u8;
+    fn doorvervain_raw_rmdir(fs: *mut RawHandle, path: *const u8, length: usize, at: u64) -> u8;
+    fn doorvervain_raw_rmtree(fs: *mut RawHandle, path: *const u8, length: usize, at: u64) -> u8;
     fn doorvervain_raw_rename(
-        fs: *mut Place, from: *const u8, from_length: usize, to: *const u8, to_length: usize, at: u64,
+        fs: *mut RawHandle, from: *const u8, from_length: usize, to: *const u8, to_length: usize, at: u64,
     ) -> u8;
-    fn doorvervain_raw_truncate(fs: *mut Place, path: *const u8, length: usize, size: u64, at: u64) -> u8;
+    fn doorvervain_raw_truncate(fs: *mut RawHandle, path: *const u8, length: usize, size: u64, at: u64) -> u8;
     fn doorvervain_raw_write(
-        fs: *mut Place, path: *const u8, length: usize, offset: u64, bytes: *const u8, count: usize, at: u64,
+        fs: *mut RawHandle, path: *const u8, length: usize, offset: u64, bytes: *const u8, count: usize, at: u64,
     ) -> u8;
     fn doorvervain_raw_read(
-        fs: *mut Place, path: *const u8, length: usize, offset: u64, out: *mut u8, room: usize, got: *mut usize,
+        fs: *mut RawHandle, path: *const u8, length: usize, offset: u64, out: *mut u8, capacity: usize, got: *mut usize,
     ) -> u8;
     fn doorvervain_raw_stat(
-        fs: *mut Place, path: *const u8, length: usize, kind: *mut u8, size: *mut u64, modified: *mut u64,
+        fs: *mut RawHandle, path: *const u8, length: usize, kind: *mut u8, size: *mut u64, modified: *mut u64,
     ) -> u8;
     fn doorvervain_raw_readdir(
-        fs: *mut Place, path: *const u8, length: usize, out: *mut u8, room: usize, size: *mut usize,
+        fs: *mut RawHandle, path: *const u8, length: usize, out: *mut u8, capacity: usize, size: *mut usize,
     ) -> u8;
-    fn doorvervain_raw_snapshot(fs: *mut Place, name: *const u8, length: usize) -> u8;
-    fn doorvervain_raw_drop(fs: *mut Place, name: *const u8, length: usize) -> u8;
-    fn doorvervain_raw_restore(fs: *mut Place, name: *const u8, length: usize) -> u8;
-    fn doorvervain_raw_snapshot_name(fs: *mut Place, index: usize, out: *mut u8, room: usize, size: *mut usize) -> u8;
-    fn doorvervain_raw_freeze(fs: *mut Place, out: *mut Place) -> u8;
-    fn doorvervain_raw_frozen(fs: *mut Place, name: *const u8, length: usize, out: *mut Place) -> u8;
+    fn doorvervain_raw_snapshot(fs: *mut RawHandle, name: *const u8, length: usize) -> u8;
+    fn doorvervain_raw_drop_snapshot(fs: *mut RawHandle, name: *const u8, length: usize) -> u8;
+    fn doorvervain_raw_restore(fs: *mut RawHandle, name: *const u8, length: usize) -> u8;
+    fn doorvervain_raw_snapshot_name(fs: *mut RawHandle, index: usize, out: *mut u8, capacity: usize, size: *mut usize) -> u8;
+    fn doorvervain_raw_freeze(fs: *mut RawHandle, out: *mut RawHandle) -> u8;
+    fn doorvervain_raw_open_snapshot(fs: *mut RawHandle, name: *const u8, length: usize, out: *mut RawHandle) -> u8;
     fn doorvervain_raw_frozen_read(
-        tree: *mut Place, path: *const u8, length: usize, offset: u64, out: *mut u8, room: usize, got: *mut usize,
+        tree: *mut RawHandle, path: *const u8, length: usize, offset: u64, out: *mut u8, capacity: usize, got: *mut usize,
     ) -> u8;
     fn doorvervain_raw_frozen_stat(
-        tree: *mut Place, path: *const u8, length: usize, kind: *mut u8, size: *mut u64, modified: *mut u64,
+        tree: *mut RawHandle, path: *const u8, length: usize, kind: *mut u8, size: *mut u64, modified: *mut u64,
     ) -> u8;
     fn doorvervain_raw_frozen_readdir(
-        tree: *mut Place, path: *const u8, length: usize, out: *mut u8, room: usize, size: *mut usize,
+        tree: *mut RawHandle, path: *const u8, length: usize, out: *mut u8, capacity: usize, size: *mut usize,
     ) -> u8;
-    fn doorvervain_raw_image(tree: *mut Place, out: *mut u8, room: usize, size: *mut usize) -> u8;
+    fn doorvervain_raw_image(tree: *mut RawHandle, out: *mut u8, capacity: usize, size: *mut usize) -> u8;
     fn doorvervain_raw_delta(
-        fs: *mut Place, from: *const u8, from_length: usize, to: *const u8, to_length: usize, out: *mut u8, room: usize,
+        fs: *mut RawHandle, from: *const u8, from_length: usize, to: *const u8, to_length: usize, out: *mut u8, capacity: usize,
         size: *mut usize,
     ) -> u8;
-    fn doorvervain_raw_apply(fs: *mut Place, text: *const u8, length: usize, line: *mut u64) -> u8;
-    fn doorvervain_raw_thaw(tree: Place);
-    fn doorvervain_raw_relieve(fs: *mut Place, steps: u32) -> u32;
+    fn doorvervain_raw_apply_delta(fs: *mut RawHandle, text: *const u8, length: usize, line: *mut u64) -> u8;
+    fn doorvervain_raw_frozen_close(tree: RawHandle);
+    fn doorvervain_raw_compact(fs: *mut RawHandle, steps: u32) -> u32;
 }
 
-/// The calls that change what stands at one path.
+/// The calls that change the entry at one path.
 #[derive(Clone, Copy)]
-pub(crate) enum Change {
+pub(crate) enum PathCall {
     Mkdir,
     Create,
     Unlink,
@@ -97,63 +97,63 @@ pub(crate) enum Change {
     Rmtree,
 }
 
-impl Change {
+impl PathCall {
     fn call(self) -> OnePath {
         match self {
-            Change::Mkdir => doorvervain_raw_mkdir,
-            Change::Create => doorvervain_raw_create,
-            Change::Unlink => doorvervain_raw_unlink,
-            Change::Rmdir => doorvervain_raw_rmdir,
-            Change::Rmtree => doorvervain_raw_rmtree,
+            PathCall::Mkdir => doorvervain_raw_mkdir,
+            PathCall::Create => doorvervain_raw_create,
+            PathCall::Unlink => doorvervain_raw_unlink,
+            PathCall::Rmdir => doorvervain_raw_rmdir,
+            PathCall::Rmtree => doorvervain_raw_rmtree,
         }
     }
 }
 
 /// The calls that take the name of a snapshot.
 #[derive(Clone, Copy)]
-pub(crate) enum Keep {
+pub(crate) enum SnapshotCall {
     Snapshot,
     Drop,
     Restore,
 }
 
-impl Keep {
+impl SnapshotCall {
     fn call(self) -> OneText {
         match self {
-            Keep::Snapshot => doorvervain_raw_snapshot,
-            Keep::Drop => doorvervain_raw_drop,
-            Keep::Restore => doorvervain_raw_restore,
+            SnapshotCall::Snapshot => doorvervain_raw_snapshot,
+            SnapshotCall::Drop => doorvervain_raw_drop_snapshot,
+            SnapshotCall::Restore => doorvervain_raw_restore,
         }
     }
 }
 
-/// What the number of a call says. The numbers of null pointers and closed volumes never come.
+/// The result of a call by its number. The numbers for null pointers and closed volumes do not occur.
 fn done(number: u8) -> Result<(), Errno> {
     match number {
         0 => Ok(()),
-        number => Err(Errno::of_number(number).unwrap_or(Errno::EINVAL)),
+        number => Err(Errno::from_number(number).unwrap_or(Errno::EINVAL)),
     }
 }
 
-/// A volume or a frozen tree at its address, with the lock that it shares.
+/// A volume or a frozen tree, with the lock that it shares.
 pub(crate) struct Held {
-    at: NonNull<c_void>,
+    ptr: NonNull<c_void>,
     lock: Arc<Mutex<()>>,
 }
 
-// SAFETY: what stands at the address is of no thread, and each call into it, also that of a tree which shares nodes with it,
-// holds the lock that they share.
+// SAFETY: the object is bound to no thread, and each call into it, also that of a tree which shares nodes with it, holds the
+// lock that they share.
 unsafe impl Send for Held {}
 
 impl Held {
-    /// Takes over what a call that was done wrote.
-    fn new(place: &Place, lock: Arc<Mutex<()>>) -> Result<Held, Errno> {
-        let at = NonNull::new(place.at).ok_or(Errno::ENOMEM)?;
-        Ok(Held { at, lock })
+    /// Takes ownership of what a successful call wrote.
+    fn new(raw: &RawHandle, lock: Arc<Mutex<()>>) -> Result<Held, Errno> {
+        let ptr = NonNull::new(raw.ptr).ok_or(Errno::ENOMEM)?;
+        Ok(Held { ptr, lock })
     }
 
-    fn place(&self) -> Place {
-        Place { at: self.at.as_ptr() }
+    fn raw(&self) -> RawHandle {
+        RawHandle { ptr: self.ptr.as_ptr() }
     }
 
     fn locked(&self) -> MutexGuard<'_, ()> {
@@ -161,35 +161,35 @@ impl Held {
     }
 }
 
-const NOTHING: Place = Place { at: null_mut() };
+const CLOSED: RawHandle = RawHandle { ptr: null_mut() };
 
-/// The calls that look, which a volume and a frozen tree have in common.
-pub(crate) trait Looks {
+/// The read-only calls, which a volume and a frozen tree have in common.
+pub(crate) trait Reads {
     fn held(&self) -> &Held;
     fn calls() -> Calls;
 
     fn read(&self, path: &[u8], offset: u64, out: &mut [u8]) -> Result<usize, Errno> {
         let held = self.held();
         let _lock = held.locked();
-        let (mut place, mut done_bytes) = (held.place(), 0);
+        let (mut raw, mut done_bytes) = (held.raw(), 0);
         loop {
-            let room = (out.len() - done_bytes).min(MOST);
-            let piece = &mut out[done_bytes..done_bytes + room];
+            let capacity = (out.len() - done_bytes).min(MOST);
+            let piece = &mut out[done_bytes..done_bytes + capacity];
             let (mut got, from) = (0, offset.saturating_add(done_bytes as u64));
             // SAFETY: the tree is there, under its lock; the bytes are those of slices.
             done(unsafe {
                 (Self::calls().read)(
-                    &mut place,
+                    &mut raw,
                     path.as_ptr(),
                     path.len(),
                     from,
                     piece.as_mut_ptr(),
-                    room,
+                    capacity,
                     &mut got,
                 )
             })?;
             done_bytes += got;
-            if got < room || done_bytes == out.len() {
+            if got < capacity || done_bytes == out.len() {
                 return Ok(done_bytes);
             }
         }
@@ -198,17 +198,10 @@ pub(crate) trait Looks {
     fn stat(&self, path: &[u8]) -> Result<Stat, Errno> {
         let held = self.held();
         let _lock = held.locked();
-        let (mut place, mut kind, mut size, mut modified) = (held.place(), 0, 0, 0);
+        let (mut raw, mut kind, mut size, mut modified) = (held.raw(), 0, 0, 0);
         // SAFETY: as in `read`.
         done(unsafe {
-            (Self::calls().stat)(
-                &mut place,
-                path.as_ptr(),
-                path.len(),
-                &mut kind,
-                &mut size,
-                &mut modified,
-            )
+            (Self::calls().stat)(&mut raw, path.as_ptr(), path.len(), &mut kind, &mut size, &mut modified)
         })?;
         let kind = if kind == DIRECTORY { Kind::Directory } else { Kind::File };
         Ok(Stat { kind, size, modified })
@@ -217,17 +210,17 @@ pub(crate) trait Looks {
     fn readdir(&self, path: &[u8]) -> Result<Vec<u8>, Errno> {
         let held = self.held();
         let _lock = held.locked();
-        let mut place = held.place();
+        let mut raw = held.raw();
         // SAFETY: as in `read`.
         filled(1024, |out, size| unsafe {
-            (Self::calls().readdir)(&mut place, path.as_ptr(), path.len(), out.as_mut_ptr(), out.len(), size)
+            (Self::calls().readdir)(&mut raw, path.as_ptr(), path.len(), out.as_mut_ptr(), out.len(), size)
         })
     }
 }
 
-/// What a call writes that is asked again with more room where it has too little.
-fn filled(room: usize, mut call: impl FnMut(&mut [u8], &mut usize) -> u8) -> Result<Vec<u8>, Errno> {
-    let mut out = vec![0; room];
+/// What a call writes. It is called again with more capacity if the buffer is too short.
+fn filled(capacity: usize, mut call: impl FnMut(&mut [u8], &mut usize) -> u8) -> Result<Vec<u8>, Errno> {
+    let mut out = vec![0; capacity];
     loop {
         let mut size = 0;
         let number = call(&mut out, &mut size);
@@ -242,7 +235,7 @@ fn filled(room: usize, mut call: impl FnMut(&mut [u8], &mut usize) -> u8) -> Res
     }
 }
 
-/// The symbols of the calls that look.
+/// The symbols of the read-only calls.
 pub(crate) struct Calls {
     read: Read,
     stat: ReadStat,
@@ -255,7 +248,7 @@ pub(crate) struct VolumeHandle(Held);
 /// A frozen tree, which is freed with its owner.
 pub(crate) struct FrozenHandle(Held);
 
-impl Looks for VolumeHandle {
+impl Reads for VolumeHandle {
     fn held(&self) -> &Held {
         &self.0
     }
@@ -269,7 +262,7 @@ impl Looks for VolumeHandle {
     }
 }
 
-impl Looks for FrozenHandle {
+impl Reads for FrozenHandle {
     fn held(&self) -> &Held {
         &self.0
     }
@@ -285,62 +278,62 @@ impl Looks for FrozenHandle {
 
 impl VolumeHandle {
     pub(crate) fn open(fanout: u16, pending: u16, leaf: u16) -> Result<VolumeHandle, Errno> {
-        let mut out = NOTHING;
-        // SAFETY: the place is there to be written.
+        let mut out = CLOSED;
+        // SAFETY: the out-parameter can be written.
         done(unsafe { doorvervain_raw_open(fanout, pending, leaf, &mut out) })?;
         Ok(VolumeHandle(Held::new(&out, Arc::default())?))
     }
 
-    /// A volume of an image; or the refusal, with the first line with which the text is none.
+    /// Loads a volume from an image; or returns the error, with the first bad line of the text.
     pub(crate) fn load(fanout: u16, pending: u16, leaf: u16, text: &[u8]) -> Result<VolumeHandle, (Errno, u64)> {
-        let (mut out, mut line) = (NOTHING, 0);
-        // SAFETY: the places are there to be written, and the text is a slice.
+        let (mut out, mut line) = (CLOSED, 0);
+        // SAFETY: the out-parameters can be written, and the text is a slice.
         let number =
             unsafe { doorvervain_raw_load(fanout, pending, leaf, text.as_ptr(), text.len(), &mut line, &mut out) };
         let held = done(number).and_then(|()| Held::new(&out, Arc::default()));
         held.map(VolumeHandle).map_err(|refused| (refused, line))
     }
 
-    pub(crate) fn change(&mut self, change: Change, path: &[u8], at: u64) -> Result<(), Errno> {
+    pub(crate) fn path_call(&mut self, call: PathCall, path: &[u8], at: u64) -> Result<(), Errno> {
         let held = &self.0;
         let _lock = held.locked();
         // SAFETY: the volume is there, under its lock; the bytes are those of a slice. So in the calls below.
-        done(unsafe { change.call()(&mut held.place(), path.as_ptr(), path.len(), at) })
+        done(unsafe { call.call()(&mut held.raw(), path.as_ptr(), path.len(), at) })
     }
 
     pub(crate) fn rename(&mut self, from: &[u8], to: &[u8], at: u64) -> Result<(), Errno> {
         let held = &self.0;
         let _lock = held.locked();
         let (from_at, to_at) = (from.as_ptr(), to.as_ptr());
-        done(unsafe { doorvervain_raw_rename(&mut held.place(), from_at, from.len(), to_at, to.len(), at) })
+        done(unsafe { doorvervain_raw_rename(&mut held.raw(), from_at, from.len(), to_at, to.len(), at) })
     }
 
     pub(crate) fn truncate(&mut self, path: &[u8], size: u64, at: u64) -> Result<(), Errno> {
         let held = &self.0;
         let _lock = held.locked();
-        done(unsafe { doorvervain_raw_truncate(&mut held.place(), path.as_ptr(), path.len(), size, at) })
+        done(unsafe { doorvervain_raw_truncate(&mut held.raw(), path.as_ptr(), path.len(), size, at) })
     }
 
     pub(crate) fn write(&mut self, path: &[u8], offset: u64, bytes: &[u8], at: u64) -> Result<(), Errno> {
         let held = &self.0;
         let _lock = held.locked();
-        let (mut place, from) = (held.place(), bytes.as_ptr());
-        done(unsafe { doorvervain_raw_write(&mut place, path.as_ptr(), path.len(), offset, from, bytes.len(), at) })
+        let (mut raw, from) = (held.raw(), bytes.as_ptr());
+        done(unsafe { doorvervain_raw_write(&mut raw, path.as_ptr(), path.len(), offset, from, bytes.len(), at) })
     }
 
-    pub(crate) fn keep(&mut self, keep: Keep, name: &[u8]) -> Result<(), Errno> {
+    pub(crate) fn snapshot_call(&mut self, call: SnapshotCall, name: &[u8]) -> Result<(), Errno> {
         let held = &self.0;
         let _lock = held.locked();
-        done(unsafe { keep.call()(&mut held.place(), name.as_ptr(), name.len()) })
+        done(unsafe { call.call()(&mut held.raw(), name.as_ptr(), name.len()) })
     }
 
-    /// The name of the snapshot with this number, in the order of names; none past the last.
+    /// The name of the snapshot at an index, in the order of names; none past the last.
     pub(crate) fn snapshot_name(&self, index: usize) -> Option<String> {
         let held = &self.0;
         let _lock = held.locked();
-        let (mut place, mut size, mut name) = (held.place(), 0, vec![0; LONGEST_NAME]);
+        let (mut raw, mut size, mut name) = (held.raw(), 0, vec![0; LONGEST_NAME]);
         let number =
-            unsafe { doorvervain_raw_snapshot_name(&mut place, index, name.as_mut_ptr(), name.len(), &mut size) };
+            unsafe { doorvervain_raw_snapshot_name(&mut raw, index, name.as_mut_ptr(), name.len(), &mut size) };
         done(number).ok()?;
         name.truncate(size);
         String::from_utf8(name).ok()
@@ -349,27 +342,27 @@ impl VolumeHandle {
     pub(crate) fn freeze(&self) -> Result<FrozenHandle, Errno> {
         let held = &self.0;
         let _lock = held.locked();
-        let mut out = NOTHING;
-        done(unsafe { doorvervain_raw_freeze(&mut held.place(), &mut out) })?;
+        let mut out = CLOSED;
+        done(unsafe { doorvervain_raw_freeze(&mut held.raw(), &mut out) })?;
         Ok(FrozenHandle(Held::new(&out, Arc::clone(&held.lock))?))
     }
 
-    pub(crate) fn frozen(&self, name: &[u8]) -> Result<FrozenHandle, Errno> {
+    pub(crate) fn open_snapshot(&self, name: &[u8]) -> Result<FrozenHandle, Errno> {
         let held = &self.0;
         let _lock = held.locked();
-        let mut out = NOTHING;
-        done(unsafe { doorvervain_raw_frozen(&mut held.place(), name.as_ptr(), name.len(), &mut out) })?;
+        let mut out = CLOSED;
+        done(unsafe { doorvervain_raw_open_snapshot(&mut held.raw(), name.as_ptr(), name.len(), &mut out) })?;
         Ok(FrozenHandle(Held::new(&out, Arc::clone(&held.lock))?))
     }
 
     pub(crate) fn delta(&self, from: &[u8], to: &[u8]) -> Result<Vec<u8>, Errno> {
         let held = &self.0;
         let _lock = held.locked();
-        let mut place = held.place();
+        let mut raw = held.raw();
         let (from_at, to_at) = (from.as_ptr(), to.as_ptr());
         filled(1024, |out, size| unsafe {
             doorvervain_raw_delta(
-                &mut place,
+                &mut raw,
                 from_at,
                 from.len(),
                 to_at,
@@ -381,19 +374,19 @@ impl VolumeHandle {
         })
     }
 
-    /// The refusal of a difference, with the first line with which the text is none.
-    pub(crate) fn apply(&mut self, text: &[u8]) -> Result<(), (Errno, u64)> {
+    /// Applies a delta; or returns the error, with the first bad line of the text.
+    pub(crate) fn apply_delta(&mut self, text: &[u8]) -> Result<(), (Errno, u64)> {
         let held = &self.0;
         let _lock = held.locked();
         let mut line = 0;
-        let number = unsafe { doorvervain_raw_apply(&mut held.place(), text.as_ptr(), text.len(), &mut line) };
+        let number = unsafe { doorvervain_raw_apply_delta(&mut held.raw(), text.as_ptr(), text.len(), &mut line) };
         done(number).map_err(|refused| (refused, line))
     }
 
-    pub(crate) fn relieve(&mut self, steps: u32) -> u32 {
+    pub(crate) fn compact(&mut self, steps: u32) -> u32 {
         let held = &self.0;
         let _lock = held.locked();
-        unsafe { doorvervain_raw_relieve(&mut held.place(), steps) }
+        unsafe { doorvervain_raw_compact(&mut held.raw(), steps) }
     }
 }
 
@@ -401,10 +394,10 @@ impl FrozenHandle {
     pub(crate) fn image(&self) -> Result<Vec<u8>, Errno> {
         let held = &self.0;
         let _lock = held.locked();
-        let mut place = held.place();
+        let mut raw = held.raw();
         // SAFETY: the tree is there, under its lock; the bytes are those of a slice.
         filled(1024, |out, size| unsafe {
-            doorvervain_raw_image(&mut place, out.as_mut_ptr(), out.len(), size)
+            doorvervain_raw_image(&mut raw, out.as_mut_ptr(), out.len(), size)
         })
     }
 }
@@ -413,8 +406,8 @@ impl Drop for VolumeHandle {
     fn drop(&mut self) {
         let held = &self.0;
         let _lock = held.locked();
-        // SAFETY: the owner goes, so nobody uses the volume again.
-        unsafe { doorvervain_raw_close(held.place()) };
+        // SAFETY: the owner is dropped, so nobody uses the volume again.
+        unsafe { doorvervain_raw_close(held.raw()) };
     }
 }
 
@@ -422,7 +415,7 @@ impl Drop for FrozenHandle {
     fn drop(&mut self) {
         let held = &self.0;
         let _lock = held.locked();
-        // SAFETY: the owner goes, so nobody uses the tree again.
-        unsafe { doorvervain_raw_thaw(held.place()) };
+        // SAFETY: the owner is dropped, so nobody uses the tree again.
+        unsafe { doorvervain_raw_frozen_close(held.raw()) };
     }
 }

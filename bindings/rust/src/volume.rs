@@ -2,22 +2,22 @@
 use crate::errno::{DeltaError, Errno, LoadError};
 use crate::listing::{Kind, Listing, Lists, Stat, Walk};
 use crate::path::AsPath;
-use crate::raw::{Change, FrozenHandle, Keep, Looks, VolumeHandle};
+use crate::raw::{FrozenHandle, PathCall, Reads, SnapshotCall, VolumeHandle};
 use std::fmt;
 
-/// The shape of the trees behind a volume. It changes no answer, only time.
+/// The shape of a volume's trees. It changes no result, only time.
 #[derive(Clone, Copy, Debug, PartialEq, Eq, Hash)]
 pub struct Shape {
     /// How many children an inner node may have, from 4 to 64.
     pub fanout: u16,
-    /// How many messages may wait in it, from `fanout` to 1,024.
+    /// How many messages may be pending in it, from `fanout` to 1,024.
     pub pending: u16,
     /// How many entries a leaf may have, from 4 to 1,024.
     pub leaf: u16,
 }
 
 impl Shape {
-    /// The shape for a volume of which nothing is known.
+    /// The default shape.
     pub const USUAL: Shape = Shape {
         fanout: 16,
         pending: 256,
@@ -58,8 +58,7 @@ pub struct Volume {
     handle: VolumeHandle,
 }
 
-/// A tree that stands still: later changes of its volume do not touch it. It outlives its volume, and is freed when it is
-/// dropped.
+/// A frozen tree: later changes of its volume do not affect it. It outlives its volume, and is freed when it is dropped.
 ///
 /// ```
 /// use doorvervain::{Errno, Volume};
@@ -84,12 +83,12 @@ pub struct Frozen {
     handle: FrozenHandle,
 }
 
-/// The calls that look, which a volume and a frozen tree have in common.
-macro_rules! looking_calls {
+/// The read-only calls, which a volume and a frozen tree have in common.
+macro_rules! read_only_calls {
     ($Tree:ty) => {
         impl $Tree {
-            /// Reads a file from the byte `offset` on into the front of `out`: how many bytes, which are fewer than `out` holds
-            /// only where the file ends. The rest of `out` stays as it was.
+            /// Reads a file from `offset` on into `out`. Returns how many bytes, fewer than the length of `out` only at the end of
+            /// the file. The rest of `out` is unchanged.
             ///
             /// # Errors
             /// `ENOENT`, `ENOTDIR`, `EISDIR`.
@@ -113,7 +112,7 @@ macro_rules! looking_calls {
                 Ok(out)
             }
 
-            /// What is known of a path.
+            /// Returns the kind, size and mtime of an entry.
             ///
             /// # Errors
             /// `ENOENT`, `ENOTDIR`.
@@ -121,10 +120,10 @@ macro_rules! looking_calls {
                 self.handle.stat(path.as_path_bytes())
             }
 
-            /// Whether something stands at a path.
+            /// Whether a path exists.
             ///
             /// # Errors
-            /// `EINVAL`, `ENAMETOOLONG`: the text is no path.
+            /// `EINVAL`, `ENAMETOOLONG`: the text is not a path.
             pub fn exists<P: AsPath + ?Sized>(&self, path: &P) -> Result<bool, Errno> {
                 match self.stat(path) {
                     Ok(_) => Ok(true),
@@ -141,8 +140,8 @@ macro_rules! looking_calls {
                 self.list(path.as_path_bytes())
             }
 
-            /// Goes over what stands at a path and all that lies below it, each directory right before what it holds. Where
-            /// nothing stands there, the refusal is the only item.
+            /// Iterates over the entry at a path and everything below it, each directory right before its entries. If the path does
+            /// not exist, the error is the only item.
             pub fn walk<P: AsPath + ?Sized>(&self, path: &P) -> Walk<'_> {
                 let path = path.as_path_bytes();
                 Walk::new(self, path, self.handle.stat(path))
@@ -157,11 +156,11 @@ macro_rules! looking_calls {
     };
 }
 
-looking_calls!(Volume);
-looking_calls!(Frozen);
+read_only_calls!(Volume);
+read_only_calls!(Frozen);
 
 impl Volume {
-    /// An empty root directory, in trees of the usual shape.
+    /// Creates a volume with an empty root directory and the default shape.
     ///
     /// # Errors
     /// `ENOMEM`.
@@ -169,7 +168,7 @@ impl Volume {
         Volume::with_shape(Shape::USUAL)
     }
 
-    /// An empty root directory, in trees of this shape.
+    /// Creates a volume with an empty root directory and the given shape.
     ///
     /// # Errors
     /// `EINVAL`: no such shape; `ENOMEM`.
@@ -178,7 +177,7 @@ impl Volume {
         Ok(Volume { handle })
     }
 
-    /// A volume with the tree whose image the text is, without snapshots.
+    /// Loads a volume from an image, without snapshots.
     ///
     /// ```
     /// use doorvervain::{LoadError, Shape, Volume};
@@ -190,7 +189,7 @@ impl Volume {
     /// ```
     ///
     /// # Errors
-    /// [`LoadError::BadLine`]: the text is no image; else `EINVAL`, no such shape, or `ENOMEM`.
+    /// [`LoadError::BadLine`]: the text is not an image; else `EINVAL`, no such shape, or `ENOMEM`.
     pub fn load(image: &[u8], shape: Shape) -> Result<Volume, LoadError> {
         let loaded = VolumeHandle::load(shape.fanout, shape.pending, shape.leaf, image);
         let handle = loaded.map_err(|(refused, line)| match line {
@@ -200,51 +199,51 @@ impl Volume {
         Ok(Volume { handle })
     }
 
-    /// Makes an empty directory.
+    /// Creates an empty directory.
     ///
     /// # Errors
-    /// `ENOENT`, `ENOTDIR`: what is above the path; `EEXIST`, `ENOMEM`.
+    /// `ENOENT`, `ENOTDIR`: about the parent; `EEXIST`, `ENOMEM`.
     pub fn mkdir<P: AsPath + ?Sized>(&mut self, path: &P, at: u64) -> Result<(), Errno> {
-        self.handle.change(Change::Mkdir, path.as_path_bytes(), at)
+        self.handle.path_call(PathCall::Mkdir, path.as_path_bytes(), at)
     }
 
-    /// Makes an empty file where nothing stands.
+    /// Creates an empty file.
     ///
     /// # Errors
-    /// `ENOENT`, `ENOTDIR`: what is above the path; `EEXIST`, `ENOMEM`.
+    /// `ENOENT`, `ENOTDIR`: about the parent; `EEXIST`, `ENOMEM`.
     pub fn create<P: AsPath + ?Sized>(&mut self, path: &P, at: u64) -> Result<(), Errno> {
-        self.handle.change(Change::Create, path.as_path_bytes(), at)
+        self.handle.path_call(PathCall::Create, path.as_path_bytes(), at)
     }
 
-    /// Takes a file out.
+    /// Removes a file.
     ///
     /// # Errors
     /// `ENOENT`, `ENOTDIR`; `EPERM`: a directory; `ENOMEM`.
     pub fn unlink<P: AsPath + ?Sized>(&mut self, path: &P, at: u64) -> Result<(), Errno> {
-        self.handle.change(Change::Unlink, path.as_path_bytes(), at)
+        self.handle.path_call(PathCall::Unlink, path.as_path_bytes(), at)
     }
 
-    /// Takes an empty directory out.
+    /// Removes an empty directory.
     ///
     /// # Errors
     /// `ENOENT`, `ENOTDIR`, `ENOTEMPTY`; `EBUSY`: the root; `ENOMEM`.
     pub fn rmdir<P: AsPath + ?Sized>(&mut self, path: &P, at: u64) -> Result<(), Errno> {
-        self.handle.change(Change::Rmdir, path.as_path_bytes(), at)
+        self.handle.path_call(PathCall::Rmdir, path.as_path_bytes(), at)
     }
 
-    /// Takes a file out, or a directory with all below it.
+    /// Removes a file, or a directory with everything below it.
     ///
     /// # Errors
     /// `ENOENT`, `ENOTDIR`; `EBUSY`: the root; `ENOMEM`.
     pub fn rmtree<P: AsPath + ?Sized>(&mut self, path: &P, at: u64) -> Result<(), Errno> {
-        self.handle.change(Change::Rmtree, path.as_path_bytes(), at)
+        self.handle.path_call(PathCall::Rmtree, path.as_path_bytes(), at)
     }
 
-    /// Moves what stands at the first path, with all below it, to the second, where it replaces a file by a file, or an
-    /// empty directory by a directory.
+    /// Moves the entry at the first path, with everything below it, to the second. A file replaces a file there, and a directory
+    /// an empty directory.
     ///
     /// # Errors
-    /// `ENOENT`, `ENOTDIR`, `EISDIR`, `ENOTEMPTY`, `ENAMETOOLONG`; `EINVAL`: to below itself; `EBUSY`: the root; `ENOMEM`.
+    /// `ENOENT`, `ENOTDIR`, `EISDIR`, `ENOTEMPTY`, `ENAMETOOLONG`; `EINVAL`: below itself; `EBUSY`: the root; `ENOMEM`.
     pub fn rename<P, Q>(&mut self, from: &P, to: &Q, at: u64) -> Result<(), Errno>
     where
         P: AsPath + ?Sized,
@@ -253,7 +252,7 @@ impl Volume {
         self.handle.rename(from.as_path_bytes(), to.as_path_bytes(), at)
     }
 
-    /// Cuts a file to `size` bytes, or lengthens it to them by zeros.
+    /// Truncates a file to `size` bytes, or extends it to them with zeros.
     ///
     /// # Errors
     /// `ENOENT`, `ENOTDIR`, `EISDIR`; `EFBIG`: more than 2^40; `ENOMEM`.
@@ -261,8 +260,7 @@ impl Volume {
         self.handle.truncate(path.as_path_bytes(), size, at)
     }
 
-    /// Lays bytes over a file from the byte `offset` on, and lengthens it where they reach past its end: all of them, or
-    /// none.
+    /// Writes bytes to a file at `offset`, and extends it if they reach past its end. The write is atomic.
     ///
     /// # Errors
     /// `ENOENT`, `ENOTDIR`, `EISDIR`; `EFBIG`: past 2^40 bytes; `ENOMEM`.
@@ -270,7 +268,7 @@ impl Volume {
         self.handle.write(path.as_path_bytes(), offset, bytes, at)
     }
 
-    /// Keeps the tree as it stands, under a name: 1 to 64 ASCII letters, digits, `.`, `_` and `-`.
+    /// Takes a snapshot under a name: 1 to 64 ASCII letters, digits, `.`, `_` and `-`.
     ///
     /// ```
     /// # use doorvervain::{Errno, Volume};
@@ -284,25 +282,25 @@ impl Volume {
     /// ```
     ///
     /// # Errors
-    /// `EEXIST`; `EINVAL`: no name; `ENOSPC`: all 64 names are taken; `ENOMEM`.
+    /// `EEXIST`; `EINVAL`: not a name; `ENOSPC`: all 64 names are taken; `ENOMEM`.
     pub fn snapshot(&mut self, name: &str) -> Result<(), Errno> {
-        self.handle.keep(Keep::Snapshot, name.as_bytes())
+        self.handle.snapshot_call(SnapshotCall::Snapshot, name.as_bytes())
     }
 
-    /// Forgets a snapshot.
+    /// Drops a snapshot.
     ///
     /// # Errors
-    /// `ENOENT`; `EINVAL`: no name.
+    /// `ENOENT`; `EINVAL`: not a name.
     pub fn drop_snapshot(&mut self, name: &str) -> Result<(), Errno> {
-        self.handle.keep(Keep::Drop, name.as_bytes())
+        self.handle.snapshot_call(SnapshotCall::Drop, name.as_bytes())
     }
 
-    /// Makes the volume's tree that of a snapshot, which stays.
+    /// Restores the volume's tree from a snapshot, which is kept.
     ///
     /// # Errors
-    /// `ENOENT`, `ENOMEM`; `EINVAL`: no name.
+    /// `ENOENT`, `ENOMEM`; `EINVAL`: not a name.
     pub fn restore(&mut self, name: &str) -> Result<(), Errno> {
-        self.handle.keep(Keep::Restore, name.as_bytes())
+        self.handle.snapshot_call(SnapshotCall::Restore, name.as_bytes())
     }
 
     /// The names of the snapshots, in order.
@@ -310,7 +308,7 @@ impl Volume {
         (0..).map_while(|index| self.handle.snapshot_name(index))
     }
 
-    /// The tree as it stands now, at any size at once.
+    /// Freezes the current tree, in constant time.
     ///
     /// # Errors
     /// `ENOMEM`.
@@ -320,17 +318,17 @@ impl Volume {
         })
     }
 
-    /// The tree of a snapshot.
+    /// Opens a snapshot for reading.
     ///
     /// # Errors
-    /// `ENOENT`, `ENOMEM`; `EINVAL`: no name.
-    pub fn frozen(&self, name: &str) -> Result<Frozen, Errno> {
+    /// `ENOENT`, `ENOMEM`; `EINVAL`: not a name.
+    pub fn open_snapshot(&self, name: &str) -> Result<Frozen, Errno> {
         Ok(Frozen {
-            handle: self.handle.frozen(name.as_bytes())?,
+            handle: self.handle.open_snapshot(name.as_bytes())?,
         })
     }
 
-    /// The tree as text, without snapshots. [`Volume::load`] makes a volume of it.
+    /// The image of the tree, without snapshots: text that [`Volume::load`] accepts.
     ///
     /// # Errors
     /// `ENOMEM`.
@@ -338,16 +336,16 @@ impl Volume {
         self.freeze()?.image()
     }
 
-    /// What makes one tree of another, as text: each is the snapshot of that name, or the tree as it stands where the name is
-    /// empty. [`Volume::apply`] takes it.
+    /// The delta from one tree to another, as text for [`Volume::apply_delta`]: each is the snapshot of that name, or the current
+    /// tree if the name is empty.
     ///
     /// # Errors
-    /// `ENOENT`: no such snapshot; `EINVAL`: no name; `ENOMEM`.
+    /// `ENOENT`: no such snapshot; `EINVAL`: not a name; `ENOMEM`.
     pub fn delta(&self, from: &str, to: &str) -> Result<Vec<u8>, Errno> {
         self.handle.delta(from.as_bytes(), to.as_bytes())
     }
 
-    /// Makes the tree the one that a difference makes of it. The volume is as one that was loaded then: its snapshots are gone.
+    /// Applies a delta to the tree. Afterwards the volume is like one that was just loaded: its snapshots are dropped.
     ///
     /// ```
     /// # use doorvervain::{Shape, Volume};
@@ -355,14 +353,14 @@ impl Volume {
     /// let mut far = Volume::load(&near.image().unwrap(), Shape::USUAL).unwrap();
     /// near.snapshot("sent").unwrap();
     /// near.write("/x", 1, b"-", 9).unwrap();
-    /// far.apply(&near.delta("sent", "").unwrap()).unwrap();
+    /// far.apply_delta(&near.delta("sent", "").unwrap()).unwrap();
     /// assert_eq!(far.image(), near.image());
     /// ```
     ///
     /// # Errors
-    /// [`DeltaError`]. The volume is as it was then.
-    pub fn apply(&mut self, text: &[u8]) -> Result<(), DeltaError> {
-        self.handle.apply(text).map_err(|refused| match refused {
+    /// [`DeltaError`]. Then the volume is unchanged.
+    pub fn apply_delta(&mut self, text: &[u8]) -> Result<(), DeltaError> {
+        self.handle.apply_delta(text).map_err(|refused| match refused {
             (Errno::ENOENT, _) => DeltaError::OtherTree,
             (Errno::EINVAL, 0) => DeltaError::NoTree,
             (Errno::EINVAL, line) => DeltaError::BadLine(line),
@@ -370,15 +368,15 @@ impl Volume {
         })
     }
 
-    /// Does at most `steps` steps that move waiting changes down the trees: how many it tried, fewer only where nothing
-    /// waits. No answer of any call changes by it.
-    pub fn relieve(&mut self, steps: u32) -> u32 {
-        self.handle.relieve(steps)
+    /// Compacts the trees: does at most `steps` steps, each of which moves pending changes down. Returns how many steps it tried,
+    /// fewer only if nothing is pending. It changes no result of any call.
+    pub fn compact(&mut self, steps: u32) -> u32 {
+        self.handle.compact(steps)
     }
 }
 
 impl Frozen {
-    /// The tree as text, which [`Volume::load`] takes.
+    /// The image of the tree: text that [`Volume::load`] accepts.
     ///
     /// # Errors
     /// `ENOMEM`.
@@ -387,7 +385,7 @@ impl Frozen {
     }
 }
 
-/// Shows what the root has: how many entries.
+/// Shows how many entries the root has.
 fn show(f: &mut fmt::Formatter<'_>, name: &str, listing: Result<Listing, Errno>) -> fmt::Result {
     let entries = listing.map(|it| it.iter().count());
     f.debug_struct(name).field("entries", &entries).finish_non_exhaustive()

@@ -138,14 +138,14 @@ fn a_long_listing() -> Outcome {
     let made: Vec<String> = (0..3_000).map(|i| format!("name-{i:04}")).collect();
     for name in made.iter().rev() {
         volume.create(&format!("/{name}"), 0)?;
-        volume.relieve(2);
+        volume.compact(2);
     }
     let listing = volume.readdir("/")?;
     assert!(listing
         .iter()
         .map(|entry| entry.name)
         .eq(made.iter().map(|name| name.as_bytes())));
-    while volume.relieve(100) == 100 {}
+    while volume.compact(100) == 100 {}
     assert_eq!(volume.readdir("/")?, listing);
     Ok(())
 }
@@ -183,10 +183,10 @@ fn snapshots() -> Outcome {
     assert_eq!(volume.snapshot("a"), Err(Errno::EEXIST));
     assert_eq!(volume.snapshot("a/b"), Err(Errno::EINVAL));
     assert_eq!(volume.restore("none"), Err(Errno::ENOENT));
-    assert_eq!(volume.frozen("none").err(), Some(Errno::ENOENT));
+    assert_eq!(volume.open_snapshot("none").err(), Some(Errno::ENOENT));
     volume.restore("a")?;
     assert_eq!(names(&volume, "/")?, ["f a", "f b"]);
-    let kept = volume.frozen("a.1")?;
+    let kept = volume.open_snapshot("a.1")?;
     volume.drop_snapshot("a.1")?;
     assert_eq!(volume.drop_snapshot("a.1"), Err(Errno::ENOENT));
     assert_eq!(volume.snapshots().collect::<Vec<_>>(), ["a", "b"]);
@@ -245,7 +245,7 @@ fn threads() -> Outcome {
                 (0..50).all(|_| tree.read_all(&path) == Ok(text.clone().into_bytes()))
             }));
         }
-        volume.relieve(1);
+        volume.compact(1);
     }
     let moved = thread::spawn(move || volume.readdir("/").map(|listing| listing.iter().count()));
     assert_eq!(moved.join().expect("it ends"), Ok(7));
@@ -263,14 +263,14 @@ fn what_debug_shows() -> Outcome {
     Ok(())
 }
 
-/// The first line of a difference of `D / 5`.
+/// The first line of a delta from `D / 5`.
 const OF_ROOT: &str = "delta 1 8bafcef92f133b33d780e9f333a263fd826f3cf6a3de0ba28afc8b346e70d8b9\n";
 
 #[test]
-fn a_difference_that_is_refused_changes_nothing() -> Result<(), Errno> {
+fn a_bad_delta_changes_nothing() -> Result<(), Errno> {
     let mut volume = Volume::load(b"D / 5\n", Shape::USUAL).expect("an image");
     volume.snapshot("kept")?;
-    let mut refused = |text: &str| volume.apply(text.as_bytes()).err();
+    let mut refused = |text: &str| volume.apply_delta(text.as_bytes()).err();
     assert_eq!(refused(""), Some(DeltaError::BadLine(1)));
     assert_eq!(refused(&format!("{OF_ROOT}* 1\nend\n")), Some(DeltaError::BadLine(2)));
     assert_eq!(refused(&format!("{OF_ROOT}- 1\nend\n")), Some(DeltaError::NoTree));

@@ -5,25 +5,25 @@ use Rattle.std.specs.Ordering.{is_lt}
 use Rattle.std.proofs.lemmas.Bool.{and_parts, false≢true}
 use Rattle.std.proofs.lemmas.List.{drop_at, take_at}
 use Rattle.std.proofs.lemmas.Bool.Decides.{nat_tests}
-use Rattle.lines.proofs.Texts.{taken_more}
+use Rattle.textio.proofs.Texts.{taken_more}
 use Rattle.pathkey.specs.Order.{by_bytes}
 use Rattle.attributes.specs.declared.record.ExtendedAttribute.{ExtendedAttribute}
-use Rattle.attributes.specs.Attributes.{may_stand, rise}
+use Rattle.attributes.specs.Attributes.{may_stand, assert_invariant}
 use Rattle.attributes.specs.Packed.{four_bytes, packed, packed_one}
 use Rattle.attributes.proofs.ReadFacts.{Lacks, lacks_from_all, lacks_from_test, not_there, same_cut}
 
-rise_parts : (last : List ℕ) (e : ExtendedAttribute) (es : List ExtendedAttribute) → rise last (e ∷ es) ≡ true → (may_stand e ≡ true) × (rise e.name es ≡ true)
+rise_parts : (last : List ℕ) (e : ExtendedAttribute) (es : List ExtendedAttribute) → assert_invariant last (e ∷ es) ≡ true → (may_stand e ≡ true) × (assert_invariant e.name es ≡ true)
 rise_parts last e es h =
-    let outer : ((is_lt (by_bytes last e.name) && may_stand e) ≡ true) × (rise e.name es ≡ true) = and_parts _ _ h in
+    let outer : ((is_lt (by_bytes last e.name) && may_stand e) ≡ true) × (assert_invariant e.name es ≡ true) = and_parts _ _ h in
     let inner : (is_lt (by_bytes last e.name) ≡ true) × (may_stand e ≡ true) = and_parts _ _ outer.0 in
     (inner.1, outer.1)
 
 -- each of those that rise may stand
-pub all_stand : (last : List ℕ) (es : List ExtendedAttribute) → rise last es ≡ true → AllByRecursion (λ e. may_stand e ≡ true) es
+pub all_stand : (last : List ℕ) (es : List ExtendedAttribute) → assert_invariant last es ≡ true → AllByRecursion (λ e. may_stand e ≡ true) es
 all_stand last [] h = tt
 all_stand last (e ∷ es) h = let parts = rise_parts last e es h in (parts.0, all_stand e.name es parts.1)
 
-pub stands_at : (last : List ℕ) (es : List ExtendedAttribute) (i : ℕ) (one : ExtendedAttribute) → rise last es ≡ true → i < length es → one ≡ get_or es i one → may_stand one ≡ true
+pub stands_at : (last : List ℕ) (es : List ExtendedAttribute) (i : ℕ) (one : ExtendedAttribute) → assert_invariant last es ≡ true → i < length es → one ≡ get_or es i one → may_stand one ≡ true
 stands_at last [] i one h lt is = absurd (omega arith)
 stands_at last (e ∷ es) zero one h lt is = subst (λ (x : ExtendedAttribute). may_stand x ≡ true) (sym is) (rise_parts last e es h).0
 stands_at last (e ∷ es) (suc i) one h lt is = stands_at e.name es i one (rise_parts last e es h).1 (omega arith) is
@@ -84,9 +84,9 @@ has_value behind value rest n e is = let size : length behind ≡ length value +
 
 -- ---- bytes that are no extended attributes side by side
 
-module _ (bytes : List ℕ) (guess : List ExtendedAttribute) (told : (es : List ExtendedAttribute) → rise [] es ≡ true → bytes ≡ packed es → guess ≡ es) where
-  pub not_risen : rise [] guess ≡ false → (es : List ExtendedAttribute) → rise [] es ≡ true → bytes ≡ packed es → ⊥
-  not_risen bad es is e = false≢true (sym bad ∙ ap (rise []) (told es is e) ∙ is)
+module _ (bytes : List ℕ) (parse_unchecked : List ExtendedAttribute) (outcome : (es : List ExtendedAttribute) → assert_invariant [] es ≡ true → bytes ≡ packed es → parse_unchecked ≡ es) where
+  pub not_risen : assert_invariant [] parse_unchecked ≡ false → (es : List ExtendedAttribute) → assert_invariant [] es ≡ true → bytes ≡ packed es → ⊥
+  not_risen bad es is e = false≢true (sym bad ∙ ap (assert_invariant []) (outcome es is e) ∙ is)
 
-  pub not_packed : (bytes ≡ packed guess → ⊥) → (es : List ExtendedAttribute) → rise [] es ≡ true → bytes ≡ packed es → ⊥
-  not_packed other es is e = other (e ∙ ap packed (sym (told es is e)))
+  pub not_packed : (bytes ≡ packed parse_unchecked → ⊥) → (es : List ExtendedAttribute) → assert_invariant [] es ≡ true → bytes ≡ packed es → ⊥
+  not_packed other es is e = other (e ∙ ap packed (sym (outcome es is e)))

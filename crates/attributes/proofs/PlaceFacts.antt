@@ -8,7 +8,7 @@ use Rattle.pathkey.specs.Enc.{enc}
 use Rattle.pathkey.proofs.KeyFacts.{peel}
 use Rattle.pathkey.proofs.Pieces.{not_empty}
 use Rattle.pathkey.specs.declared.errno.Errno.TheVariants.{ENAMETOOLONG}
-use Rattle.attributes.specs.Places.{reserved, escaped, mirror, record_path, fits, fitting, is_reserved, placed, IsPlainName, HasPlainNames}
+use Rattle.attributes.specs.Places.{reserved, escaped, record_dir, record_path, fits, fitting, is_reserved, placed, IsPlainName, HasPlainNames}
 
 -- ---- names
 
@@ -101,7 +101,7 @@ plain_with_mark : (p : Path) → EachName p → HasPlainNames (map escaped p ++ 
 plain_with_mark [] h = (record { some = omega arith; bytes = search rules; not_dot = λ e. cc; not_dots = λ e. cc }, tt)
 plain_with_mark (n ∷ p) h = (plain_escaped n h.0, plain_with_mark p h.1)
 
-pub plain_mirror : (p : Path) → EachName p → HasPlainNames (mirror p)
+pub plain_mirror : (p : Path) → EachName p → HasPlainNames (record_dir p)
 plain_mirror p h = (plain_reserved, (plain_tree, plain_names p h))
 
 pub plain_record : (p : Path) → EachName p → HasPlainNames (record_path p)

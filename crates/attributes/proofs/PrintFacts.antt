@@ -2,9 +2,9 @@
 use Rattle.std.proofs.Common.{◌≡◌, ℕ, suc, ◌+◌, ◌<◌, List, ◌∷◌, ◌++◌, length, take, drop, get_or, true, ◌&&◌, sym, ap, ◌∙◌, append_assoc, add-one, drop-cons, flat_map}
 use Rattle.std.specs.Ordering.{is_lt}
 use Rattle.pathkey.specs.Order.{by_bytes}
-use Rattle.lines.proofs.Texts.{taken_more}
+use Rattle.textio.proofs.Texts.{taken_more}
 use Rattle.attributes.specs.declared.record.ExtendedAttribute.{ExtendedAttribute}
-use Rattle.attributes.specs.Attributes.{may_stand, rise}
+use Rattle.attributes.specs.Attributes.{may_stand, assert_invariant}
 use Rattle.attributes.specs.Text.{Text, extended_line}
 
 -- seven parts, one after the other
@@ -29,13 +29,13 @@ line_more old front now new items i one lt is before wrote =
 
 -- whether the rest may stand is told by the first of it, and what is behind that
 pub rise_at : (last : List ℕ) (items : List ExtendedAttribute) (i : ℕ) (one : ExtendedAttribute) → i < length items → one ≡ get_or items i one
-    → rise last (drop i items) ≡ (is_lt (by_bytes last one.name) && may_stand one && rise one.name (drop (i + 1) items))
+    → assert_invariant last (drop i items) ≡ (is_lt (by_bytes last one.name) && may_stand one && assert_invariant one.name (drop (i + 1) items))
 rise_at last items i one lt is =
-    ap (rise last) (drop-cons items i one lt ∙ ap (λ (a : ExtendedAttribute). a ∷ drop (suc i) items) (sym is))
-    ∙ ap (λ (n : ℕ). is_lt (by_bytes last one.name) && may_stand one && rise one.name (drop n items)) (sym (add-one i))
+    ap (assert_invariant last) (drop-cons items i one lt ∙ ap (λ (a : ExtendedAttribute). a ∷ drop (suc i) items) (sym is))
+    ∙ ap (λ (n : ℕ). is_lt (by_bytes last one.name) && may_stand one && assert_invariant one.name (drop n items)) (sym (add-one i))
 
 pub rise_kept : (last name : List ℕ) (items : List ExtendedAttribute) (i : ℕ) (one : ExtendedAttribute) → i < length items → one ≡ get_or items i one → name ≡ one.name
-    → is_lt (by_bytes last name) ≡ true → may_stand one ≡ true → rise name (drop (i + 1) items) ≡ rise last (drop i items)
+    → is_lt (by_bytes last name) ≡ true → may_stand one ≡ true → assert_invariant name (drop (i + 1) items) ≡ assert_invariant last (drop i items)
 rise_kept last name items i one lt is same above stands =
     let over : is_lt (by_bytes last one.name) ≡ true = ap (λ (n : List ℕ). is_lt (by_bytes last n)) (sym same) ∙ above in
-    sym (rise_at last items i one lt is ∙ rw (over, stands) (ap (λ (n : List ℕ). rise n (drop (i + 1) items)) (sym same)))
+    sym (rise_at last items i one lt is ∙ rw (over, stands) (ap (λ (n : List ℕ). assert_invariant n (drop (i + 1) items)) (sym same)))

@@ -16,13 +16,13 @@ use Rattle.pathkey.specs.Heads.{AreBytes}
 use Rattle.pathkey.proofs.Pieces.{not_empty}
 use Rattle.reference.specs.Image.{digit, two_digits, percent}
 use Rattle.reference.proofs.ImageTexts.{Visible, decimal_visible, hex_visible, name_visible, percent_cases}
-use Rattle.lines.specs.Held.{IsFree}
-use Rattle.lines.specs.Texts.{hex_text, number_line}
-use Rattle.lines.specs.Values.{bytes_of, is_decimal, number_of as number_written}
-use Rattle.lines.proofs.Written.{hex_text_visible, number_told}
+use Rattle.textio.specs.Held.{IsFree}
+use Rattle.textio.specs.Texts.{hex_text, number_line}
+use Rattle.textio.specs.Values.{bytes_of, is_decimal, number_of as number_written}
+use Rattle.textio.proofs.Written.{hex_text_visible, number_reported}
 use Rattle.attributes.specs.declared.record.Kind.{Kind}
 use Rattle.attributes.specs.declared.record.Kind.TheVariants.{Directory, File, SymbolicLink, Fifo, Socket, CharacterDevice, BlockDevice, NameOf}
-use Rattle.attributes.specs.declared.record.HandTime.{HandTime}
+use Rattle.attributes.specs.declared.record.MtimeOverride.{MtimeOverride}
 use Rattle.attributes.specs.declared.record.BasicAttributes.{BasicAttributes}
 use Rattle.attributes.specs.declared.record.ExtendedAttribute.{ExtendedAttribute}
 use Rattle.attributes.specs.declared.record.Attributes.{Attributes}
@@ -148,7 +148,7 @@ module _ (words : Text) where
   split_words w None front back r lacks h e is all read = absurd (not_there 32 front back (subst (Lacks 32) (sym (append-nil w) ∙ sym e ∙ is) lacks))
   split_words w (Some n) front back r lacks h e is all read =
       let parts = same_cut 32 front w back (decimal n) (lacks_from_all 32 front all) lacks (sym is ∙ e) in
-      (parts.0, read ∙ number_told back n h parts.1)
+      (parts.0, read ∙ number_reported back n h parts.1)
 
   whole_word : (w : Text) (o : Option ℕ) → words ≡ w ++ number_text o → All (λ b. b ≢ 32) words → (words ≡ w) × (None ≡ o)
   whole_word w None e all = (e ∙ append-nil w, refl)
@@ -165,12 +165,12 @@ module _ (words : Text) where
 
 -- ---- times
 
-pub no_time : (text rest : Text) (t : Option HandTime) → (slice_index text 0 ≡ 109 → ⊥) → text ≡ time_lines t ++ rest → (None ≡ t) × (text ≡ rest)
+pub no_time : (text rest : Text) (t : Option MtimeOverride) → (slice_index text 0 ≡ 109 → ⊥) → text ≡ time_lines t ++ rest → (None ≡ t) × (text ≡ rest)
 unfolding time_lines
 no_time text rest None other e = (refl, e)
 no_time text rest (Some t) other e = absurd (other (ap (λ (x : Text). slice_index x 0) e))
 
-pub some_time : (text rest after end : Text) (m u : ℕ) (t : Option HandTime) → slice_index text 0 ≡ 109 → IfSome t IsTime → slice_index rest 0 ≢ 109 → text ≡ time_lines t ++ rest
+pub some_time : (text rest after end : Text) (m u : ℕ) (t : Option MtimeOverride) → slice_index text 0 ≡ 109 → IfSome t IsTime → slice_index rest 0 ≢ 109 → text ≡ time_lines t ++ rest
     → ((n : ℕ) (r : Text) → n < 2 ^ 64 → text ≡ number_line (codes "modified ") n ++ r → (m ≡ n) × (after ≡ r))
     → ((n : ℕ) (r : Text) → n < 2 ^ 64 → after ≡ number_line (codes "until ") n ++ r → (u ≡ n) × (end ≡ r))
     → (Some (record { modified = m; until = u }) ≡ t) × (end ≡ rest)
@@ -193,7 +193,7 @@ unfolding basic_lines
 basic_grouped b rest = grouped (codes "doorvervain record 1\n") (codes "kind " ++ kind_text b.kind ++ codes "\n") (codes "mode " ++ octal b.mode ++ codes "\n")
     (number_line (codes "user ") b.user) (number_line (codes "group ") b.group) (number_line (codes "names ") b.names) (time_lines b.modified) rest
 
-pub same_basic : (b : BasicAttributes) (k : Kind) (m u g n : ℕ) (t : Option HandTime) → k ≡ b.kind → m ≡ b.mode → u ≡ b.user → g ≡ b.group → n ≡ b.names → t ≡ b.modified
+pub same_basic : (b : BasicAttributes) (k : Kind) (m u g n : ℕ) (t : Option MtimeOverride) → k ≡ b.kind → m ≡ b.mode → u ≡ b.user → g ≡ b.group → n ≡ b.names → t ≡ b.modified
     → ◌≡◌ {A = BasicAttributes} (record { kind = k; mode = m; user = u; group = g; names = n; modified = t }) b
 same_basic b k m u g n t ek em eu eg en et =
     ap (λ (x : Kind). let r : BasicAttributes = record { kind = x; mode = m; user = u; group = g; names = n; modified = t } in r) ek
@@ -201,7 +201,7 @@ same_basic b k m u g n t ek em eu eg en et =
     ∙ ap (λ (x : ℕ). let r : BasicAttributes = record { kind = b.kind; mode = b.mode; user = x; group = g; names = n; modified = t } in r) eu
     ∙ ap (λ (x : ℕ). let r : BasicAttributes = record { kind = b.kind; mode = b.mode; user = b.user; group = x; names = n; modified = t } in r) eg
     ∙ ap (λ (x : ℕ). let r : BasicAttributes = record { kind = b.kind; mode = b.mode; user = b.user; group = b.group; names = x; modified = t } in r) en
-    ∙ ap (λ (x : Option HandTime). let r : BasicAttributes = record { kind = b.kind; mode = b.mode; user = b.user; group = b.group; names = b.names; modified = x } in r) et
+    ∙ ap (λ (x : Option MtimeOverride). let r : BasicAttributes = record { kind = b.kind; mode = b.mode; user = b.user; group = b.group; names = b.names; modified = x } in r) et
 
 -- ---- extended attributes
 
@@ -252,12 +252,12 @@ module _ (P : ExtendedAttribute → Type 0) (form : ExtendedAttribute → Text) 
   -- one more was read
   pub continues_more : (es done : List ExtendedAttribute) (rest after : Text) (one : ExtendedAttribute) → Continues P form es done rest → rest ≢ []
       → ((e : ExtendedAttribute) (behind : Text) → P e → rest ≡ form e ++ behind → (one ≡ e) × (after ≡ behind)) → Continues P form es (done ++ one ∷ []) after
-  continues_more es done rest after one h some told = go h.others h.keep h.split h.here
+  continues_more es done rest after one h some outcome = go h.others h.keep h.split h.here
     where
       go : (others : List ExtendedAttribute) → AllByRecursion P others → es ≡ done ++ others → rest ≡ flat_map form others → Continues P form es (done ++ one ∷ []) after
       go [] keep split here = absurd (some here)
       go (e ∷ others) keep split here =
-          let parts = told e (flat_map form others) keep.0 here in
+          let parts = outcome e (flat_map form others) keep.0 here in
           record {
             others = others;
             keep = keep.1;
@@ -273,11 +273,11 @@ module _ (P : ExtendedAttribute → Type 0) (form : ExtendedAttribute → Text) 
       go [] keep split here = sym (split ∙ append-nil done)
       go (e ∷ others) keep split here = absurd (never e (flat_map form others) keep.0 here)
 
-pub line_told : (rest line after : Text) (one : ExtendedAttribute) → rest ≡ line ++ 10 ∷ after → All (λ b. b ≢ 10) line
+pub line_reported : (rest line after : Text) (one : ExtendedAttribute) → rest ≡ line ++ 10 ∷ after → All (λ b. b ≢ 10) line
     → ((e : ExtendedAttribute) → AreBytesOf e → line ≡ extended_words e → one ≡ e) → (e : ExtendedAttribute) (behind : Text) → AreBytesOf e → rest ≡ extended_line e ++ behind → (one ≡ e) × (after ≡ behind)
-line_told rest line after one is all told e behind keep here =
+line_reported rest line after one is all outcome e behind keep here =
     let parts = same_cut 10 line (extended_words e) after behind (lacks_from_all 10 line all) (words_free e) (sym is ∙ here ∙ append_assoc (extended_words e) (10 ∷ []) behind) in
-    (told e keep parts.0, parts.1)
+    (outcome e keep parts.0, parts.1)
 
 pub no_line : (rest : Text) → All (λ b. b ≢ 10) rest → (e : ExtendedAttribute) (behind : Text) → AreBytesOf e → rest ≡ extended_line e ++ behind → ⊥
 no_line rest all e behind keep here = never_cut 10 rest (extended_words e) behind all (here ∙ append_assoc (extended_words e) (10 ∷ []) behind)
@@ -288,9 +288,9 @@ some_bytes rest front back b is e = not_empty front back b (sym is ∙ e)
 
 -- ---- texts that are no record
 
-module _ (text : Text) (guess : Attributes) (told : (a : Attributes) → IsAttributes a → text ≡ printed a → guess ≡ a) where
-  pub not_valid : is_valid guess ≡ false → (a : Attributes) → IsAttributes a → text ≡ printed a → ⊥
-  not_valid bad a is e = false≢true (sym bad ∙ ap is_valid (told a is e) ∙ is.valid)
+module _ (text : Text) (parse_unchecked : Attributes) (outcome : (a : Attributes) → IsAttributes a → text ≡ printed a → parse_unchecked ≡ a) where
+  pub not_valid : is_valid parse_unchecked ≡ false → (a : Attributes) → IsAttributes a → text ≡ printed a → ⊥
+  not_valid bad a is e = false≢true (sym bad ∙ ap is_valid (outcome a is e) ∙ is.valid)
 
-  pub not_printed : (text ≡ printed guess → ⊥) → (a : Attributes) → IsAttributes a → text ≡ printed a → ⊥
-  not_printed other a is e = other (e ∙ ap printed (sym (told a is e)))
+  pub not_printed : (text ≡ printed parse_unchecked → ⊥) → (a : Attributes) → IsAttributes a → text ≡ printed a → ⊥
+  not_printed other a is e = other (e ∙ ap printed (sym (outcome a is e)))

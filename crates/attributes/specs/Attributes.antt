@@ -6,7 +6,7 @@ use Rattle.pathkey.specs.Heads.{AreBytes}
 use Rattle.pathkey.specs.Order.{by_bytes}
 use Rattle.attributes.specs.declared.record.Kind.{Kind}
 use Rattle.attributes.specs.declared.record.Kind.TheVariants.{CharacterDevice, BlockDevice, NameOf}
-use Rattle.attributes.specs.declared.record.HandTime.{HandTime}
+use Rattle.attributes.specs.declared.record.MtimeOverride.{MtimeOverride}
 use Rattle.attributes.specs.declared.record.BasicAttributes.{BasicAttributes}
 use Rattle.attributes.specs.declared.record.ExtendedAttribute.{ExtendedAttribute}
 use Rattle.attributes.specs.declared.record.Attributes.{Attributes}
@@ -18,13 +18,13 @@ abbrev pub may_stand : ExtendedAttribute → Bool
 may_stand one = nat_le (length one.name) 255 && list_all (λ b. not (b == 0)) one.name && nat_le (length one.value) 65536
 
 -- each may stand, and the names rise from this one on: the first is above it
-abbrev pub rise : List ℕ → List ExtendedAttribute → Bool
-rise last [] = true
-rise last (one ∷ rest) = is_lt (by_bytes last one.name) && may_stand one && rise one.name rest
+abbrev pub assert_invariant : List ℕ → List ExtendedAttribute → Bool
+assert_invariant last [] = true
+assert_invariant last (one ∷ rest) = is_lt (by_bytes last one.name) && may_stand one && assert_invariant one.name rest
 
 -- the mode has twelve bits, and the extended attributes may stand; they rise from the empty name on, which none has
 abbrev pub is_valid : Attributes → Bool
-is_valid a = nat_le a.basic.mode 4095 && rise [] a.extended
+is_valid a = nat_le a.basic.mode 4095 && assert_invariant [] a.extended
 
 -- ---- the ranges of numbers and bytes, which each value of the program keeps
 
@@ -35,7 +35,7 @@ number_of (BlockDevice n) = Some n
 number_of (NameOf n) = Some n
 number_of _ = None
 
-abbrev pub IsTime : HandTime → Type 0
+abbrev pub IsTime : MtimeOverride → Type 0
 IsTime t = (t.modified < 2 ^ 64) × (t.until < 2 ^ 64)
 
 pub record IsBasic (b : BasicAttributes) : Type 0 where

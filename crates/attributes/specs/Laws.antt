@@ -1,11 +1,11 @@
 -- Laws of mirrored paths and of the paths of records.
 use Rattle.std.specs.Prelude.{◌≡◌, ◌≢◌, ◌↔◌, [], ◌∷◌, ◌++◌, map, true, false}
 use Rattle.pathkey.specs.Names.{Path, IsPath}
-use Rattle.attributes.specs.Places.{reserved, is_reserved, escaped, mirror, record_path, fits}
+use Rattle.attributes.specs.Places.{reserved, is_reserved, escaped, record_dir, record_path, fits}
 
 -- paths with one mirrored path are one path, and so are paths with one record
 abbrev pub OneMirrorLaw : Type 0
-OneMirrorLaw = (p q : Path) → mirror p ≡ mirror q → p ≡ q
+OneMirrorLaw = (p q : Path) → record_dir p ≡ record_dir q → p ≡ q
 
 abbrev pub OneRecordLaw : Type 0
 OneRecordLaw = (p q : Path) → record_path p ≡ record_path q → p ≡ q
@@ -16,16 +16,16 @@ ReservedLaw = (p : Path) → is_reserved p ≡ true ↔ ((q : Path) × (p ≡ re
 
 -- mirrored paths and those of records are reserved, and so none is a path of a user
 abbrev pub ApartLaw : Type 0
-ApartLaw = (p q : Path) → is_reserved q ≡ false → (mirror p ≢ q) × (record_path p ≢ q)
+ApartLaw = (p q : Path) → is_reserved q ≡ false → (record_dir p ≢ q) × (record_path p ≢ q)
 
 -- no mirrored path is the path of a record, or lies below it
 abbrev pub NoMirrorBelowLaw : Type 0
-NoMirrorBelowLaw = (p q r : Path) → mirror q ≢ record_path p ++ r
+NoMirrorBelowLaw = (p q r : Path) → record_dir q ≢ record_path p ++ r
 
 -- what is mirrored of a path below p lies below what is mirrored of p, and so does its record
 abbrev pub BelowLaw : Type 0
-BelowLaw = (p q : Path) → (mirror (p ++ q) ≡ mirror p ++ map escaped q) × (record_path (p ++ q) ≡ mirror p ++ (map escaped q ++ (1 ∷ []) ∷ []))
+BelowLaw = (p q : Path) → (record_dir (p ++ q) ≡ record_dir p ++ map escaped q) × (record_path (p ++ q) ≡ record_dir p ++ (map escaped q ++ (1 ∷ []) ∷ []))
 
 -- where it fits, what is mirrored of a path is a path, and so is the path of its record
 abbrev pub FitsLaw : Type 0
-FitsLaw = (p : Path) → IsPath p → ((fits (mirror p) ≡ true) ↔ IsPath (mirror p)) × ((fits (record_path p) ≡ true) ↔ IsPath (record_path p))
+FitsLaw = (p : Path) → IsPath p → ((fits (record_dir p) ≡ true) ↔ IsPath (record_dir p)) × ((fits (record_path p) ≡ true) ↔ IsPath (record_path p))

@@ -4,5 +4,5 @@ pub mod Laws
 pub mod Attributes
 pub mod Text
 pub mod Packed
-pub mod Fields
+pub mod RawAttributes
 pub mod Buffers

@@ -4,7 +4,7 @@ use Rattle.std.specs.List.{AllByRecursion}
 use Rattle.pathkey.specs.declared.errno.Errno.{Errno}
 use Rattle.pathkey.specs.declared.errno.Errno.TheVariants.{EINVAL, ENOMEM}
 use Rattle.attributes.specs.declared.record.ExtendedAttribute.{ExtendedAttribute}
-use Rattle.attributes.specs.Attributes.{AreBytesOf, rise}
+use Rattle.attributes.specs.Attributes.{AreBytesOf, assert_invariant}
 
 -- a number below 2^32 in four bytes, least first
 unfoldable pub four_bytes : ℕ → List ℕ
@@ -20,6 +20,6 @@ packed extended = flat_map packed_one extended
 -- what bytes were read as: extended attributes that may stand in a record, which they are side by side; or a refusal, by EINVAL
 -- where they are none
 abbrev pub Unpacks : List ℕ → Result (List ExtendedAttribute) Errno → Type 0
-Unpacks bytes (Ok es) = (rise [] es ≡ true) × (bytes ≡ packed es)
-Unpacks bytes (Err EINVAL) = (es : List ExtendedAttribute) → rise [] es ≡ true → AllByRecursion AreBytesOf es → bytes ≢ packed es
+Unpacks bytes (Ok es) = (assert_invariant [] es ≡ true) × (bytes ≡ packed es)
+Unpacks bytes (Err EINVAL) = (es : List ExtendedAttribute) → assert_invariant [] es ≡ true → AllByRecursion AreBytesOf es → bytes ≢ packed es
 Unpacks bytes (Err e) = e ≡ ENOMEM

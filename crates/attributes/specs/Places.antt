@@ -21,12 +21,12 @@ escaped [] = []
 escaped (b ∷ n) = if b == 1 then 1 ∷ b ∷ n else b ∷ n
 
 -- the same path below the reserved name, with its names escaped
-abbrev pub mirror : Path → Path
-mirror p = reserved ∷ codes "tree" ∷ map escaped p
+abbrev pub record_dir : Path → Path
+record_dir p = reserved ∷ codes "tree" ∷ map escaped p
 
 -- behind it one name more, the byte 1 alone
 abbrev pub record_path : Path → Path
-record_path p = mirror p ++ (1 ∷ []) ∷ []
+record_path p = record_dir p ++ (1 ∷ []) ∷ []
 
 -- no name has more than 255 bytes, and the text no more than 1,023
 abbrev pub fits : Path → Bool

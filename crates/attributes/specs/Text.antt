@@ -4,10 +4,10 @@ use Rattle.pathkey.specs.declared.errno.Errno.TheVariants.{EINVAL, ENOMEM}
 use Rattle.std.specs.Prelude.{◌≡◌, ◌≢◌, true, Result, Ok, Err, ℕ, ◌+◌, ◌/◌, ◌%◌, List, [], ◌∷◌, ◌++◌, codes, decimal, flat_map, Option, Some, None}
 use Rattle.reference.specs.Image.{percent}
 use Rattle.attributes.specs.Attributes.{IsAttributes, is_valid, number_of}
-use Rattle.lines.specs.Texts.{hex_text, number_line}
+use Rattle.textio.specs.Texts.{hex_text, number_line}
 use Rattle.attributes.specs.declared.record.Kind.{Kind}
 use Rattle.attributes.specs.declared.record.Kind.TheVariants.{Directory, File, SymbolicLink, Fifo, Socket, CharacterDevice, BlockDevice, NameOf}
-use Rattle.attributes.specs.declared.record.HandTime.{HandTime}
+use Rattle.attributes.specs.declared.record.MtimeOverride.{MtimeOverride}
 use Rattle.attributes.specs.declared.record.BasicAttributes.{BasicAttributes}
 use Rattle.attributes.specs.declared.record.ExtendedAttribute.{ExtendedAttribute}
 use Rattle.attributes.specs.declared.record.Attributes.{Attributes}
@@ -40,7 +40,7 @@ unfoldable pub octal : ℕ → Text
 octal mode = (48 + mode / 512) ∷ (48 + mode / 64 % 8) ∷ (48 + mode / 8 % 8) ∷ (48 + mode % 8) ∷ []
 
 -- the lines of a time that was set by hand; none where none was
-unfoldable pub time_lines : Option HandTime → Text
+unfoldable pub time_lines : Option MtimeOverride → Text
 time_lines None = []
 time_lines (Some t) = number_line (codes "modified ") t.modified ++ number_line (codes "until ") t.until
 

@@ -2,23 +2,23 @@
 ghost use Rattle.std.specs.Prelude.{◌≡◌, ◌≤◌, ◌++◌, drop, length};
 ghost use Rattle.pathkey.specs.Texts.{parsed};
 ghost use Rattle.attributes.specs.Buffers.{Parses, Prints, Writes, laid, place_of};
-ghost use Rattle.attributes.specs.Places.{mirror, record_path};
+ghost use Rattle.attributes.specs.Places.{record_dir, record_path};
 
-use crate::fields::Fields;
-use crate::packing::{pack, unpack};
-use crate::places::{self, text_of};
 use crate::printing::print;
+use crate::raw_attributes::RawAttributes;
 use crate::reading::parse;
 use crate::record::Attributes;
+use crate::record_paths::{self, text_of};
+use crate::xattr_codec::{decode_xattrs, encode_xattrs};
 use pathkey::{Errno, Path};
 use std::alloc::Global;
 
 /// Writes the text of the mirrored path of a path into the front of the buffer, where it has room for it: how long the text is.
-pub fn write_mirror(alloc: Global, path: &[u8], out: &mut [u8]) -> Result<usize, Errno>
-    ensures { Writes (place_of mirror (parsed path.now)) result out.old out.new }
+pub fn write_record_dir(alloc: Global, path: &[u8], out: &mut [u8]) -> Result<usize, Errno>
+    ensures { Writes (place_of record_dir (parsed path.now)) result out.old out.new }
 {
     let path = Path::parse(alloc, path)?;
-    let place = places::mirror(alloc, &path)?;
+    let place = record_paths::record_dir(alloc, &path)?;
     write_path(alloc, &place, out)
 }
 
@@ -27,7 +27,7 @@ pub fn write_record_path(alloc: Global, path: &[u8], out: &mut [u8]) -> Result<u
     ensures { Writes (place_of record_path (parsed path.now)) result out.old out.new }
 {
     let path = Path::parse(alloc, path)?;
-    let place = places::record_path(alloc, &path)?;
+    let place = record_paths::record_path(alloc, &path)?;
     write_path(alloc, &place, out)
 }
 
@@ -36,11 +36,11 @@ fn write_path(alloc: Global, path: &Path, out: &mut [u8]) -> Result<usize, Errno
     ensures { Writes (Ok path.now) result out.old out.new }
 {
     let text = text_of(alloc, path)?;
-    Ok(lay(text.as_slice(), out))
+    Ok(copy_out(text.as_slice(), out))
 }
 
 // Lays bytes into the front of the buffer, where it has room for them: how many they are.
-fn lay(bytes: &[u8], out: &mut [u8]) -> usize
+fn copy_out(bytes: &[u8], out: &mut [u8]) -> usize
     ensures count { result ≡ length bytes.now }
     ensures buffer { out.new ≡ laid bytes.now out.old }
 {
@@ -54,7 +54,7 @@ fn lay(bytes: &[u8], out: &mut [u8]) -> usize
 /// room for it: how long the record is. `EINVAL`: no record can tell them. `ENOMEM`.
 pub fn write_record(
     alloc: Global,
-    fields: &Fields,
+    fields: &RawAttributes,
     extended: &[u8],
     out: &mut [u8],
 ) -> Result<usize, Errno>
@@ -63,10 +63,10 @@ pub fn write_record(
     let Some(basic) = fields.basic() else {
         return Err(Errno::EINVAL);
     };
-    let extended = unpack(alloc, extended)?;
+    let extended = decode_xattrs(alloc, extended)?;
     let attributes = Attributes { basic, extended };
     let text = print(alloc, &attributes)?;
-    Ok(lay(text.as_slice(), out))
+    Ok(copy_out(text.as_slice(), out))
 }
 
 /// Reads a record: its attributes go to the fields, and its extended attributes side by side into the front of the buffer, where it has
@@ -74,14 +74,14 @@ pub fn write_record(
 pub fn read_record(
     alloc: Global,
     text: &[u8],
-    fields: &mut Fields,
+    fields: &mut RawAttributes,
     out: &mut [u8],
 ) -> Result<usize, Errno>
     ensures { Parses text.now result fields.new out.old out.new }
 {
-    *fields = Fields::none();
+    *fields = RawAttributes::none();
     let attributes = parse(alloc, text)?;
-    let packed = pack(alloc, &attributes.extended)?;
-    *fields = Fields::of(&attributes.basic);
-    Ok(lay(packed.as_slice(), out))
+    let packed = encode_xattrs(alloc, &attributes.extended)?;
+    *fields = RawAttributes::of(&attributes.basic);
+    Ok(copy_out(packed.as_slice(), out))
 }

@@ -3,7 +3,7 @@ ghost use Rattle.attributes.specs.Laws.{ApartLaw, BelowLaw, FitsLaw, NoMirrorBel
 
 /// Each path has a mirrored path and a record of its own.
 pub fn one_to_one()
-    ensures mirror { OneMirrorLaw }
+    ensures record_dir { OneMirrorLaw }
     ensures record_path { OneRecordLaw }
 {}
 

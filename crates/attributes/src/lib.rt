@@ -5,19 +5,19 @@
 #![tactic(auto)]
 
 pub mod buffers;
-pub mod fields;
 pub mod laws;
-pub mod packing;
-pub mod places;
 mod printing;
+pub mod raw_attributes;
 mod reading;
 pub mod record;
+pub mod record_paths;
+pub mod xattr_codec;
 
-pub use fields::Fields;
-pub use packing::{pack, unpack};
-pub use places::{is_reserved, mirror, record_path, text_of};
 pub use printing::print;
+pub use raw_attributes::RawAttributes;
 pub use reading::parse;
 pub use record::{
-    Attributes, BasicAttributes, ExtendedAttribute, ExtendedAttributes, HandTime, Kind,
+    Attributes, BasicAttributes, ExtendedAttribute, ExtendedAttributes, Kind, MtimeOverride,
 };
+pub use record_paths::{is_reserved, record_dir, record_path, text_of};
+pub use xattr_codec::{decode_xattrs, encode_xattrs};

@@ -3,11 +3,11 @@ ghost use Rattle.std.specs.Prelude.{◌≡◌, ◌≤◌, ◌++◌, codes, flat_
 ghost use Rattle.attributes.specs.Attributes.{is_valid};
 ghost use Rattle.attributes.specs.Text.{basic_lines, extended_line, kind_text, octal, printed, time_lines};
 
-use crate::record::{Attributes, BasicAttributes, ExtendedAttribute, HandTime, Kind};
-use lines::output::{WriteFailed, put};
-use lines::text::{put_hex, put_number, put_number_line, put_percent};
+use crate::record::{Attributes, BasicAttributes, ExtendedAttribute, Kind, MtimeOverride};
 use pathkey::NoMemory;
 use std::alloc::Global;
+use textio::output::{WriteFailed, put};
+use textio::text::{put_hex, put_number, put_number_line, put_percent};
 
 /// How many bytes most records have at most.
 const USUAL: usize = 192;
@@ -99,14 +99,14 @@ fn octal_digits(mode: u16) -> [u8; 4]
 
 // Adds the lines of a time that was set by hand, if one was.
 #[tactic(auto, unfolding(crate::specs::Text::time_lines))]
-fn put_time(text: &mut Vec<u8>, time: Option<HandTime>) -> Result<(), WriteFailed>
-    ensures { OnOk result (text.new.items ≡ text.old.items ++ time_lines time) }
+fn put_time(text: &mut Vec<u8>, mtime_override: Option<MtimeOverride>) -> Result<(), WriteFailed>
+    ensures { OnOk result (text.new.items ≡ text.old.items ++ time_lines mtime_override) }
 {
-    let Some(time) = time else {
+    let Some(mtime_override) = mtime_override else {
         return Ok(());
     };
-    put_number_line(text, b"modified ", time.modified)?;
-    put_number_line(text, b"until ", time.until)
+    put_number_line(text, b"modified ", mtime_override.modified)?;
+    put_number_line(text, b"until ", mtime_override.until)
 }
 
 // Adds the line of an extended attribute.

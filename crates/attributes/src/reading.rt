@@ -1,8 +1,8 @@
 //! Reads the text of a record. Each record has one text: what a text seems to tell is printed again and compared.
 ghost use Rattle.std.specs.Prelude.{◌≡◌, ◌≢◌, ◌↔◌, Option, Some, ◌++◌, ◌∷◌, ◌+◌, ◌<◌, ◌^◌, List, ℕ, Ok, IfOk, IfSome, codes, flat_map, slice_index, true};
 ghost use Rattle.std.specs.List.{AllByRecursion};
-ghost use Rattle.lines.specs.Held.{IsFree};
-ghost use Rattle.lines.specs.Texts.{hex_text, number_line};
+ghost use Rattle.textio.specs.Held.{IsFree};
+ghost use Rattle.textio.specs.Texts.{hex_text, number_line};
 ghost use Rattle.pathkey.specs.Heads.{AreBytes};
 ghost use Rattle.percent_encoding.specs.Percent.{percent_decode};
 ghost use Rattle.attributes.specs.Attributes.{AreBytesOf, IsAttributes, IsBasic, IsTime, is_valid, number_of};
@@ -11,30 +11,30 @@ ghost use Rattle.attributes.specs.Text.{Reads, basic_lines, extended_line, exten
 ghost use Rattle.attributes.specs.declared.record.Attributes.{Attributes as PAttributes};
 ghost use Rattle.attributes.specs.declared.record.BasicAttributes.{BasicAttributes as PBasic};
 ghost use Rattle.attributes.specs.declared.record.ExtendedAttribute.{ExtendedAttribute as PExtended};
-ghost use Rattle.attributes.specs.declared.record.HandTime.{HandTime as PTime};
+ghost use Rattle.attributes.specs.declared.record.MtimeOverride.{MtimeOverride as PTime};
 ghost use Rattle.attributes.specs.declared.record.Kind.{Kind as PKind};
 ghost use Rattle.reference.specs.Image.{percent};
 
 use crate::printing::print;
 use crate::record::{
-    Attributes, BasicAttributes, ExtendedAttribute, ExtendedAttributes, HandTime, Kind,
+    Attributes, BasicAttributes, ExtendedAttribute, ExtendedAttributes, Kind, MtimeOverride,
 };
 use bytes::Bytes;
-use lines::values::{read_bytes, read_number};
-use lines::words::{cut_line, cut_space};
 use pathkey::{Errno, NoMemory};
 use percent_encoding::percent_decode;
 use std::alloc::Global;
+use textio::values::{read_bytes, read_number};
+use textio::words::{split_line, split_space};
 
 /// The first line of each record.
 const HEADING: &[u8] = b"doorvervain record 1\n";
 
 /// The attributes whose record a text is. `EINVAL`: it is no record. `ENOMEM`.
 pub fn parse(alloc: Global, text: &[u8]) -> Result<Attributes, Errno>
-    ensures told { Reads text.now result }
+    ensures reported { Reads text.now result }
     ensures read_back { (a : PAttributes) → IsAttributes a → text.now ≡ printed a → IsOrNoMemory result (Ok a) }
 {
-    let attributes = guess(alloc, text)?;
+    let attributes = parse_unchecked(alloc, text)?;
     if !attributes.is_valid() {
         return Err(Errno::EINVAL);
     }
@@ -47,14 +47,14 @@ pub fn parse(alloc: Global, text: &[u8]) -> Result<Attributes, Errno>
 // Whether a text is the record of these attributes.
 fn is_record(alloc: Global, attributes: &Attributes, text: &[u8]) -> Result<bool, NoMemory>
     requires { is_valid attributes.now ≡ true }
-    ensures { IfOk result (λ told. told ≡ true ↔ (text.now ≡ printed attributes.now)) }
+    ensures { IfOk result (λ outcome. outcome ≡ true ↔ (text.now ≡ printed attributes.now)) }
 {
     let written = print(alloc, attributes)?;
     Ok(written.as_slice() == text)
 }
 
 // The attributes that a text seems to tell: those whose record it is, if it is one.
-fn guess(alloc: Global, text: &[u8]) -> Result<Attributes, NoMemory>
+fn parse_unchecked(alloc: Global, text: &[u8]) -> Result<Attributes, NoMemory>
     ensures { IfOk result (λ a. (b : PAttributes) → IsAttributes b → text.now ≡ printed b → a ≡ b) }
 {
     let (basic, rest) = guess_basic(text);
@@ -99,7 +99,7 @@ fn value_of<'a>(text: &'a [u8], word: &[u8]) -> (&'a [u8], &'a [u8])
     ensures { (value rest : List ℕ) → IsFree value → text.now ≡ word.now ++ (value ++ 10 ∷ rest)
         → (result.0.now ≡ value) × (result.1.now ≡ rest) }
 {
-    match cut_line(behind(text, word)) {
+    match split_line(behind(text, word)) {
         Some(cut) => cut,
         None => (text, text),
     }
@@ -171,7 +171,7 @@ fn split_kind(words: &[u8]) -> (&[u8], Option<u64>)
     ensures { (k : PKind) → IfSome (number_of k) (λ n. n < 2 ^ 64) → words.now ≡ kind_text k
         → (result.0.now ≡ kind_word k) × (result.1 ≡ number_of k) }
 {
-    match cut_space(words) {
+    match split_space(words) {
         Some((word, number)) => (word, read_number(number)),
         None => (words, None),
     }
@@ -213,7 +213,7 @@ fn numbered_kind(word: &[u8], number: u64) -> Kind
 }
 
 // The time that was set by hand, if the text begins with one, and the text behind it.
-fn guess_time(text: &[u8]) -> (Option<HandTime>, &[u8])
+fn guess_time(text: &[u8]) -> (Option<MtimeOverride>, &[u8])
     ensures { (t : Option PTime) (rest : List ℕ) → IfSome t IsTime → slice_index rest 0 ≢ 109 → text.now ≡ time_lines t ++ rest
         → (result.0 ≡ t) × (result.1.now ≡ rest) }
 {
@@ -222,7 +222,7 @@ fn guess_time(text: &[u8]) -> (Option<HandTime>, &[u8])
     }
     let (modified, rest) = guess_number(text, b"modified ");
     let (until, rest) = guess_number(rest, b"until ");
-    (Some(HandTime { modified, until }), rest)
+    (Some(MtimeOverride { modified, until }), rest)
 }
 
 fn begins_with_m(text: &[u8]) -> bool
@@ -240,7 +240,7 @@ fn guess_extended(alloc: Global, text: &[u8]) -> Result<ExtendedAttributes, NoMe
 {
     let mut extended = ExtendedAttributes::new(alloc);
     let mut rest = text;
-    while let Some((line, after)) = cut_line(rest) {
+    while let Some((line, after)) = split_line(rest) {
         let one = guess_one(alloc, line)?;
         extended.push(one)?;
         rest = after;
@@ -262,7 +262,7 @@ fn guess_one(alloc: Global, line: &[u8]) -> Result<ExtendedAttribute, NoMemory>
 fn words_of(line: &[u8]) -> (&[u8], &[u8])
     ensures { (e : PExtended) → line.now ≡ extended_words e → (result.0.now ≡ flat_map percent e.name) × (result.1.now ≡ hex_text e.value) }
 {
-    match cut_space(behind(line, b"extended ")) {
+    match split_space(behind(line, b"extended ")) {
         Some(cut) => cut,
         None => (line, line),
     }

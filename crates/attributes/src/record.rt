@@ -1,7 +1,7 @@
 //! What a record tells of an entry.
 ghost use Rattle.std.specs.Prelude.{◌≡◌, ◌==◌, [], ◌∷◌, ◌++◌, OnOk, not};
 ghost use Rattle.std.specs.List.{list_all};
-ghost use Rattle.attributes.specs.Attributes.{is_valid, may_stand, number_of, rise};
+ghost use Rattle.attributes.specs.Attributes.{is_valid, may_stand, number_of, assert_invariant};
 ghost use Rattle.attributes.specs.Text.{kind_word};
 
 use bytes::Bytes;
@@ -61,7 +61,7 @@ impl Kind {
 
 /// A time of last change that was set by hand.
 #[derive(Clone, Copy, Debug, PartialEq, Eq)]
-pub struct HandTime {
+pub struct MtimeOverride {
     /// The time, in nanoseconds since 1970.
     pub modified: u64,
     /// The moment of last change up to which it holds: once the entry has a later one, that is the time.
@@ -82,7 +82,7 @@ pub struct BasicAttributes {
     /// How many names it has.
     pub names: u64,
     /// The time that was set by hand, if one was.
-    pub modified: Option<HandTime>,
+    pub modified: Option<MtimeOverride>,
 }
 
 /// An extended attribute. Contracts see name and value as their bytes.
@@ -164,13 +164,13 @@ impl Attributes {
     pub fn is_valid(&self) -> bool
         ensures { result ≡ is_valid self.now }
     {
-        self.basic.mode <= GREATEST_MODE && rise(self.extended.as_slice())
+        self.basic.mode <= GREATEST_MODE && assert_invariant(self.extended.as_slice())
     }
 }
 
 /// Whether extended attributes may stand in a record, in this order.
-pub(crate) fn rise(attributes: &[ExtendedAttribute]) -> bool
-    ensures { result ≡ rise [] attributes.now }
+pub(crate) fn assert_invariant(attributes: &[ExtendedAttribute]) -> bool
+    ensures { result ≡ assert_invariant [] attributes.now }
 {
     let mut last = b"".as_slice();
     for one in attributes {

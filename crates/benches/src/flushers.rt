@@ -1,5 +1,5 @@
 //! Flushers that make turns until they are told to stop, and count them; one that rests counts what each turn did too.
-use engine::{Between, Flusher, Naming, TurnReply};
+use engine::{Between, EngineId, Flusher, TurnReply};
 use std::alloc::Global;
 use std::sync::Wait;
 use std::sync::atomic::{AtomicBool, AtomicU64, Ordering};
@@ -112,13 +112,13 @@ pub fn rest<R: Wait>(rt: &R) {
 }
 
 /// A turn with its rests.
-fn turn<J: Naming, H: Wait>(rt: &H, alloc: Global, flusher: &mut Flusher<J>, watch: &Watch) {
+fn turn<J: EngineId, H: Wait>(rt: &H, alloc: Global, flusher: &mut Flusher<J>, watch: &Watch) {
     watch.note(flusher.turn(rt, alloc, &mut Rests { rt }));
     rest(rt);
 }
 
 /// Starts a flusher in a thread of its own, if there is one.
-pub fn start<'s, E, J: Naming + Send + Sync + 's, H: Wait + Sync>(
+pub fn start<'s, E, J: EngineId + Send + Sync + 's, H: Wait + Sync>(
     scope: &Scope<'s, E>,
     rt: &'s H,
     alloc: Global,
@@ -129,7 +129,7 @@ pub fn start<'s, E, J: Naming + Send + Sync + 's, H: Wait + Sync>(
 }
 
 /// Turns until it has to stop.
-fn flush<J: Naming, H: Wait>(rt: &H, alloc: Global, mut flusher: Flusher<J>, watch: &Watch) {
+fn flush<J: EngineId, H: Wait>(rt: &H, alloc: Global, mut flusher: Flusher<J>, watch: &Watch) {
     for _ in 0..u64::MAX {
         if watch.is_ended() {
             return;

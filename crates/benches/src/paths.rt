@@ -1,7 +1,7 @@
 //! Paths that are made as texts.
 use pathkey::Path;
-use samples::ask::path;
 use std::alloc::Global;
+use test_support::ask::path;
 
 /// The path of a text.
 pub fn path_of(alloc: Global, text: &String) -> Option<Path> {

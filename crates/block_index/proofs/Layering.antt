@@ -8,8 +8,8 @@ use Rattle.reference.specs.Indexes.{held, overlaid, shortened}
 use Rattle.reference.proofs.Contents.{length-over}
 use Rattle.reference.proofs.FileBlocks.{over_before, over_inside, over_after}
 use Rattle.block_index.specs.Patches.{Overlay}
-use Rattle.block_index.specs.Layers.{AreInside, Follows, Layered, clipped, cut_by, laid, layer_in, layered}
-use Rattle.block_index.specs.declared.stack.Extent.{Extent}
+use Rattle.block_index.specs.Layers.{AreInside, Follows, Layered, clipped, cut_by, with_layers, layer_in, layered}
+use Rattle.block_index.specs.declared.layer_data.Extent.{Extent}
 
 -- ---- bytes over bytes
 
@@ -71,20 +71,20 @@ take_over n b off w =
 -- ---- layers
 
 -- layers behind others
-pub laid-append : (ps qs : List Overlay) (old : Option (List ℕ)) → laid (ps ++ qs) old ≡ laid ps (laid qs old)
-laid-append [] qs old = refl
-laid-append (p ∷ ps) qs old = ap (overlaid p.off p.bytes) (laid-append ps qs old)
+pub with_layers-append : (ps qs : List Overlay) (old : Option (List ℕ)) → with_layers (ps ++ qs) old ≡ with_layers ps (with_layers qs old)
+with_layers-append [] qs old = refl
+with_layers-append (p ∷ ps) qs old = ap (overlaid p.off p.bytes) (with_layers-append ps qs old)
 
 take_held : (n : ℕ) (o : Option (List ℕ)) → held (shortened n o) ≡ take n (held o)
 take_held n None = sym (take_all n [] (omega arith))
 take_held n (Some b) = refl
 
 -- a cut behind layers is one before what it leaves of them
-pub shortened_laid : (n : ℕ) (ps : List Overlay) (old : Option (List ℕ)) → shortened n (laid ps old) ≡ laid (map (clipped n) ps) (shortened n old)
-shortened_laid n [] old = refl
-shortened_laid n (p ∷ ps) old =
-    ap (λ (b : List ℕ). Some b) (take_over n (held (laid ps old)) p.off p.bytes ∙ ap (λ (b : List ℕ). over b (min p.off n) (take (n - p.off) p.bytes)) (sym (take_held n (laid ps old))))
-    ∙ ap (overlaid (min p.off n) (take (n - p.off) p.bytes)) (shortened_laid n ps old)
+pub shortened_applied : (n : ℕ) (ps : List Overlay) (old : Option (List ℕ)) → shortened n (with_layers ps old) ≡ with_layers (map (clipped n) ps) (shortened n old)
+shortened_applied n [] old = refl
+shortened_applied n (p ∷ ps) old =
+    ap (λ (b : List ℕ). Some b) (take_over n (held (with_layers ps old)) p.off p.bytes ∙ ap (λ (b : List ℕ). over b (min p.off n) (take (n - p.off) p.bytes)) (sym (take_held n (with_layers ps old))))
+    ∙ ap (overlaid (min p.off n) (take (n - p.off) p.bytes)) (shortened_applied n ps old)
 
 -- the first bytes of the first
 take_both : (m n : ℕ) (b : List ℕ) → take n (take m b) ≡ take (min m n) b
@@ -208,10 +208,10 @@ next_one (y ∷ xs) zero x ys e = cc
 next_one {A = A} (y ∷ xs) (suc i) x ys e = ap (λ (zs : List A). y ∷ zs) (next_one xs i x ys e)
 
 -- layers below which one is put that does not touch the one that comes
-pub laid_past : (ps : List Overlay) (i : ℕ) (p : Overlay) (rest : Option (List ℕ) → Option (List ℕ)) (old : Option (List ℕ)) → drop i ps ≡ p ∷ drop (i + 1) ps
-    → laid (take (i + 1) ps) (rest old) ≡ laid (take i ps) (overlaid p.off p.bytes (rest old))
-laid_past ps i p rest old e =
-    ap (λ (qs : List Overlay). laid qs (rest old)) (ap (λ (n : ℕ). take n ps) (add-one i) ∙ next_one ps i p (drop (i + 1) ps) e) ∙ laid-append (take i ps) (p ∷ []) (rest old)
+pub applied_past : (ps : List Overlay) (i : ℕ) (p : Overlay) (rest : Option (List ℕ) → Option (List ℕ)) (old : Option (List ℕ)) → drop i ps ≡ p ∷ drop (i + 1) ps
+    → with_layers (take (i + 1) ps) (rest old) ≡ with_layers (take i ps) (overlaid p.off p.bytes (rest old))
+applied_past ps i p rest old e =
+    ap (λ (qs : List Overlay). with_layers qs (rest old)) (ap (λ (n : ℕ). take n ps) (add-one i) ∙ next_one ps i p (drop (i + 1) ps) e) ∙ with_layers-append (take i ps) (p ∷ []) (rest old)
 
 -- ---- several updates as one
 
@@ -222,14 +222,14 @@ cut_none (Some n) = refl
 
 -- layers and then a cut
 pub cut_follows : (self l first : Layered) (n k : ℕ) (ps : List Overlay) → ps ≡ self.layers → first ≡ record { cut = Some k; layers = [] } → ((old : Option (List ℕ)) → shortened k old ≡ shortened n (cut_by self.cut old))
-    → (l.cut ≡ first.cut) × ((old : Option (List ℕ)) → laid l.layers old ≡ laid (map (clipped n) ps) (laid first.layers old)) → Follows (shortened n) self l
+    → (l.cut ≡ first.cut) × ((old : Option (List ℕ)) → with_layers l.layers old ≡ with_layers (map (clipped n) ps) (with_layers first.layers old)) → Follows (shortened n) self l
 cut_follows self l first n k ps layers empty cuts h old =
     h.1 (cut_by l.cut old)
-    ∙ ap (λ (qs : List Overlay). laid (map (clipped n) ps) (laid qs (cut_by l.cut old))) (ap (λ (f : Layered). f.layers) empty)
-    ∙ ap (λ (cut : Option ℕ). laid (map (clipped n) ps) (cut_by cut old)) (h.0 ∙ ap (λ (f : Layered). f.cut) empty)
-    ∙ ap (laid (map (clipped n) ps)) (cuts old)
-    ∙ sym (shortened_laid n ps (cut_by self.cut old))
-    ∙ ap (λ (qs : List Overlay). shortened n (laid qs (cut_by self.cut old))) layers
+    ∙ ap (λ (qs : List Overlay). with_layers (map (clipped n) ps) (with_layers qs (cut_by l.cut old))) (ap (λ (f : Layered). f.layers) empty)
+    ∙ ap (λ (cut : Option ℕ). with_layers (map (clipped n) ps) (cut_by cut old)) (h.0 ∙ ap (λ (f : Layered). f.cut) empty)
+    ∙ ap (with_layers (map (clipped n) ps)) (cuts old)
+    ∙ sym (shortened_applied n ps (cut_by self.cut old))
+    ∙ ap (λ (qs : List Overlay). shortened n (with_layers qs (cut_by self.cut old))) layers
 
 -- layers that lie inside the block are cut by its end alone
 pub clipped_inside : (bs : List ℕ) (es : List Extent) → AreInside bs es → map (clipped 4096) (map (layer_in bs) es) ≡ map (layer_in bs) es
@@ -243,23 +243,23 @@ clipped_inside bs (e ∷ es) inside =
     ∙ ap (λ (ps : List Overlay). layer_in bs e ∷ ps) (clipped_inside bs es inside.2)
 
 -- layers and then others
-pub laid_follows : (self later l first : Layered) (ps : List Overlay) → ps ≡ later.layers → ((old : Option (List ℕ)) → layered first old ≡ cut_by later.cut (layered self old))
-    → (l.cut ≡ first.cut) × ((old : Option (List ℕ)) → laid l.layers old ≡ laid ps (laid first.layers old)) → Follows (layered later) self l
-laid_follows self later l first ps layers below h old =
+pub applied_follows : (self later l first : Layered) (ps : List Overlay) → ps ≡ later.layers → ((old : Option (List ℕ)) → layered first old ≡ cut_by later.cut (layered self old))
+    → (l.cut ≡ first.cut) × ((old : Option (List ℕ)) → with_layers l.layers old ≡ with_layers ps (with_layers first.layers old)) → Follows (layered later) self l
+applied_follows self later l first ps layers below h old =
     h.1 (cut_by l.cut old)
-    ∙ ap (λ (cut : Option ℕ). laid ps (laid first.layers (cut_by cut old))) h.0
-    ∙ ap (laid ps) (below old)
-    ∙ ap (λ (qs : List Overlay). laid qs (cut_by later.cut (layered self old))) layers
+    ∙ ap (λ (cut : Option ℕ). with_layers ps (with_layers first.layers (cut_by cut old))) h.0
+    ∙ ap (with_layers ps) (below old)
+    ∙ ap (λ (qs : List Overlay). with_layers qs (cut_by later.cut (layered self old))) layers
 
 -- the bytes of a block that is there
-pub laid_some : (ps : List Overlay) (b : List ℕ) → Some (held (laid ps (Some b))) ≡ laid ps (Some b)
-laid_some [] b = refl
-laid_some (p ∷ ps) b = refl
+pub applied_some : (ps : List Overlay) (b : List ℕ) → Some (held (with_layers ps (Some b))) ≡ with_layers ps (Some b)
+applied_some [] b = refl
+applied_some (p ∷ ps) b = refl
 
 -- and of one that a layer makes
-pub laid_made : (bs : List ℕ) (es : List Extent) (o : Option (List ℕ)) → (length es ≡ 0 → ⊥) → Some (held (laid (map (layer_in bs) es) o)) ≡ laid (map (layer_in bs) es) o
-laid_made bs [] o some = absurd (some refl)
-laid_made bs (e ∷ es) o some = refl
+pub applied_made : (bs : List ℕ) (es : List Extent) (o : Option (List ℕ)) → (length es ≡ 0 → ⊥) → Some (held (with_layers (map (layer_in bs) es) o)) ≡ with_layers (map (layer_in bs) es) o
+applied_made bs [] o some = absurd (some refl)
+applied_made bs (e ∷ es) o some = refl
 
 pub held_none : (cut : Option ℕ) → held (cut_by cut None) ≡ []
 held_none cut = ap held (cut_none cut)

@@ -22,7 +22,7 @@ Change = ℕ → Option (List ℕ) → Option (List ℕ)
 
 -- the blocks before number n changed
 abbrev pub up_to : ℕ → Change → Change
-up_to n change i o = cond (ltb i n) (change i o) o
+up_to n apply_in_place i o = cond (ltb i n) (apply_in_place i o) o
 
 by_touch : (off : ℕ) (w : List ℕ) (i : ℕ) (o : Option (List ℕ)) (t : Bool) → touches off w i ≡ t → patched off w i o ≡ cond t (Some (over (held o) (off - 4096 * i) (piece off w i))) o
 by_touch off w i o t e = ap (λ (t : Bool). cond t (Some (over (held o) (off - 4096 * i) (piece off w i))) o) e
@@ -33,8 +33,8 @@ left_alone off w i o (inl h) = by_touch off w i o false (and_left _ _ (le-ltb of
 left_alone off w i o (inr h) = by_touch off w i o false (and_right _ _ (le-ltb (4096 * i) (off + length w) h))
 
 -- no messages change no block
-pub no_change : (p : Path) (change : Change) (d : Blocks) → ((i : ℕ) (o : Option (List ℕ)) → i < most_blocks → change i o ≡ o) → BlocksChange change p d d
-no_change p change d idle = record {
+pub no_change : (p : Path) (apply_in_place : Change) (d : Blocks) → ((i : ℕ) (o : Option (List ℕ)) → i < most_blocks → apply_in_place i o ≡ o) → BlocksChange apply_in_place p d d
+no_change p apply_in_place d idle = record {
   block = λ i li. sym (idle i (d (block_key p i)) li);
   elsewhere = λ k off. refl;
   only = λ k v e. inl (v, e);

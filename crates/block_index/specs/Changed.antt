@@ -39,7 +39,7 @@ patches p off w = map (patch_of p off w) (range_with_len (off / 4096) (touched o
 
 -- whatever the blocks, the messages change block i of p by change i, and nothing else
 abbrev pub Changes : (ℕ → Option (List ℕ) → Option (List ℕ)) → Path → Messages → Type 0
-Changes change p msgs = (d : Blocks) → BlocksChange change p d (after msgs d)
+Changes apply_in_place p msgs = (d : Blocks) → BlocksChange apply_in_place p d (after msgs d)
 
 -- ---- a cut
 

@@ -1,7 +1,7 @@
 -- What layers are: a cut of a block, if there is one, and then bytes that are laid over it at several places.
 use Rattle.std.specs.Prelude.{◌≡◌, ℕ, ◌+◌, ◌-◌, ◌≤◌, ⊤, List, [], ◌∷◌, length, take, drop, min, Option, None, Some}
 use Rattle.block_index.specs.Patches.{Overlay}
-use Rattle.block_index.specs.declared.stack.Extent.{Extent}
+use Rattle.block_index.specs.declared.layer_data.Extent.{Extent}
 use Rattle.reference.specs.Indexes.{overlaid, shortened}
 
 -- the first layer is the newest
@@ -10,9 +10,9 @@ pub record Layered : Type 0 where
   pub layers : List Overlay
 
 -- what layers make of a block, or of its absence: the newest is laid over all others
-abbrev pub laid : List Overlay → Option (List ℕ) → Option (List ℕ)
-laid [] old = old
-laid (p ∷ ps) old = overlaid p.off p.bytes (laid ps old)
+abbrev pub with_layers : List Overlay → Option (List ℕ) → Option (List ℕ)
+with_layers [] old = old
+with_layers (p ∷ ps) old = overlaid p.off p.bytes (with_layers ps old)
 
 -- what is left of a block behind a cut, if there is one
 abbrev pub cut_by : Option ℕ → Option (List ℕ) → Option (List ℕ)
@@ -21,15 +21,15 @@ cut_by (Some n) old = shortened n old
 
 -- what both make of a block
 abbrev pub layered : Layered → Option (List ℕ) → Option (List ℕ)
-layered l old = laid l.layers (cut_by l.cut old)
+layered l old = with_layers l.layers (cut_by l.cut old)
 
 -- one of two updates after the other: what the later makes of what the earlier made
 abbrev pub Follows : (Option (List ℕ) → Option (List ℕ)) → Layered → Layered → Type 0
 Follows later l new = (old : Option (List ℕ)) → layered new old ≡ later (layered l old)
 
 -- the same cut and layers, and bytes that are laid over the block after them
-abbrev pub IsLaid : ℕ → List ℕ → Layered → Layered → Type 0
-IsLaid off new before after = (after.cut ≡ before.cut) × ((block : Option (List ℕ)) → laid after.layers block ≡ overlaid off new (laid before.layers block))
+abbrev pub IsApplied : ℕ → List ℕ → Layered → Layered → Type 0
+IsApplied off new before after = (after.cut ≡ before.cut) × ((block : Option (List ℕ)) → with_layers after.layers block ≡ overlaid off new (with_layers before.layers block))
 
 -- ---- where their bytes lie
 

@@ -1,5 +1,5 @@
 pub mod Patches
-pub mod Stored
+pub mod BlockBytes
 pub mod Updates
 pub mod Changed
 pub mod Means

@@ -2,12 +2,12 @@
 ghost use Rattle.std.specs.Prelude.{◌≡◌, ◌≤◌, length, take, Some, None, if◌then◌else◌, IfOk, IfSome, OnOk, OnErr};
 ghost use Rattle.std.specs.Option.{option_map};
 ghost use Rattle.block_index.specs.Layers.{layered};
-ghost use Rattle.block_index.specs.Stored.{bytes_of};
+ghost use Rattle.block_index.specs.BlockBytes.{bytes_of};
 ghost use Rattle.reference.specs.Tree.{over};
 
+use crate::block_bytes::BlockBytes;
+use crate::layer_data::LayerData;
 use crate::patch::Patch;
-use crate::stack::Stack;
-use crate::stored::Stored;
 use pathkey::NoMemory;
 use std::alloc::Global;
 use std::marker::Model;
@@ -18,7 +18,7 @@ pub const BLOCK: u64 = 4096;
 
 /// At most 4,096 bytes of a file, which contracts see as their list. They are shared: a copy is one more owner.
 pub struct Block {
-    stored: Stored,
+    stored: BlockBytes,
 }
 
 // Written out, as that of `pathkey::Key`.
@@ -30,7 +30,7 @@ impl Drop for Block {
 
 impl Model for Block {
     ghost use Rattle.std.specs.Prelude.{List, ℕ, length, ◌≤◌};
-    ghost use Rattle.block_index.specs.Stored.{bytes_of};
+    ghost use Rattle.block_index.specs.BlockBytes.{bytes_of};
 
     ghost Value = { List ℕ };
 
@@ -59,7 +59,7 @@ impl Block {
         let end = off + patch.bytes().len();
         if off == 0 && old.len() <= end {
             return Ok(Block {
-                stored: Stored::Slice(patch.share()?),
+                stored: BlockBytes::Slice(patch.share()?),
             });
         }
         let mut own = Vec::with_capacity(alloc, old.len().max(end))?;
@@ -78,7 +78,7 @@ impl Block {
         ensures { IfOk result (λ b. b ≡ own.items) }
     {
         Ok(Block {
-            stored: Stored::Own(Arc::new(alloc, own)?),
+            stored: BlockBytes::Own(Arc::new(alloc, own)?),
         })
     }
 
@@ -100,21 +100,21 @@ impl Block {
     }
 
     /// Lays the patch over the block, in its place where no other block shares its bytes.
-    pub fn lay(&mut self, alloc: Global, patch: &Patch) -> Result<(), NoMemory>
+    pub fn apply_patch(&mut self, alloc: Global, patch: &Patch) -> Result<(), NoMemory>
         ensures ok { OnOk result (self.new ≡ over self.old patch.now.off patch.now.bytes) }
         ensures err { OnErr result (self.new ≡ self.old) }
     {
-        if !self.stored.lay(patch)? {
+        if !self.stored.apply_patch(patch)? {
             *self = Block::patched(alloc, self.as_slice(), patch)?;
         }
         Ok(())
     }
 
     /// What layers make of these bytes, or of no block; none where they make none.
-    pub(crate) fn laid(
+    pub(crate) fn with_layers(
         alloc: Global,
         old: Option<&[u8]>,
-        layers: &Stack,
+        layers: &LayerData,
     ) -> Result<Option<Block>, NoMemory>
         requires { IfSome old (λ b. length b.now ≤ 4096) }
         ensures { IfOk result (λ r. r ≡ layered layers.now (option_map (λ b. b.now) old.entry)) }
@@ -126,11 +126,15 @@ impl Block {
     }
 
     /// Lays layers over the block, and answers whether there still is one. On want of memory it is as it was.
-    pub(crate) fn relay(&mut self, alloc: Global, layers: &Stack) -> Result<bool, NoMemory>
+    pub(crate) fn apply_layers(
+        &mut self,
+        alloc: Global,
+        layers: &LayerData,
+    ) -> Result<bool, NoMemory>
         ensures ok { IfOk result (λ stays. (if stays then Some self.new else None) ≡ layered layers.now (Some self.old)) }
         ensures err { OnErr result (self.new ≡ self.old) }
     {
-        match Block::laid(alloc, Some(self.as_slice()), layers)? {
+        match Block::with_layers(alloc, Some(self.as_slice()), layers)? {
             Some(new) => {
                 *self = new;
                 Ok(true)

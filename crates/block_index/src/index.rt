@@ -5,7 +5,7 @@ ghost use Rattle.block_index.specs.Read.{block_count};
 ghost use Rattle.node.specs.Shapes.{is_shape};
 ghost use Rattle.pathkey.specs.Keys.{Key as KeyBytes, subtree};
 ghost use Rattle.reference.specs.Indexes.{BlocksMean, held, patched};
-ghost use Rattle.reference.specs.Looks.{look, Bytes as Contents};
+ghost use Rattle.reference.specs.Reads.{look, Bytes as Contents};
 ghost use Rattle.reference.specs.Tree.{Tree as DirectoryTree};
 ghost use Rattle.scan.specs.Pairs.{IsScan};
 

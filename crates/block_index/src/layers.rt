@@ -1,9 +1,9 @@
 //! Layers: several updates of one block as one, shared.
 ghost use Rattle.std.specs.Prelude.{◌≡◌, IfOk, OnErr, OnOk};
-ghost use Rattle.block_index.specs.Layers.{IsLaid};
+ghost use Rattle.block_index.specs.Layers.{IsApplied};
 
+use crate::layer_data::LayerData;
 use crate::patch::Patch;
-use crate::stack::Stack;
 use pathkey::NoMemory;
 use std::alloc::Global;
 use std::marker::Model;
@@ -11,7 +11,7 @@ use std::sync::Arc;
 
 /// A cut of a block, if there is one, and then bytes that are laid over it at several places. A copy is one more owner.
 pub struct Layers {
-    stack: Arc<Stack>,
+    stack: Arc<LayerData>,
 }
 
 // Written out, as that of `pathkey::Key`.
@@ -32,7 +32,7 @@ impl Model for Layers {
 
 impl Layers {
     /// The layers of a stack.
-    pub(crate) fn of(alloc: Global, stack: Stack) -> Result<Layers, NoMemory>
+    pub(crate) fn of(alloc: Global, stack: LayerData) -> Result<Layers, NoMemory>
         ensures { IfOk result (λ l. l ≡ stack) }
     {
         Ok(Layers {
@@ -41,7 +41,7 @@ impl Layers {
     }
 
     /// Their stack.
-    pub(crate) fn stack(&self) -> &Stack
+    pub(crate) fn stack(&self) -> &LayerData
         ensures { result.now ≡ self.now }
     {
         &self.stack
@@ -49,12 +49,12 @@ impl Layers {
 
     /// Lays a patch over the block, newer than all layers, in their place. Where others share them, they would be too many, or memory
     /// is refused, they are as they were.
-    pub(crate) fn lay(&mut self, alloc: Global, patch: &Patch) -> Result<(), NoMemory>
-        ensures ok { OnOk result (IsLaid patch.now.off patch.now.bytes self.old self.new) }
+    pub(crate) fn apply_patch(&mut self, alloc: Global, patch: &Patch) -> Result<(), NoMemory>
+        ensures ok { OnOk result (IsApplied patch.now.off patch.now.bytes self.old self.new) }
         ensures err { OnErr result (self.new ≡ self.old) }
     {
         match Arc::get_mut(&mut self.stack) {
-            Some(stack) => stack.lay(alloc, patch.off(), patch.bytes()),
+            Some(stack) => stack.apply_patch(alloc, patch.off(), patch.bytes()),
             None => Err(NoMemory),
         }
     }

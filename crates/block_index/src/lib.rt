@@ -6,12 +6,12 @@
 #![tactic(auto)]
 
 pub mod block;
+mod block_bytes;
 pub mod index;
+mod layer_data;
 pub mod layers;
+mod new_layer;
 pub mod patch;
-mod stack;
-mod stored;
-mod top;
 pub mod update;
 
 pub use block::{BLOCK, Block};

@@ -5,10 +5,10 @@ ghost use Rattle.block_index.specs.Updates.{means as meant};
 ghost use Rattle.reference.specs.Indexes.{overlaid};
 
 use crate::block::Block;
+use crate::layer_data::LayerData;
 use crate::layers::Layers;
 use crate::patch::Patch;
-use crate::stack::Stack;
-use message::{Changes, Update};
+use message::{Update, UpdateTarget};
 use pathkey::NoMemory;
 use std::alloc::Global;
 
@@ -23,7 +23,7 @@ pub enum BlockUpdate {
     Layers(Layers),
 }
 
-impl Changes for BlockUpdate {
+impl UpdateTarget for BlockUpdate {
     type Value = Block;
 }
 
@@ -44,18 +44,18 @@ impl Update for BlockUpdate {
                 block.cut(alloc, *n)?;
                 Ok(Some(block))
             }
-            (BlockUpdate::Layers(layers), None) => Block::laid(alloc, None, layers.stack()),
+            (BlockUpdate::Layers(layers), None) => Block::with_layers(alloc, None, layers.stack()),
             (BlockUpdate::Layers(layers), Some(block)) => {
-                Block::laid(alloc, Some(block.as_slice()), layers.stack())
+                Block::with_layers(alloc, Some(block.as_slice()), layers.stack())
             }
         }
     }
 
-    fn change(&self, alloc: Global, block: &mut Block) -> Result<bool, NoMemory> {
+    fn apply_in_place(&self, alloc: Global, block: &mut Block) -> Result<bool, NoMemory> {
         match self {
-            BlockUpdate::Patch(patch) => block.lay(alloc, patch)?,
+            BlockUpdate::Patch(patch) => block.apply_patch(alloc, patch)?,
             BlockUpdate::CutTo(n) => block.cut(alloc, *n)?,
-            BlockUpdate::Layers(layers) => return block.relay(alloc, layers.stack()),
+            BlockUpdate::Layers(layers) => return block.apply_layers(alloc, layers.stack()),
         }
         Ok(true)
     }
@@ -70,17 +70,17 @@ impl Update for BlockUpdate {
             (BlockUpdate::Patch(first), BlockUpdate::Patch(second)) => {
                 match first.join(alloc, second)? {
                     Some(patch) => Ok(Some(BlockUpdate::Patch(patch))),
-                    None => Ok(self.and(alloc, later).ok()),
+                    None => Ok(self.composed(alloc, later).ok()),
                 }
             }
-            _ => Ok(self.and(alloc, later).ok()),
+            _ => Ok(self.composed(alloc, later).ok()),
         }
     }
 
     /// Layers that nobody else holds take in a patch in their place.
-    fn absorb(&mut self, alloc: Global, later: &BlockUpdate) -> bool {
+    fn join_in_place(&mut self, alloc: Global, later: &BlockUpdate) -> bool {
         if let (BlockUpdate::Layers(layers), BlockUpdate::Patch(patch)) = (&mut *self, later) {
-            if layers.lay(alloc, patch).is_ok() {
+            if layers.apply_patch(alloc, patch).is_ok() {
                 return true;
             }
         }
@@ -106,39 +106,39 @@ impl Update for BlockUpdate {
 
 impl BlockUpdate {
     /// This update and then `later`, as layers. There are none where those would be too many.
-    fn and(&self, alloc: Global, later: &BlockUpdate) -> Result<BlockUpdate, NoMemory>
+    fn composed(&self, alloc: Global, later: &BlockUpdate) -> Result<BlockUpdate, NoMemory>
         ensures { IfOk result (λ u. (old : Option (List ℕ)) → meant u old ≡ meant later.now (meant self.now old)) }
     {
         let first = match self {
-            BlockUpdate::Patch(patch) => layer_of(alloc, patch)?,
-            BlockUpdate::CutTo(n) => Stack::new(alloc, Some(*n)),
+            BlockUpdate::Patch(patch) => as_layer(alloc, patch)?,
+            BlockUpdate::CutTo(n) => LayerData::new(alloc, Some(*n)),
             BlockUpdate::Layers(layers) => layers.stack().copy(alloc)?,
         };
-        let all = with_later(alloc, first, later)?;
+        let all = with_update(alloc, first, later)?;
         Ok(BlockUpdate::Layers(Layers::of(alloc, all)?))
     }
 }
 
 /// The patch as a layer.
-fn layer_of(alloc: Global, patch: &Patch) -> Result<Stack, NoMemory>
+fn as_layer(alloc: Global, patch: &Patch) -> Result<LayerData, NoMemory>
     ensures { IfOk result (λ l. (old : Option (List ℕ)) → layered l old ≡ overlaid patch.now.off patch.now.bytes old) }
 {
-    let mut stack = Stack::new(alloc, None);
-    stack.lay(alloc, patch.off(), patch.bytes())?;
+    let mut stack = LayerData::new(alloc, None);
+    stack.apply_patch(alloc, patch.off(), patch.bytes())?;
     Ok(stack)
 }
 
 /// The layers and then an update. There are none where they would be too many.
-fn with_later(alloc: Global, first: Stack, later: &BlockUpdate) -> Result<Stack, NoMemory>
+fn with_update(alloc: Global, first: LayerData, later: &BlockUpdate) -> Result<LayerData, NoMemory>
     ensures { IfOk result (Follows (meant later.now) first) }
 {
     match later {
         BlockUpdate::Patch(patch) => {
             let mut all = first;
-            all.lay(alloc, patch.off(), patch.bytes())?;
+            all.apply_patch(alloc, patch.off(), patch.bytes())?;
             Ok(all)
         }
         BlockUpdate::CutTo(n) => first.cut_to(alloc, *n),
-        BlockUpdate::Layers(layers) => first.and(alloc, layers.stack()),
+        BlockUpdate::Layers(layers) => first.composed(alloc, layers.stack()),
     }
 }

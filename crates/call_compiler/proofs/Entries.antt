@@ -4,7 +4,7 @@ use Rattle.std.specs.Prelude.{Ok, MatchOption}
 use Rattle.std.proofs.lemmas.Bool.{eq-eqb}
 use Rattle.block_index.specs.Means.{blocks}
 use Rattle.message.specs.declared.msg.Msg.TheVariants.{Put, Del, DelRange}
-use Rattle.meta_index.specs.Means.{metadata, IsMeantBy, moment_told}
+use Rattle.meta_index.specs.Means.{metadata, IsMeantBy, moment_reported}
 use Rattle.pathkey.specs.Enc.{enc}
 use Rattle.pathkey.specs.Keys.{subtree}
 use Rattle.pathkey.specs.Names.{Path, IsPath}
@@ -20,7 +20,7 @@ use Rattle.reference.specs.declared.reply.Reply.{Reply}
 use Rattle.reference.specs.declared.reply.Reply.TheVariants.{Done, Fault}
 use Rattle.reference.proofs.IndexLaws.{mkdir_law, create_law, rmdir_law, rmtree_law}
 use Rattle.call_compiler.specs.declared.indexes.Indexes.{Indexes}
-use Rattle.call_compiler.specs.declared.touching.Directory.{Directory}
+use Rattle.call_compiler.specs.declared.dir_mtime.ParentDir.{ParentDir}
 use Rattle.call_compiler.specs.Compiled.{Messages, no_messages, count, touches, MeanTree, SendsNew, IsCompiled}
 use Rattle.call_compiler.specs.Touches.{is_moment, has_moment, needed_touches, IsDated}
 use Rattle.call_compiler.proofs.Compiling.{After, meta_meant, compiled_refused, compiled_done}
@@ -28,30 +28,30 @@ use Rattle.call_compiler.proofs.Idle.{after_alike, touched_alike}
 use Rattle.call_compiler.proofs.Faults.{mkdir_refused, mkdir_done, create_refused, create_done, rmdir_refused, rmdir_done, rmtree_refused, rmtree_done}
 
 -- the directory that was found is the path's, and has the moment that is told
-abbrev pub IsParent : Indexes → Path → Directory → Type 0
+abbrev pub IsParent : Indexes → Path → ParentDir → Type 0
 IsParent i p d = (d.path ≡ parent p) × ((t : Tree) → IsMeantBy t i.meta → IsDated (entry_at t (parent p)) d)
 
 module _ (i : Indexes) (p : Path) (at : ℕ) (reply : Reply) (msgs : Messages) where
   -- a new entry and the touches that are needed do what the entry and a touch do
-  made_alike : (v : Meta) (d : Directory) → IsParent i p d → IsPath p → touch at (Some v) ≡ Some v → (t t' : Tree) → MeanTree i t → After i (record { meta = Put (enc p) v ∷ touches at (parent p ∷ []); block = [] }) t' → After i (record { meta = Put (enc p) v ∷ needed_touches at d; block = [] }) t'
+  made_alike : (v : Meta) (d : ParentDir) → IsParent i p d → IsPath p → touch at (Some v) ≡ Some v → (t t' : Tree) → MeanTree i t → After i (record { meta = Put (enc p) v ∷ touches at (parent p ∷ []); block = [] }) t' → After i (record { meta = Put (enc p) v ∷ needed_touches at d; block = [] }) t'
   made_alike v d of is_path dated t t' means = after_alike i (record { meta = Put (enc p) v ∷ touches at (parent p ∷ []); block = [] }) (record { meta = Put (enc p) v ∷ needed_touches at d; block = [] }) t'
       (touched_alike at (enc p) p v d i t is_path means of.0 (of.1 t (meta_meant i t means)) dated)
       (λ k. refl)
 
   -- and are no more
-  some_made : (v : Meta) (d : Directory) → count (record { meta = Put (enc p) v ∷ needed_touches at d; block = [] }) ≤ 2
+  some_made : (v : Meta) (d : ParentDir) → count (record { meta = Put (enc p) v ∷ needed_touches at d; block = [] }) ≤ 2
   some_made v d = elim (has_moment at d) as (λ b. count (record { meta = Put (enc p) v ∷ cond b [] (touches at (d.path ∷ [])); block = [] }) ≤ 2) [
     | true ↦ omega arith
     | false ↦ omega arith
   ]
 
-  one_made : (v : Meta) (d : Path) (known : Option ℕ) (here : At) → MatchOption known ⊥ (λ date. moment_told here ≡ Ok date) → moment_told here ≡ Ok at → count (record { meta = Put (enc p) v ∷ cond (is_moment at known) [] (touches at (d ∷ [])); block = [] }) ≤ 1
-  one_made v d None here told dated = absurd told
-  one_made v d (Some date) here told dated =
+  one_made : (v : Meta) (d : Path) (known : Option ℕ) (here : At) → MatchOption known ⊥ (λ date. moment_reported here ≡ Ok date) → moment_reported here ≡ Ok at → count (record { meta = Put (enc p) v ∷ cond (is_moment at known) [] (touches at (d ∷ [])); block = [] }) ≤ 1
+  one_made v d None here reported dated = absurd reported
+  one_made v d (Some date) here reported dated =
       let same : date ≡ at = cc in
       subst (λ (b : Bool). count (record { meta = Put (enc p) v ∷ cond b [] (touches at (d ∷ [])); block = [] }) ≤ 1) (sym (eq-eqb date at same)) (omega arith)
 
-  few_made : (v : Meta) (d : Directory) → IsParent i p d → (count (record { meta = Put (enc p) v ∷ needed_touches at d; block = [] }) ≤ 2) × SendsNew i p at (record { meta = Put (enc p) v ∷ needed_touches at d; block = [] })
+  few_made : (v : Meta) (d : ParentDir) → IsParent i p d → (count (record { meta = Put (enc p) v ∷ needed_touches at d; block = [] }) ≤ 2) × SendsNew i p at (record { meta = Put (enc p) v ∷ needed_touches at d; block = [] })
   few_made v d of = (some_made v d, λ t means dated. one_made v d.path d.modified (entry_at t (parent p)) (of.1 t (meta_meant i t means)) dated)
 
   -- the first fault is the same in every tree that the indexes mean
@@ -59,7 +59,7 @@ module _ (i : Indexes) (p : Path) (at : ℕ) (reply : Reply) (msgs : Messages) w
     pub mkdir_is_refused : (e : Errno) → fault ≡ Some e → reply ≡ Fault e → msgs ≡ no_messages → IsCompiled i (Mkdir p) at reply msgs
     mkdir_is_refused e is = compiled_refused i (Mkdir p) at reply msgs e (λ t means. mkdir_refused at t p e (sym (first t (meta_meant i t means)) ∙ is))
 
-    pub mkdir_is_done : fault ≡ None → IsMoment at → IsPath p → (d : Directory) → IsParent i p d → reply ≡ Done → msgs ≡ record { meta = Put (enc p) (DirMeta at) ∷ needed_touches at d; block = [] } → IsCompiled i (Mkdir p) at reply msgs
+    pub mkdir_is_done : fault ≡ None → IsMoment at → IsPath p → (d : ParentDir) → IsParent i p d → reply ≡ Done → msgs ≡ record { meta = Put (enc p) (DirMeta at) ∷ needed_touches at d; block = [] } → IsCompiled i (Mkdir p) at reply msgs
     mkdir_is_done is early is_path d of = compiled_done i (Mkdir p) at reply msgs Done (record { meta = Put (enc p) (DirMeta at) ∷ needed_touches at d; block = [] }) (λ e. (λ f. cc))
         (λ t means. mkdir_done at t p (sym (first t (meta_meant i t means)) ∙ is))
         (λ t means e. made_alike (DirMeta at) d of is_path refl t (does at t (Mkdir p)).0 means (mkdir_law at t (does at t (Mkdir p)).0 p (metadata i.meta) (blocks i.block) early means is_path e))
@@ -68,7 +68,7 @@ module _ (i : Indexes) (p : Path) (at : ℕ) (reply : Reply) (msgs : Messages) w
     pub create_is_refused : (e : Errno) → fault ≡ Some e → reply ≡ Fault e → msgs ≡ no_messages → IsCompiled i (Create p) at reply msgs
     create_is_refused e is = compiled_refused i (Create p) at reply msgs e (λ t means. create_refused at t p e (sym (first t (meta_meant i t means)) ∙ is))
 
-    pub create_is_done : fault ≡ None → IsMoment at → IsPath p → (d : Directory) → IsParent i p d → reply ≡ Done → msgs ≡ record { meta = Put (enc p) (FileMeta 0 at) ∷ needed_touches at d; block = [] } → IsCompiled i (Create p) at reply msgs
+    pub create_is_done : fault ≡ None → IsMoment at → IsPath p → (d : ParentDir) → IsParent i p d → reply ≡ Done → msgs ≡ record { meta = Put (enc p) (FileMeta 0 at) ∷ needed_touches at d; block = [] } → IsCompiled i (Create p) at reply msgs
     create_is_done is early is_path d of = compiled_done i (Create p) at reply msgs Done (record { meta = Put (enc p) (FileMeta 0 at) ∷ needed_touches at d; block = [] }) (λ e. (λ f. cc))
         (λ t means. create_done at t p (sym (first t (meta_meant i t means)) ∙ is))
         (λ t means e. made_alike (FileMeta 0 at) d of is_path refl t (does at t (Create p)).0 means (create_law at t (does at t (Create p)).0 p (metadata i.meta) (blocks i.block) early means is_path e))

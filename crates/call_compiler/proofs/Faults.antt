@@ -102,22 +102,22 @@ unlink_done at t p date b is = ap (λ (x : Outcome). x.1) (unless_none t (faults
 abbrev too_large : ℕ → List ℕ → Bool
 too_large off w = not (is_empty w) && nat_lt greatest_file (off + length w)
 
-abbrev laid : ℕ → Tree → Path → ℕ → List ℕ → Outcome
-laid at t p off w = cond (is_empty w) (t, Count 0) (with_entry t p (File at (over (bytes_of (entry_at t p)) off w)), Count (length w))
+abbrev applied : ℕ → Tree → Path → ℕ → List ℕ → Outcome
+applied at t p off w = cond (is_empty w) (t, Count 0) (with_entry t p (File at (over (bytes_of (entry_at t p)) off w)), Count (length w))
 
 pub write_refused : (at : ℕ) (t : Tree) (p : Path) (off : ℕ) (w : List ℕ) (e : Errno) → first_fault (faults_of_file (entry_at t p) EISDIR) ≡ Some e → (does at t (Write p off w)).1 ≡ Fault e
 unfolding does changed
-write_refused at t p off w e h = refused t (faults_of_write t p off w) (laid at t p off w) e (first_of (faults_of_file (entry_at t p) EISDIR) (when (too_large off w) EFBIG ∷ []) e h)
+write_refused at t p off w e h = refused t (faults_of_write t p off w) (applied at t p off w) e (first_of (faults_of_file (entry_at t p) EISDIR) (when (too_large off w) EFBIG ∷ []) e h)
 
 module _ (at : ℕ) (t : Tree) (p : Path) (off : ℕ) (w : List ℕ) (date : ℕ) (b : List ℕ) (is : entry_at t p ≡ Found (File date b)) where
   pub write_too_large : is_empty w ≡ false → nat_lt greatest_file (off + length w) ≡ true → (does at t (Write p off w)).1 ≡ Fault EFBIG
   unfolding does changed
   write_too_large some large =
       let h : too_large off w ≡ true = ap (λ (x : Bool). not x && nat_lt greatest_file (off + length w)) some ∙ large in
-      refused t (faults_of_write t p off w) (laid at t p off w) EFBIG (of_file (entry_at t p) date b EISDIR (when (too_large off w) EFBIG ∷ []) is ∙ last_comes (too_large off w) EFBIG h)
+      refused t (faults_of_write t p off w) (applied at t p off w) EFBIG (of_file (entry_at t p) date b EISDIR (when (too_large off w) EFBIG ∷ []) is ∙ last_comes (too_large off w) EFBIG h)
 
-  write_allowed : too_large off w ≡ false → unless t (faults_of_write t p off w) (laid at t p off w) ≡ laid at t p off w
-  write_allowed h = unless_none t (faults_of_write t p off w) (laid at t p off w) (of_file (entry_at t p) date b EISDIR (when (too_large off w) EFBIG ∷ []) is ∙ last_stays_away (too_large off w) EFBIG h)
+  write_allowed : too_large off w ≡ false → unless t (faults_of_write t p off w) (applied at t p off w) ≡ applied at t p off w
+  write_allowed h = unless_none t (faults_of_write t p off w) (applied at t p off w) (of_file (entry_at t p) date b EISDIR (when (too_large off w) EFBIG ∷ []) is ∙ last_stays_away (too_large off w) EFBIG h)
 
   pub write_nothing : is_empty w ≡ true → does at t (Write p off w) ≡ (t, Count 0)
   unfolding does changed

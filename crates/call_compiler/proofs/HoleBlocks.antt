@@ -18,7 +18,7 @@ use Rattle.reference.specs.Indexes.{Blocks, BlocksChange, Hold, held, most_block
 use Rattle.reference.proofs.BlockRanges.{cleared_some}
 use Rattle.reference.proofs.FileBlocks.{write_holds}
 use Rattle.reference.proofs.PointIndexes.{hold_alike, unchanged}
-use Rattle.call_compiler.specs.Punched.{LaysZeros, TakesOut, IsHole, block_behind, head_end, tail_start}
+use Rattle.call_compiler.specs.Punched.{AppliesZeros, TakesOut, IsHole, block_behind, head_end, tail_start}
 use Rattle.call_compiler.proofs.BlockOrder.{blocks_range, block_reaches, reached_blocks, block_before, block_below}
 use Rattle.call_compiler.proofs.Zeroing.{zeros, length-zeroed, zeros_joined, zeros_hold}
 
@@ -211,21 +211,21 @@ module _ (p : Path) (is_path : IsPath p) (d : Blocks) (own : (k : Key) (v : List
   abbrev y : ℕ
   y = tail_start off end
 
-  lays : (a b : ℕ) (e : Blocks) (ms : Messages) → a ≤ b → b < a + 4096 → b ≤ 4096 * (a / 4096) + 4096 → b ≤ 2 ^ 40 → ((a < b) → d (block_key p (a / 4096)) ≡ None → e (block_key p (a / 4096)) ≡ None) → LaysZeros d p a b ms → Zeroes p a b e ms
-  lays a b e ms order near block fits stay (inl (none, what)) = subst (Zeroes p a b e) (sym none) (zeroes_nothing p a b e order near block (⊎_elim
+  applies : (a b : ℕ) (e : Blocks) (ms : Messages) → a ≤ b → b < a + 4096 → b ≤ 4096 * (a / 4096) + 4096 → b ≤ 2 ^ 40 → ((a < b) → d (block_key p (a / 4096)) ≡ None → e (block_key p (a / 4096)) ≡ None) → AppliesZeros d p a b ms → Zeroes p a b e ms
+  applies a b e ms order near block fits stay (inl (none, what)) = subst (Zeroes p a b e) (sym none) (zeroes_nothing p a b e order near block (⊎_elim
       (λ (u : b ≤ a). inl u)
       (λ (u : d (block_key p (a / 4096)) ≡ None). ⊎_elim (λ (v : a < b). inr (stay v u)) (λ (v : b ≤ a). inl v) (cases_lt a b))
       what))
-  lays a b e ms order near block fits stay (inr (less, is)) = subst (Zeroes p a b e) (sym is) (zeroes_patch p a b e is_path less near block fits)
+  applies a b e ms order near block fits stay (inr (less, is)) = subst (Zeroes p a b e) (sym is) (zeroes_patch p a b e is_path less near block fits)
 
   pub hole_zeroes : (ms : Messages) → IsHole d p off end ms → Zeroes p off end d ms
   hole_zeroes ms is =
-      let head : Zeroes p off x d is.head = lays off x d is.head (omega arith) (omega arith) (omega arith) (omega arith) (λ _ e. e) is.lays_head in
+      let head : Zeroes p off x d is.head = applies off x d is.head (omega arith) (omega arith) (omega arith) (omega arith) (λ _ e. e) is.applies_head in
       let whole : Zeroes p x y (after is.head d) is.whole = takes head is.takes_whole in
       let front : Zeroes p off y d (is.head ++ is.whole) = zeroes_both p off x y d is.head is.whole (omega arith) (omega arith) head whole
       (λ i u v. ⊎_elim (λ (w : i < f). inl (omega arith)) (λ (w : f ≤ i). inr (omega arith)) (cases_lt i f)) in
-      let tail : Zeroes p y end (after (is.head ++ is.whole) d) is.tail = lays y end (after (is.head ++ is.whole) d) is.tail (omega arith) (omega arith) (omega arith) short
-      (λ u e. front.stays (y / 4096) (omega arith) (inl (omega arith)) e) is.lays_tail in
+      let tail : Zeroes p y end (after (is.head ++ is.whole) d) is.tail = applies y end (after (is.head ++ is.whole) d) is.tail (omega arith) (omega arith) (omega arith) short
+      (λ u e. front.stays (y / 4096) (omega arith) (inl (omega arith)) e) is.applies_tail in
       subst (Zeroes p off end d) (sym is.parts)
       (zeroes_both p off y end d (is.head ++ is.whole) is.tail (omega arith) (omega arith) front tail
       (λ i u v. ⊎_elim (λ (w : i < l). inl (omega arith)) (λ (w : l ≤ i). inr (omega arith)) (cases_lt i l)))
@@ -248,9 +248,9 @@ module _ (p : Path) (is_path : IsPath p) (d : Blocks) (own : (k : Key) (v : List
           (head.changes.only k v e)))))
 
 -- its messages are few
-one_lays : (d : Blocks) (p : Path) (a b : ℕ) (ms : Messages) → LaysZeros d p a b ms → length ms ≤ 1
-one_lays d p a b ms (inl (none, what)) = let l : length ms ≡ 0 = ap length none in omega (arith, l)
-one_lays d p a b ms (inr (less, is)) = let l : length ms ≡ 1 = ap length is in omega (arith, l)
+one_applies : (d : Blocks) (p : Path) (a b : ℕ) (ms : Messages) → AppliesZeros d p a b ms → length ms ≤ 1
+one_applies d p a b ms (inl (none, what)) = let l : length ms ≡ 0 = ap length none in omega (arith, l)
+one_applies d p a b ms (inr (less, is)) = let l : length ms ≡ 1 = ap length is in omega (arith, l)
 
 one_takes : (p : Path) (f l : ℕ) (ms : Messages) → TakesOut p f l ms → length ms ≤ 1
 one_takes p f l ms (inl (less, none)) = let l : length ms ≡ 0 = ap length none in omega (arith, l)
@@ -258,9 +258,9 @@ one_takes p f l ms (inr (less, is)) = let l : length ms ≡ 1 = ap length is in 
 
 pub hole_few : (d : Blocks) (p : Path) (off end : ℕ) (ms : Messages) → IsHole d p off end ms → length ms ≤ 3
 hole_few d p off end ms is =
-    let head : length is.head ≤ 1 = one_lays d p off (head_end off end) is.head is.lays_head in
+    let head : length is.head ≤ 1 = one_applies d p off (head_end off end) is.head is.applies_head in
     let whole : length is.whole ≤ 1 = one_takes p (block_behind off) (end / 4096) is.whole is.takes_whole in
-    let tail : length is.tail ≤ 1 = one_lays d p (tail_start off end) end is.tail is.lays_tail in
+    let tail : length is.tail ≤ 1 = one_applies d p (tail_start off end) end is.tail is.applies_tail in
     let all : length ms ≡ length (is.head ++ is.whole) + length is.tail = ap length is.parts ∙ length-append (is.head ++ is.whole) is.tail in
     let front : length (is.head ++ is.whole) ≡ length is.head + length is.whole = length-append is.head is.whole in
     omega (arith, head, whole, tail, all, front)

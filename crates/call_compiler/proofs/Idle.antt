@@ -9,7 +9,7 @@ use Rattle.block_index.specs.declared.update.BlockUpdate.{BlockUpdate}
 use Rattle.message.specs.declared.msg.Msg.{Msg}
 use Rattle.message.specs.declared.msg.Msg.TheVariants.{Put, DelRange}
 use Rattle.message.specs.Effects.{effects}
-use Rattle.meta_index.specs.Means.{metadata, moment_told}
+use Rattle.meta_index.specs.Means.{metadata, moment_reported}
 use Rattle.meta_index.specs.Updates.{means as meta_means}
 use Rattle.meta_index.proofs.Fresh.{means_alike}
 use Rattle.pathkey.specs.Enc.{enc}
@@ -21,11 +21,11 @@ use Rattle.pathkey.proofs.OrderFacts.{same_true}
 use Rattle.pathkey.proofs.PathFacts.{parent_len, parent_names}
 use Rattle.reference.specs.Tree.{Tree, Dir, File, At, Found, Missing, Blocked, entry_at}
 use Rattle.reference.specs.Indexes.{Metadata, Blocks, cleared, edit_at, grow, meta_of, touch}
-use Rattle.reference.specs.Looks.{sighted}
+use Rattle.reference.specs.Reads.{sighted}
 use Rattle.reference.specs.declared.reply.Meta.{Meta}
 use Rattle.reference.specs.declared.reply.Meta.TheVariants.{Dir as DirMeta, File as FileMeta}
 use Rattle.call_compiler.specs.declared.indexes.Indexes.{Indexes}
-use Rattle.call_compiler.specs.declared.touching.Directory.{Directory}
+use Rattle.call_compiler.specs.declared.dir_mtime.ParentDir.{ParentDir}
 use Rattle.call_compiler.specs.Compiled.{Messages, metadata_after, blocks_after, touches, MeanTree, AreClear, has_grown, growth}
 use Rattle.call_compiler.specs.Touches.{is_moment, needed_touches, IsDated}
 use Rattle.call_compiler.proofs.Appending.{blocks_alike}
@@ -52,14 +52,14 @@ parent_is : (p : Path) → IsPath p → IsPath (parent p)
 parent_is p h = record { names = parent_names p h.names; fits = omega (arith, parent_len p, h.fits) }
 
 -- the metadata of a directory whose moment is told
-dated_meta : (here : At) (date : ℕ) → moment_told here ≡ Ok date → meta_of (sighted here) ≡ Some (DirMeta date)
+dated_meta : (here : At) (date : ℕ) → moment_reported here ≡ Ok date → meta_of (sighted here) ≡ Some (DirMeta date)
 dated_meta (Found (Dir d es)) date e = let same : d ≡ date = cc in ap (λ (x : ℕ). Some (DirMeta x)) same
 dated_meta (Found (File d b)) date e = absurd (cc)
 dated_meta Missing date e = absurd (cc)
 dated_meta Blocked date e = absurd (cc)
 
 -- a directory whose moment is not known needs its touch
-pub unknown_touches : (at : ℕ) (d : Directory) (p : Path) → d.path ≡ p → d.modified ≡ None → needed_touches at d ≡ touches at (p ∷ [])
+pub unknown_touches : (at : ℕ) (d : ParentDir) (p : Path) → d.path ≡ p → d.modified ≡ None → needed_touches at d ≡ touches at (p ∷ [])
 unknown_touches at d p place none = ap (λ (known : Option ℕ). cond (is_moment at known) [] (touches at (d.path ∷ []))) none ∙ ap (λ (x : Path). touches at (x ∷ [])) place
 
 -- beside an entry that comes with the moment a touch of what has the moment is idle
@@ -70,9 +70,9 @@ idle_touch at q d v f dated idle = idle_edit d (touch at) (λ j. cond (same q j)
 ])
 
 -- the touches that are needed do what a touch does
-pub touched_alike : (at : ℕ) (q : Key) (p : Path) (v : Meta) (d : Directory) (i : Indexes) (t : Tree) → IsPath p → MeanTree i t → d.path ≡ parent p → IsDated (entry_at t (parent p)) d → touch at (Some v) ≡ Some v
+pub touched_alike : (at : ℕ) (q : Key) (p : Path) (v : Meta) (d : ParentDir) (i : Indexes) (t : Tree) → IsPath p → MeanTree i t → d.path ≡ parent p → IsDated (entry_at t (parent p)) d → touch at (Some v) ≡ Some v
     → (k : Key) → metadata_after (record { meta = Put q v ∷ needed_touches at d; block = [] }) (metadata i.meta) k ≡ metadata_after (record { meta = Put q v ∷ touches at (parent p ∷ []); block = [] }) (metadata i.meta) k
-touched_alike at q p v d i t is_path means place told dated k = by d.modified told
+touched_alike at q p v d i t is_path means place reported dated k = by d.modified reported
   where
     full : Path → Metadata
     full x = metadata_after (record { meta = Put q v ∷ touches at (x ∷ []); block = [] }) (metadata i.meta)

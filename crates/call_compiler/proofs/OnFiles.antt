@@ -20,7 +20,7 @@ use Rattle.pathkey.specs.declared.errno.Errno.TheVariants.{EISDIR, EPERM, EINVAL
 use Rattle.reference.specs.Tree.{Tree, Dir, File, At, Found, Missing, Blocked, entry_at}
 use Rattle.reference.specs.Calls.{Outcome, is_empty, bytes_of, first_fault, faults_of_file, greatest_file, greatest_read, parent, does}
 use Rattle.reference.specs.Indexes.{BlocksMean, cleared, meta_of, patched, set_len}
-use Rattle.reference.specs.Looks.{Bytes, look, seen, sighted}
+use Rattle.reference.specs.Reads.{Bytes, look, seen, sighted}
 use Rattle.reference.specs.Shape.{IsDirectory, AreBytes, IsMoment, IsTree}
 use Rattle.reference.specs.declared.call.Call.TheVariants.{Write, Truncate, Unlink, Read}
 use Rattle.reference.specs.declared.reply.Meta.TheVariants.{File as FileMeta}
@@ -44,8 +44,8 @@ root_fault (Dir date es) e is = refl
 root_fault (File date b) e is = absurd is
 
 -- so no file stands there
-pub root_told : (t : Tree) (p : Path) (e : Errno) (file : Result FoundFile Errno) → IsTree t → p ≡ [] → file ≡ Err e → TellsFile (entry_at t p) e file
-root_told t p e file is root h =
+pub root_reported : (t : Tree) (p : Path) (e : Errno) (file : Result FoundFile Errno) → IsTree t → p ≡ [] → file ≡ Err e → TellsFile (entry_at t p) e file
+root_reported t p e file is root h =
     subst (λ (f : Result FoundFile Errno). TellsFile (entry_at t p) e f) (sym h) (ap (λ (q : Path). first_fault (faults_of_file (entry_at t q) e)) root ∙ root_fault t e is.root)
 
 -- a file of a tree is short
@@ -81,8 +81,8 @@ has_there n at Missing = refl
 has_there n at Blocked = refl
 
 -- the metadata tell it
-pub growth_told : (i : Indexes) (t : Tree) (p : Path) (n at : ℕ) → IsPath p → MeanTree i t → meta_has_grown n at (metadata i.meta (enc p)) ≡ has_grown_at n at (entry_at t p)
-growth_told i t p n at is_path means = ap (meta_has_grown n at) (means.meta.paths p is_path) ∙ has_there n at (entry_at t p)
+pub growth_reported : (i : Indexes) (t : Tree) (p : Path) (n at : ℕ) → IsPath p → MeanTree i t → meta_has_grown n at (metadata i.meta (enc p)) ≡ has_grown_at n at (entry_at t p)
+growth_reported i t p n at is_path means = ap (meta_has_grown n at) (means.meta.paths p is_path) ∙ has_there n at (entry_at t p)
 
 found_look : (t : Tree) (p : Path) (date : ℕ) (b : List ℕ) → entry_at t p ≡ Found (File date b) → look t p ≡ Some (Bytes b)
 found_look t p date b is = ap seen is

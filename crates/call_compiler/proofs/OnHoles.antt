@@ -17,7 +17,7 @@ use Rattle.pathkey.proofs.KeyFacts.{block_in_blocks, block_key_injective, enc_la
 use Rattle.pathkey.proofs.OrderFacts.{apart, same_itself, same_true}
 use Rattle.reference.specs.Calls.{Outcome, bytes_of, does, greatest_file, is_empty}
 use Rattle.reference.specs.Indexes.{Blocks, BlockOf, BlocksChange, BlocksMean, Hold, IndexesMean, MetaMeans, edit_at, grow, meta_of, most_blocks, patched}
-use Rattle.reference.specs.Looks.{Bytes, look, seen, sighted}
+use Rattle.reference.specs.Reads.{Bytes, look, seen, sighted}
 use Rattle.reference.specs.Shape.{IsMoment}
 use Rattle.reference.specs.Tree.{Tree, Dir, File, At, Found, Missing, Blocked, entry_at, over}
 use Rattle.reference.specs.declared.call.Call.TheVariants.{Write}

@@ -26,7 +26,7 @@ use Rattle.pathkey.proofs.TextFacts.{text_len_enc}
 use Rattle.reference.specs.Tree.{Tree, Dir, File, At, Found, Missing, Blocked, onward, entry_at, all_touched}
 use Rattle.reference.specs.Calls.{Outcome, when, is_root, first_fault, same_path, text_len, path_fault, is_file, deepest, deepest_at, faults_of_rename_from, faults_of_place, parents_of, changed, does}
 use Rattle.reference.specs.Shape.{IsMoment}
-use Rattle.reference.specs.Looks.{Look, Directory, Bytes, seen, look, Sight, Seen, look_of, sighted, sight}
+use Rattle.reference.specs.Reads.{Look, Directory, Bytes, seen, look, Sight, Seen, look_of, sighted, sight}
 use Rattle.reference.specs.Indexes.{Blocks, IndexesMean, PathOf, BlockOf, meta_of, most_blocks, moved, touch_at}
 use Rattle.reference.specs.declared.call.Call.TheVariants.{Rename}
 use Rattle.reference.specs.declared.reply.Meta.{Meta}

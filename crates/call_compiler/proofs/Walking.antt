@@ -13,7 +13,7 @@ use Rattle.pathkey.proofs.KeyOrder.{le_le}
 use Rattle.scan.specs.Pairs.{HasNone, IsFirst, IsScan}
 use Rattle.message.proofs.NextKey.{in_range}
 use Rattle.scan.proofs.Parts.{IsPart, part_start, part_more, scan_all}
-use Rattle.scan.proofs.Pieces.{short_law}
+use Rattle.scan.proofs.ReadaheadFacts.{short_law}
 use Rattle.call_compiler.specs.Moves.{Moves, put_under}
 
 module _ {U V : Type 0} (f : Key → Option V) (o n : Path) (first : List (Msg U V)) where

@@ -10,7 +10,7 @@ use Rattle.message.specs.declared.msg.Msg.TheVariants.{Edit}
 use Rattle.message.specs.Effects.{effects}
 use Rattle.meta_index.specs.declared.update.MetaUpdate.{MetaUpdate}
 use Rattle.meta_index.specs.declared.update.MetaUpdate.TheVariants.{Grow, Touch}
-use Rattle.meta_index.specs.Means.{metadata, moment_told}
+use Rattle.meta_index.specs.Means.{metadata, moment_reported}
 use Rattle.meta_index.specs.Updates.{means as meta_means}
 use Rattle.pathkey.specs.Keys.{Key, blocks_from, enc, is_in}
 use Rattle.pathkey.specs.Names.{Path, is_root, parent}
@@ -99,7 +99,7 @@ AreClear d r = (k : Key) → is_in r k ≡ true → d k ≡ None
 
 -- where the directory in which an entry is made has the moment already, there is no message for it
 abbrev pub SendsNew : Indexes → Path → ℕ → Messages → Type 0
-SendsNew i p at msgs = (t : Tree) → MeanTree i t → moment_told (entry_at t (parent p)) ≡ Ok at → count msgs ≤ 1
+SendsNew i p at msgs = (t : Tree) → MeanTree i t → moment_reported (entry_at t (parent p)) ≡ Ok at → count msgs ≤ 1
 
 -- where the file that goes has neither bytes nor blocks, there is no message for blocks
 abbrev pub SendsGone : Indexes → Path → Messages → Type 0

@@ -7,4 +7,4 @@ use Rattle.reference.specs.Tree.{At, Found, File}
 
 -- a file of that length stands there; or this is why none does
 abbrev pub TellsLength : At → Result ℕ Errno → Type 0
-TellsLength here told = MatchResult told (λ n. (date : ℕ) × (b : List ℕ) × (here ≡ Found (File date b)) × (length b ≡ n)) (λ fault. first_fault (faults_of_file here EISDIR) ≡ Some fault)
+TellsLength here reported = MatchResult reported (λ n. (date : ℕ) × (b : List ℕ) × (here ≡ Found (File date b)) × (length b ≡ n)) (λ fault. first_fault (faults_of_file here EISDIR) ≡ Some fault)

@@ -2,7 +2,7 @@
 use Rattle.std.specs.Prelude.{◌≡◌, List, [], ◌∷◌, ◌++◌, Bool, false, cond, Option, Some, None, length, drop, map, nat_lt}
 use Rattle.message.specs.declared.msg.Msg.{Msg}
 use Rattle.message.specs.declared.msg.Msg.TheVariants.{Put, DelRange}
-use Rattle.message.specs.Effects.{point}
+use Rattle.message.specs.Effects.{point_key}
 use Rattle.pathkey.specs.Keys.{Key, enc, subtree, blocks_from}
 use Rattle.pathkey.specs.Names.{Path}
 use Rattle.reference.specs.Tree.{At}
@@ -29,7 +29,7 @@ is_too_long (Some k) = nat_lt 1023 (length k)
 
 -- the message has such a key; a range-delete has none
 abbrev pub is_key_too_long : {U V : Type 0} → Msg U V → Bool
-is_key_too_long m = is_too_long (point m)
+is_key_too_long m = is_too_long (point_key m)
 
 -- where a file stands at n, a range-delete of its blocks
 abbrev pub replaced : {U V : Type 0} → At → Path → List (Msg U V)

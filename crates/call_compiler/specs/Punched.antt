@@ -47,8 +47,8 @@ pub record IsPunched (i : Indexes) (p : Path) (off n at : ℕ) (answer : Reply) 
 
 -- those that lay zeros over bytes a up to b of p, which lie in one block: one patch, or none where there are no such bytes or the
 -- block is not stored
-abbrev pub LaysZeros : Blocks → Path → ℕ → ℕ → BlockMessages → Type 0
-LaysZeros d p a b ms =
+abbrev pub AppliesZeros : Blocks → Path → ℕ → ℕ → BlockMessages → Type 0
+AppliesZeros d p a b ms =
     ((ms ≡ []) × ((b ≤ a) ⊎ (d (block_key p (a / 4096)) ≡ None)))
     ⊎ ((a < b) × (ms ≡ patch_of p a (replicate (b - a) 0) (a / 4096) ∷ []))
 
@@ -75,6 +75,6 @@ pub record IsHole (d : Blocks) (p : Path) (off end : ℕ) (ms : BlockMessages) :
   pub whole : BlockMessages
   pub tail : BlockMessages
   pub parts : ms ≡ (head ++ whole) ++ tail
-  pub lays_head : LaysZeros d p off (head_end off end) head
+  pub applies_head : AppliesZeros d p off (head_end off end) head
   pub takes_whole : TakesOut p (block_behind off) (end / 4096) whole
-  pub lays_tail : LaysZeros d p (tail_start off end) end tail
+  pub applies_tail : AppliesZeros d p (tail_start off end) end tail

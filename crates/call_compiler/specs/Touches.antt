@@ -1,12 +1,12 @@
 -- Which directory gets the moment of a call.
 use Rattle.std.specs.Prelude.{◌≡◌, ℕ, ◌==◌, Bool, false, cond, List, [], ◌∷◌, Option, Some, None, Ok, MatchOption}
 use Rattle.message.specs.declared.msg.Msg.{Msg}
-use Rattle.meta_index.specs.Means.{moment_told}
+use Rattle.meta_index.specs.Means.{moment_reported}
 use Rattle.meta_index.specs.declared.update.MetaUpdate.{MetaUpdate}
 use Rattle.reference.specs.Tree.{At}
 use Rattle.reference.specs.declared.reply.Meta.{Meta}
 use Rattle.call_compiler.specs.Compiled.{touches}
-use Rattle.call_compiler.specs.declared.touching.Directory.{Directory}
+use Rattle.call_compiler.specs.declared.dir_mtime.ParentDir.{ParentDir}
 
 -- this is the moment, if one is known
 abbrev pub is_moment : ℕ → Option ℕ → Bool
@@ -14,13 +14,13 @@ is_moment at None = false
 is_moment at (Some date) = date == at
 
 -- the directory's moment is known, and what stands there is a directory with this moment
-abbrev pub IsDated : At → Directory → Type 0
-IsDated here d = MatchOption d.modified ⊥ (λ date. moment_told here ≡ Ok date)
+abbrev pub IsDated : At → ParentDir → Type 0
+IsDated here d = MatchOption d.modified ⊥ (λ date. moment_reported here ≡ Ok date)
 
 -- the directory is known to have the moment
-abbrev pub has_moment : ℕ → Directory → Bool
+abbrev pub has_moment : ℕ → ParentDir → Bool
 has_moment at d = is_moment at d.modified
 
 -- the message that gives the directory the moment; none where it is known to have it
-abbrev pub needed_touches : ℕ → Directory → List (Msg MetaUpdate Meta)
+abbrev pub needed_touches : ℕ → ParentDir → List (Msg MetaUpdate Meta)
 needed_touches at d = cond (has_moment at d) [] (touches at (d.path ∷ []))

@@ -3,7 +3,7 @@ ghost use Rattle.std.specs.Prelude.{◌≡◌, [], ◌∷◌, IfOk};
 ghost use Rattle.call_compiler.specs.Compiled.{messages, no_messages};
 ghost use Rattle.call_compiler.specs.Touches.{needed_touches};
 
-use crate::touching::{Directory, touch};
+use crate::dir_mtime::{ParentDir, touch};
 use block_index::BlockUpdate;
 use message::Msg;
 use meta_index::MetaUpdate;
@@ -57,7 +57,7 @@ pub(crate) fn done(
 /// comes to: it is done, and the directory gets the moment.
 pub(crate) fn done_in(
     alloc: Global,
-    directory: Directory,
+    directory: ParentDir,
     at: u64,
     msg: Msg<MetaUpdate>,
     block: Vec<Msg<BlockUpdate>>,

@@ -5,7 +5,7 @@ ghost use Rattle.block_index.specs.Updates.{means as block_means};
 ghost use Rattle.call_compiler.specs.Compiled.{AreClear, has_grown};
 ghost use Rattle.call_compiler.specs.Files.{IsShort, TellsFile, TellsGrowth};
 ghost use Rattle.message.specs.Effects.{effects};
-ghost use Rattle.meta_index.specs.Means.{IsMeantBy, found_meta, metadata, told};
+ghost use Rattle.meta_index.specs.Means.{IsMeantBy, found_meta, metadata, lookup_answer};
 ghost use Rattle.pathkey.specs.Keys.{Key, blocks_from as blocks_of, enc};
 ghost use Rattle.reference.specs.Indexes.{cleared};
 ghost use Rattle.reference.specs.Tree as trees;
@@ -51,7 +51,7 @@ pub(crate) fn find_file(
     path: &Path,
     directory: Errno,
 ) -> Result<Result<FoundFile, Errno>, NoMemory>
-    ensures told { IfOk result (λ file. (t : trees.Tree) → IsMeantBy t indexes.now.meta → TellsFile (trees.entry_at t path.now) directory file) }
+    ensures reported { IfOk result (λ file. (t : trees.Tree) → IsMeantBy t indexes.now.meta → TellsFile (trees.entry_at t path.now) directory file) }
     ensures path { IfOk result (λ file. IfOk file (λ _. path.now ≢ [])) }
     ensures short { IfOk result (λ file. IfOk file (λ f. f.len ≤ 2 ^ 40)) }
     ensures grown { IfOk result (λ file. IfOk file (TellsGrowth (metadata indexes.now.meta (enc path.now)))) }
@@ -65,7 +65,7 @@ pub(crate) fn find_file(
 
 /// The file that stands at a path; or why none stands there. No file is longer than the limit.
 fn file_of(at: At, directory: Errno) -> Result<FoundFile, Errno>
-    ensures told { (here : trees.At) → at ≡ told here → IsShort here → TellsFile here directory result }
+    ensures reported { (here : trees.At) → at ≡ lookup_answer here → IsShort here → TellsFile here directory result }
     ensures short { IfOk result (λ f. f.len ≤ 2 ^ 40) }
     ensures grown { IfOk result (TellsGrowth (found_meta at)) }
 {

@@ -7,7 +7,7 @@ pub fn appends()
 {}
 
 /// The root has the moment of a call that puts or takes out an entry of it, and else keeps its own.
-pub fn root_moments()
+pub fn root_mtimes()
     ensures { RootLaw }
 {}
 

@@ -12,18 +12,18 @@ use pathkey::NoMemory;
 use std::alloc::Global;
 
 pub mod batch;
+pub mod create;
+pub mod dir_mtime;
+pub mod file_length;
 mod files;
 pub mod indexes;
 pub mod laws;
-pub mod making;
-pub mod measuring;
-pub mod moving;
-pub mod punching;
-pub mod reading;
-pub mod removing;
+pub mod punch;
+pub mod read;
+pub mod remove;
+pub mod rename;
 mod subtrees;
-pub mod touching;
-pub mod writing;
+pub mod write;
 
 pub use batch::Batch;
 pub use indexes::Indexes;
@@ -40,18 +40,16 @@ pub fn compile(
     ensures { IfOk result (λ c. IsCompiled indexes.now call.now at c.0 (messages c.1)) }
 {
     match call {
-        Call::Mkdir(path) => making::mkdir(alloc, indexes, path, at),
-        Call::Create(path) => making::create(alloc, indexes, path, at),
-        Call::Write(path, offset, bytes) => writing::write(
-            alloc, indexes, path, *offset, bytes, at,
-        ),
-        Call::Truncate(path, len) => writing::truncate(alloc, indexes, path, *len, at),
-        Call::Unlink(path) => removing::unlink(alloc, indexes, path, at),
-        Call::Rmdir(path) => removing::rmdir(alloc, indexes, path, at),
-        Call::Rename(old, new) => moving::rename(alloc, indexes, old, new, at),
-        Call::Rmtree(path) => removing::rmtree(alloc, indexes, path, at),
-        Call::Read(path, offset, count) => reading::read(alloc, indexes, path, *offset, *count),
-        Call::Stat(path) => reading::stat(alloc, indexes, path),
-        Call::Readdir(path) => reading::readdir(alloc, indexes, path),
+        Call::Mkdir(path) => create::mkdir(alloc, indexes, path, at),
+        Call::Create(path) => create::create(alloc, indexes, path, at),
+        Call::Write(path, offset, bytes) => write::write(alloc, indexes, path, *offset, bytes, at),
+        Call::Truncate(path, len) => write::truncate(alloc, indexes, path, *len, at),
+        Call::Unlink(path) => remove::unlink(alloc, indexes, path, at),
+        Call::Rmdir(path) => remove::rmdir(alloc, indexes, path, at),
+        Call::Rename(old, new) => rename::rename(alloc, indexes, old, new, at),
+        Call::Rmtree(path) => remove::rmtree(alloc, indexes, path, at),
+        Call::Read(path, offset, count) => read::read(alloc, indexes, path, *offset, *count),
+        Call::Stat(path) => read::stat(alloc, indexes, path),
+        Call::Readdir(path) => read::readdir(alloc, indexes, path),
     }
 }

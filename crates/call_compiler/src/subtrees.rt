@@ -7,7 +7,7 @@ ghost use Rattle.std.specs.List.{list_any};
 use message::{Msg, Update};
 use node::Tree;
 use pathkey::{NoMemory, Path, rekey, subtree};
-use scan::piecewise::Pieces;
+use scan::readahead::Readahead;
 use std::alloc::Global;
 
 /// The greatest length of a path's text, in bytes, and of its key.
@@ -18,7 +18,7 @@ const LONGEST_TEXT: usize = 1_023;
 ///
 /// It takes the pairs from the tree piece by piece, and holds no list of all of them beside the messages. A value is shared where its
 /// copies share (`Update::copy_value`), so that a block's bytes are not copied.
-pub(crate) fn put_moved<U: Update>(
+pub(crate) fn rekeyed_msgs<U: Update>(
     alloc: Global,
     tree: &Tree<U>,
     old: &Path,
@@ -29,7 +29,7 @@ pub(crate) fn put_moved<U: Update>(
 {
     let mut msgs = first;
     let mut rest = subtree(alloc, old)?;
-    let mut pieces = Pieces::new(alloc);
+    let mut pieces = Readahead::new(alloc);
     'pairs: while let Some((key, value)) = pieces.first(alloc, tree, &rest)? {
         let Some(moved) = rekey(alloc, &key, old, new)? else {
             // Not met: each key of the range begins with the old path's.
@@ -52,7 +52,7 @@ pub(crate) fn has_too_long_key<U: Update>(msgs: &[Msg<U>]) -> bool
 fn is_too_long<U: Update>(msg: &Msg<U>) -> bool
     ensures { result ≡ is_key_too_long msg.now }
 {
-    match msg.point() {
+    match msg.point_key() {
         Some(key) => key.as_bytes().len() > LONGEST_TEXT,
         None => false,
     }

@@ -5,10 +5,10 @@ use bytes::Bytes;
 use message::{Msg, Update};
 use node::Shape;
 use pathkey::{Key, NoMemory, Path, block_key, subtree};
-use samples::ask::path;
-use samples::{Holds, all_hold};
 use scan::scan;
 use std::alloc::Global;
+use test_support::ask::path;
+use test_support::{Holds, all_hold};
 
 const SHAPE: Shape = Shape {
     fanout: 4,
@@ -62,7 +62,7 @@ fn block(alloc: Global, bytes: &[u8]) -> Option<Block> {
 /// Changes a block; `false` where memory is refused. It ensures nothing, so that no proof of a test reads what an update means; nor do
 /// the next.
 fn change(alloc: Global, update: &BlockUpdate, block: &mut Block) -> bool {
-    matches!(update.change(alloc, block), Ok(true))
+    matches!(update.apply_in_place(alloc, block), Ok(true))
 }
 
 /// Whether an update makes these bytes of a block.
@@ -310,7 +310,7 @@ fn a_block_that_is_absent_is_made_by_a_patch_alone(rt: HostRuntime) -> Result<()
 
 /// What is asked of an index about one file, with what comes of it.
 #[derive(Clone, Copy)]
-pub enum Ask {
+pub enum SampleCall {
     /// Writes bytes at an offset, by so many messages.
     Write(u64, &'static [u8], usize),
     /// Cuts the file to a length, by so many messages.
@@ -395,35 +395,35 @@ fn reads(read: Option<Vec<u8>>, wanted: &[u8]) -> bool {
 }
 
 /// Whether what is asked about a file comes out as it should. What is sent is appended.
-pub fn is_answered(alloc: Global, index: &mut BlockIndex, file: &Path, ask: Ask) -> bool {
+pub fn is_answered(alloc: Global, index: &mut BlockIndex, file: &Path, ask: SampleCall) -> bool {
     match ask {
-        Ask::Read(off, n, len, wanted) => {
+        SampleCall::Read(off, n, len, wanted) => {
             reads(bytes_of(alloc, index, file, off, n, len), wanted)
         }
-        Ask::Cut(len, wanted) => {
+        SampleCall::Cut(len, wanted) => {
             let msgs = cut(alloc, index, file, len);
             append(alloc, index, msgs, wanted)
         }
-        Ask::Write(off, new, wanted) => {
+        SampleCall::Write(off, new, wanted) => {
             let msgs = write_new(alloc, index, file, off, new);
             append(alloc, index, msgs, wanted)
         }
     }
 }
 
-const ASKED: &[Ask] = &[
-    Ask::Write(4095, b"\xaa\xbb", 2),
-    Ask::Read(4094, 4, 4097, b"\0\xaa\xbb"),
-    Ask::Read(4096, 9, 4097, b"\xbb"),
-    Ask::Read(4097, 9, 4097, b""),
-    Ask::Cut(4096, 1),
-    Ask::Read(4095, 2, 8192, b"\xaa\0"),
-    Ask::Cut(0, 1),
-    Ask::Write(0, b"0123456789", 1),
-    Ask::Cut(5, 2),
-    Ask::Read(0, 8, 9000, b"01234\0\0\0"),
-    Ask::Write(LAST, b"z", 1),
-    Ask::Read(LAST, 2, LIMIT, b"z"),
+const ASKED: &[SampleCall] = &[
+    SampleCall::Write(4095, b"\xaa\xbb", 2),
+    SampleCall::Read(4094, 4, 4097, b"\0\xaa\xbb"),
+    SampleCall::Read(4096, 9, 4097, b"\xbb"),
+    SampleCall::Read(4097, 9, 4097, b""),
+    SampleCall::Cut(4096, 1),
+    SampleCall::Read(4095, 2, 8192, b"\xaa\0"),
+    SampleCall::Cut(0, 1),
+    SampleCall::Write(0, b"0123456789", 1),
+    SampleCall::Cut(5, 2),
+    SampleCall::Read(0, 8, 9000, b"01234\0\0\0"),
+    SampleCall::Write(LAST, b"z", 1),
+    SampleCall::Read(LAST, 2, LIMIT, b"z"),
 ];
 
 /// What a new index goes through at a path.
@@ -487,7 +487,7 @@ fn put(alloc: Global, index: &mut BlockIndex, place: &Place) -> bool {
             alloc,
             index,
             &file,
-            Ask::Write(4096 * place.1 as u64, b"x", 1),
+            SampleCall::Write(4096 * place.1 as u64, b"x", 1),
         ),
         Err(_) => false,
     }

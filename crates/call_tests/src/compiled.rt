@@ -2,8 +2,8 @@
 use call_compiler::{Batch, Call, Indexes, Reply, compile};
 use node::Shape;
 use pathkey::{Errno, NoMemory};
-use samples::ask::{Ask, Told};
 use std::alloc::Global;
+use test_support::ask::{ExpectedReply, SampleCall};
 
 /// The most bytes of a file, and the numbers beside it.
 const LIMIT: u64 = 1_099_511_627_776;
@@ -22,7 +22,7 @@ const SHAPE: Shape = Shape {
 type Counts = (usize, usize);
 
 /// A call, its reply, and its messages.
-type Row = (Ask<'static>, Told<'static>, Counts);
+type Row = (SampleCall<'static>, ExpectedReply<'static>, Counts);
 
 /// The moments of a table's calls.
 #[derive(Clone, Copy)]
@@ -98,286 +98,622 @@ fn answered(alloc: Global, moments: Moments, rows: &[Row]) -> usize {
 }
 
 const NEW_ENTRIES: &[Row] = &[
-    (Ask::Create("/f"), Told::Done, (2, 0)),
-    (Ask::Mkdir("/a"), Told::Done, (2, 0)),
-    (Ask::Mkdir("/"), Told::Fault(Errno::EEXIST), (0, 0)),
-    (Ask::Create("/"), Told::Fault(Errno::EEXIST), (0, 0)),
-    (Ask::Mkdir("/a"), Told::Fault(Errno::EEXIST), (0, 0)),
-    (Ask::Create("/a"), Told::Fault(Errno::EEXIST), (0, 0)),
-    (Ask::Mkdir("/f"), Told::Fault(Errno::EEXIST), (0, 0)),
-    (Ask::Create("/f"), Told::Fault(Errno::EEXIST), (0, 0)),
-    (Ask::Mkdir("/c/d"), Told::Fault(Errno::ENOENT), (0, 0)),
-    (Ask::Create("/c/d"), Told::Fault(Errno::ENOENT), (0, 0)),
-    (Ask::Mkdir("/f/d"), Told::Fault(Errno::ENOTDIR), (0, 0)),
-    (Ask::Create("/f/d"), Told::Fault(Errno::ENOTDIR), (0, 0)),
-    (Ask::Mkdir("/f/d/e"), Told::Fault(Errno::ENOTDIR), (0, 0)),
-    (Ask::Create("/f/d/e"), Told::Fault(Errno::ENOTDIR), (0, 0)),
+    (SampleCall::Create("/f"), ExpectedReply::Done, (2, 0)),
+    (SampleCall::Mkdir("/a"), ExpectedReply::Done, (2, 0)),
+    (
+        SampleCall::Mkdir("/"),
+        ExpectedReply::Fault(Errno::EEXIST),
+        (0, 0),
+    ),
+    (
+        SampleCall::Create("/"),
+        ExpectedReply::Fault(Errno::EEXIST),
+        (0, 0),
+    ),
+    (
+        SampleCall::Mkdir("/a"),
+        ExpectedReply::Fault(Errno::EEXIST),
+        (0, 0),
+    ),
+    (
+        SampleCall::Create("/a"),
+        ExpectedReply::Fault(Errno::EEXIST),
+        (0, 0),
+    ),
+    (
+        SampleCall::Mkdir("/f"),
+        ExpectedReply::Fault(Errno::EEXIST),
+        (0, 0),
+    ),
+    (
+        SampleCall::Create("/f"),
+        ExpectedReply::Fault(Errno::EEXIST),
+        (0, 0),
+    ),
+    (
+        SampleCall::Mkdir("/c/d"),
+        ExpectedReply::Fault(Errno::ENOENT),
+        (0, 0),
+    ),
+    (
+        SampleCall::Create("/c/d"),
+        ExpectedReply::Fault(Errno::ENOENT),
+        (0, 0),
+    ),
+    (
+        SampleCall::Mkdir("/f/d"),
+        ExpectedReply::Fault(Errno::ENOTDIR),
+        (0, 0),
+    ),
+    (
+        SampleCall::Create("/f/d"),
+        ExpectedReply::Fault(Errno::ENOTDIR),
+        (0, 0),
+    ),
+    (
+        SampleCall::Mkdir("/f/d/e"),
+        ExpectedReply::Fault(Errno::ENOTDIR),
+        (0, 0),
+    ),
+    (
+        SampleCall::Create("/f/d/e"),
+        ExpectedReply::Fault(Errno::ENOTDIR),
+        (0, 0),
+    ),
 ];
 
 const EMPTY_DIRECTORY: &[Row] = &[
-    (Ask::Mkdir("/a"), Told::Done, (2, 0)),
-    (Ask::Create("/f"), Told::Done, (2, 0)),
-    (Ask::Stat("/"), Told::Dir, (0, 0)),
-    (Ask::Stat("/a"), Told::Dir, (0, 0)),
-    (Ask::Stat("/f"), Told::File(0), (0, 0)),
-    (Ask::Rmdir("/"), Told::Fault(Errno::EBUSY), (0, 0)),
-    (Ask::Rmdir("/f"), Told::Fault(Errno::ENOTDIR), (0, 0)),
-    (Ask::Rmdir("/f/x"), Told::Fault(Errno::ENOTDIR), (0, 0)),
-    (Ask::Rmdir("/c"), Told::Fault(Errno::ENOENT), (0, 0)),
-    (Ask::Rmdir("/a"), Told::Done, (2, 0)),
-    (Ask::Stat("/a"), Told::Fault(Errno::ENOENT), (0, 0)),
-    (Ask::Stat("/a/b"), Told::Fault(Errno::ENOENT), (0, 0)),
-    (Ask::Readdir("/a"), Told::Fault(Errno::ENOENT), (0, 0)),
+    (SampleCall::Mkdir("/a"), ExpectedReply::Done, (2, 0)),
+    (SampleCall::Create("/f"), ExpectedReply::Done, (2, 0)),
+    (SampleCall::Stat("/"), ExpectedReply::Dir, (0, 0)),
+    (SampleCall::Stat("/a"), ExpectedReply::Dir, (0, 0)),
+    (SampleCall::Stat("/f"), ExpectedReply::File(0), (0, 0)),
+    (
+        SampleCall::Rmdir("/"),
+        ExpectedReply::Fault(Errno::EBUSY),
+        (0, 0),
+    ),
+    (
+        SampleCall::Rmdir("/f"),
+        ExpectedReply::Fault(Errno::ENOTDIR),
+        (0, 0),
+    ),
+    (
+        SampleCall::Rmdir("/f/x"),
+        ExpectedReply::Fault(Errno::ENOTDIR),
+        (0, 0),
+    ),
+    (
+        SampleCall::Rmdir("/c"),
+        ExpectedReply::Fault(Errno::ENOENT),
+        (0, 0),
+    ),
+    (SampleCall::Rmdir("/a"), ExpectedReply::Done, (2, 0)),
+    (
+        SampleCall::Stat("/a"),
+        ExpectedReply::Fault(Errno::ENOENT),
+        (0, 0),
+    ),
+    (
+        SampleCall::Stat("/a/b"),
+        ExpectedReply::Fault(Errno::ENOENT),
+        (0, 0),
+    ),
+    (
+        SampleCall::Readdir("/a"),
+        ExpectedReply::Fault(Errno::ENOENT),
+        (0, 0),
+    ),
 ];
 
 const WRITES: &[Row] = &[
-    (Ask::Create("/f"), Told::Done, (2, 0)),
-    (Ask::Write("/f", 4_095, b"\xaa\xbb"), Told::Count(2), (1, 2)),
-    (Ask::Read("/f", 4_094, 4), Told::Data(b"\0\xaa\xbb"), (0, 0)),
-    (Ask::Stat("/f"), Told::File(4_097), (0, 0)),
-    (Ask::Write("/f", 4_096, b"\xcc"), Told::Count(1), (1, 1)),
-    (Ask::Write("/f", 8_191, b"\xdd"), Told::Count(1), (1, 1)),
-    (Ask::Stat("/f"), Told::File(8_192), (0, 0)),
-    (Ask::Read("/f", 4_095, 3), Told::Data(b"\xaa\xcc\0"), (0, 0)),
-    (Ask::Read("/f", 8_190, 9), Told::Data(b"\0\xdd"), (0, 0)),
-    (Ask::Read("/f", 8_192, 9), Told::Data(b""), (0, 0)),
+    (SampleCall::Create("/f"), ExpectedReply::Done, (2, 0)),
+    (
+        SampleCall::Write("/f", 4_095, b"\xaa\xbb"),
+        ExpectedReply::Count(2),
+        (1, 2),
+    ),
+    (
+        SampleCall::Read("/f", 4_094, 4),
+        ExpectedReply::Data(b"\0\xaa\xbb"),
+        (0, 0),
+    ),
+    (SampleCall::Stat("/f"), ExpectedReply::File(4_097), (0, 0)),
+    (
+        SampleCall::Write("/f", 4_096, b"\xcc"),
+        ExpectedReply::Count(1),
+        (1, 1),
+    ),
+    (
+        SampleCall::Write("/f", 8_191, b"\xdd"),
+        ExpectedReply::Count(1),
+        (1, 1),
+    ),
+    (SampleCall::Stat("/f"), ExpectedReply::File(8_192), (0, 0)),
+    (
+        SampleCall::Read("/f", 4_095, 3),
+        ExpectedReply::Data(b"\xaa\xcc\0"),
+        (0, 0),
+    ),
+    (
+        SampleCall::Read("/f", 8_190, 9),
+        ExpectedReply::Data(b"\0\xdd"),
+        (0, 0),
+    ),
+    (
+        SampleCall::Read("/f", 8_192, 9),
+        ExpectedReply::Data(b""),
+        (0, 0),
+    ),
 ];
 
 const ENDS: &[Row] = &[
-    (Ask::Create("/f"), Told::Done, (2, 0)),
-    (Ask::Write("/f", LAST, b"\x01"), Told::Count(1), (1, 1)),
+    (SampleCall::Create("/f"), ExpectedReply::Done, (2, 0)),
     (
-        Ask::Write("/f", LIMIT, b"\x01"),
-        Told::Fault(Errno::EFBIG),
+        SampleCall::Write("/f", LAST, b"\x01"),
+        ExpectedReply::Count(1),
+        (1, 1),
+    ),
+    (
+        SampleCall::Write("/f", LIMIT, b"\x01"),
+        ExpectedReply::Fault(Errno::EFBIG),
         (0, 0),
     ),
-    (Ask::Write("/f", LIMIT, b""), Told::Count(0), (0, 0)),
     (
-        Ask::Write("/f", u64::MAX, b"\x01"),
-        Told::Fault(Errno::EFBIG),
+        SampleCall::Write("/f", LIMIT, b""),
+        ExpectedReply::Count(0),
         (0, 0),
     ),
-    (Ask::Write("/f", u64::MAX, b""), Told::Count(0), (0, 0)),
     (
-        Ask::Write("/f", LAST, b"\x01\x02"),
-        Told::Fault(Errno::EFBIG),
+        SampleCall::Write("/f", u64::MAX, b"\x01"),
+        ExpectedReply::Fault(Errno::EFBIG),
         (0, 0),
     ),
-    (Ask::Stat("/f"), Told::File(LIMIT), (0, 0)),
-    (Ask::Read("/f", LAST, 2), Told::Data(b"\x01"), (0, 0)),
     (
-        Ask::Truncate("/f", BEYOND),
-        Told::Fault(Errno::EFBIG),
+        SampleCall::Write("/f", u64::MAX, b""),
+        ExpectedReply::Count(0),
         (0, 0),
     ),
-    (Ask::Truncate("/f", LIMIT), Told::Done, (1, 0)),
+    (
+        SampleCall::Write("/f", LAST, b"\x01\x02"),
+        ExpectedReply::Fault(Errno::EFBIG),
+        (0, 0),
+    ),
+    (SampleCall::Stat("/f"), ExpectedReply::File(LIMIT), (0, 0)),
+    (
+        SampleCall::Read("/f", LAST, 2),
+        ExpectedReply::Data(b"\x01"),
+        (0, 0),
+    ),
+    (
+        SampleCall::Truncate("/f", BEYOND),
+        ExpectedReply::Fault(Errno::EFBIG),
+        (0, 0),
+    ),
+    (
+        SampleCall::Truncate("/f", LIMIT),
+        ExpectedReply::Done,
+        (1, 0),
+    ),
 ];
 
 const TRUNCATES: &[Row] = &[
-    (Ask::Create("/f"), Told::Done, (2, 0)),
-    (Ask::Write("/f", 0, &[0xff; 10]), Told::Count(10), (1, 1)),
-    (Ask::Truncate("/f", 5), Told::Done, (1, 2)),
-    (Ask::Stat("/f"), Told::File(5), (0, 0)),
-    (Ask::Truncate("/f", 9_000), Told::Done, (1, 0)),
-    (Ask::Truncate("/f", 8_192), Told::Done, (1, 1)),
-    (Ask::Truncate("/f", 4_096), Told::Done, (1, 1)),
-    (Ask::Stat("/f"), Told::File(4_096), (0, 0)),
+    (SampleCall::Create("/f"), ExpectedReply::Done, (2, 0)),
     (
-        Ask::Read("/f", 0, 8),
-        Told::Data(b"\xff\xff\xff\xff\xff\0\0\0"),
+        SampleCall::Write("/f", 0, &[0xff; 10]),
+        ExpectedReply::Count(10),
+        (1, 1),
+    ),
+    (SampleCall::Truncate("/f", 5), ExpectedReply::Done, (1, 2)),
+    (SampleCall::Stat("/f"), ExpectedReply::File(5), (0, 0)),
+    (
+        SampleCall::Truncate("/f", 9_000),
+        ExpectedReply::Done,
+        (1, 0),
+    ),
+    (
+        SampleCall::Truncate("/f", 8_192),
+        ExpectedReply::Done,
+        (1, 1),
+    ),
+    (
+        SampleCall::Truncate("/f", 4_096),
+        ExpectedReply::Done,
+        (1, 1),
+    ),
+    (SampleCall::Stat("/f"), ExpectedReply::File(4_096), (0, 0)),
+    (
+        SampleCall::Read("/f", 0, 8),
+        ExpectedReply::Data(b"\xff\xff\xff\xff\xff\0\0\0"),
         (0, 0),
     ),
 ];
 
 const FILES: &[Row] = &[
-    (Ask::Mkdir("/a"), Told::Done, (2, 0)),
-    (Ask::Unlink("/"), Told::Fault(Errno::EPERM), (0, 0)),
-    (Ask::Unlink("/a"), Told::Fault(Errno::EPERM), (0, 0)),
-    (Ask::Read("/", 0, 1), Told::Fault(Errno::EISDIR), (0, 0)),
-    (Ask::Read("/a", 0, 1), Told::Fault(Errno::EISDIR), (0, 0)),
-    (Ask::Create("/f"), Told::Done, (2, 0)),
-    (Ask::Write("/f", 0, b"\xaa"), Told::Count(1), (1, 1)),
+    (SampleCall::Mkdir("/a"), ExpectedReply::Done, (2, 0)),
     (
-        Ask::Read("/f", 0, 1_048_577),
-        Told::Fault(Errno::EINVAL),
+        SampleCall::Unlink("/"),
+        ExpectedReply::Fault(Errno::EPERM),
         (0, 0),
     ),
-    (Ask::Unlink("/f"), Told::Done, (2, 1)),
-    (Ask::Unlink("/f/x"), Told::Fault(Errno::ENOENT), (0, 0)),
-    (Ask::Create("/f"), Told::Done, (2, 0)),
-    (Ask::Write("/f", 1, b"\xbb"), Told::Count(1), (1, 1)),
-    (Ask::Read("/f", 0, 9), Told::Data(b"\0\xbb"), (0, 0)),
+    (
+        SampleCall::Unlink("/a"),
+        ExpectedReply::Fault(Errno::EPERM),
+        (0, 0),
+    ),
+    (
+        SampleCall::Read("/", 0, 1),
+        ExpectedReply::Fault(Errno::EISDIR),
+        (0, 0),
+    ),
+    (
+        SampleCall::Read("/a", 0, 1),
+        ExpectedReply::Fault(Errno::EISDIR),
+        (0, 0),
+    ),
+    (SampleCall::Create("/f"), ExpectedReply::Done, (2, 0)),
+    (
+        SampleCall::Write("/f", 0, b"\xaa"),
+        ExpectedReply::Count(1),
+        (1, 1),
+    ),
+    (
+        SampleCall::Read("/f", 0, 1_048_577),
+        ExpectedReply::Fault(Errno::EINVAL),
+        (0, 0),
+    ),
+    (SampleCall::Unlink("/f"), ExpectedReply::Done, (2, 1)),
+    (
+        SampleCall::Unlink("/f/x"),
+        ExpectedReply::Fault(Errno::ENOENT),
+        (0, 0),
+    ),
+    (SampleCall::Create("/f"), ExpectedReply::Done, (2, 0)),
+    (
+        SampleCall::Write("/f", 1, b"\xbb"),
+        ExpectedReply::Count(1),
+        (1, 1),
+    ),
+    (
+        SampleCall::Read("/f", 0, 9),
+        ExpectedReply::Data(b"\0\xbb"),
+        (0, 0),
+    ),
 ];
 
 const SUBTREES: &[Row] = &[
-    (Ask::Rmtree("/"), Told::Fault(Errno::EBUSY), (0, 0)),
-    (Ask::Rmtree("/a"), Told::Fault(Errno::ENOENT), (0, 0)),
-    (Ask::Rmtree("/a/b"), Told::Fault(Errno::ENOENT), (0, 0)),
-    (Ask::Mkdir("/a"), Told::Done, (2, 0)),
-    (Ask::Create("/a/x"), Told::Done, (2, 0)),
-    (Ask::Write("/a/x", 0, b"\xaa"), Told::Count(1), (1, 1)),
-    (Ask::Mkdir("/a/d"), Told::Done, (2, 0)),
-    (Ask::Create("/a/d/y"), Told::Done, (2, 0)),
     (
-        Ask::Write("/a/d/y", 4_095, b"\xbb\xcc"),
-        Told::Count(2),
+        SampleCall::Rmtree("/"),
+        ExpectedReply::Fault(Errno::EBUSY),
+        (0, 0),
+    ),
+    (
+        SampleCall::Rmtree("/a"),
+        ExpectedReply::Fault(Errno::ENOENT),
+        (0, 0),
+    ),
+    (
+        SampleCall::Rmtree("/a/b"),
+        ExpectedReply::Fault(Errno::ENOENT),
+        (0, 0),
+    ),
+    (SampleCall::Mkdir("/a"), ExpectedReply::Done, (2, 0)),
+    (SampleCall::Create("/a/x"), ExpectedReply::Done, (2, 0)),
+    (
+        SampleCall::Write("/a/x", 0, b"\xaa"),
+        ExpectedReply::Count(1),
+        (1, 1),
+    ),
+    (SampleCall::Mkdir("/a/d"), ExpectedReply::Done, (2, 0)),
+    (SampleCall::Create("/a/d/y"), ExpectedReply::Done, (2, 0)),
+    (
+        SampleCall::Write("/a/d/y", 4_095, b"\xbb\xcc"),
+        ExpectedReply::Count(2),
         (1, 2),
     ),
-    (Ask::Create("/a-b"), Told::Done, (2, 0)),
-    (Ask::Write("/a-b", 0, b"\xdd"), Told::Count(1), (1, 1)),
-    (Ask::Create("/ab"), Told::Done, (2, 0)),
-    (Ask::Write("/ab", 0, b"\xee"), Told::Count(1), (1, 1)),
-    (Ask::Rmtree("/a/x/z"), Told::Fault(Errno::ENOTDIR), (0, 0)),
-    (Ask::Rmtree("/a/x/z/z"), Told::Fault(Errno::ENOTDIR), (0, 0)),
-    (Ask::Rmtree("/a"), Told::Done, (2, 1)),
-    (Ask::Rmtree("/a"), Told::Fault(Errno::ENOENT), (0, 0)),
-    (Ask::Stat("/a"), Told::Fault(Errno::ENOENT), (0, 0)),
-    (Ask::Stat("/a/x"), Told::Fault(Errno::ENOENT), (0, 0)),
-    (Ask::Read("/a-b", 0, 9), Told::Data(b"\xdd"), (0, 0)),
-    (Ask::Read("/ab", 0, 9), Told::Data(b"\xee"), (0, 0)),
-    (Ask::Mkdir("/a"), Told::Done, (2, 0)),
-    (Ask::Create("/a/x"), Told::Done, (2, 0)),
-    (Ask::Stat("/a/x"), Told::File(0), (0, 0)),
-    (Ask::Write("/a/x", 1, b"\xff"), Told::Count(1), (1, 1)),
-    (Ask::Read("/a/x", 0, 9), Told::Data(b"\0\xff"), (0, 0)),
-    (Ask::Rmtree("/a/x"), Told::Done, (2, 1)),
-    (Ask::Rmdir("/a"), Told::Done, (2, 0)),
+    (SampleCall::Create("/a-b"), ExpectedReply::Done, (2, 0)),
+    (
+        SampleCall::Write("/a-b", 0, b"\xdd"),
+        ExpectedReply::Count(1),
+        (1, 1),
+    ),
+    (SampleCall::Create("/ab"), ExpectedReply::Done, (2, 0)),
+    (
+        SampleCall::Write("/ab", 0, b"\xee"),
+        ExpectedReply::Count(1),
+        (1, 1),
+    ),
+    (
+        SampleCall::Rmtree("/a/x/z"),
+        ExpectedReply::Fault(Errno::ENOTDIR),
+        (0, 0),
+    ),
+    (
+        SampleCall::Rmtree("/a/x/z/z"),
+        ExpectedReply::Fault(Errno::ENOTDIR),
+        (0, 0),
+    ),
+    (SampleCall::Rmtree("/a"), ExpectedReply::Done, (2, 1)),
+    (
+        SampleCall::Rmtree("/a"),
+        ExpectedReply::Fault(Errno::ENOENT),
+        (0, 0),
+    ),
+    (
+        SampleCall::Stat("/a"),
+        ExpectedReply::Fault(Errno::ENOENT),
+        (0, 0),
+    ),
+    (
+        SampleCall::Stat("/a/x"),
+        ExpectedReply::Fault(Errno::ENOENT),
+        (0, 0),
+    ),
+    (
+        SampleCall::Read("/a-b", 0, 9),
+        ExpectedReply::Data(b"\xdd"),
+        (0, 0),
+    ),
+    (
+        SampleCall::Read("/ab", 0, 9),
+        ExpectedReply::Data(b"\xee"),
+        (0, 0),
+    ),
+    (SampleCall::Mkdir("/a"), ExpectedReply::Done, (2, 0)),
+    (SampleCall::Create("/a/x"), ExpectedReply::Done, (2, 0)),
+    (SampleCall::Stat("/a/x"), ExpectedReply::File(0), (0, 0)),
+    (
+        SampleCall::Write("/a/x", 1, b"\xff"),
+        ExpectedReply::Count(1),
+        (1, 1),
+    ),
+    (
+        SampleCall::Read("/a/x", 0, 9),
+        ExpectedReply::Data(b"\0\xff"),
+        (0, 0),
+    ),
+    (SampleCall::Rmtree("/a/x"), ExpectedReply::Done, (2, 1)),
+    (SampleCall::Rmdir("/a"), ExpectedReply::Done, (2, 0)),
 ];
 
 const REFUSED_MOVES: &[Row] = &[
-    (Ask::Rename("/", "/b"), Told::Fault(Errno::EBUSY), (0, 0)),
-    (Ask::Rename("/", "/"), Told::Fault(Errno::EBUSY), (0, 0)),
-    (Ask::Rename("/a", "/b"), Told::Fault(Errno::ENOENT), (0, 0)),
-    (Ask::Rename("/a", "/a"), Told::Fault(Errno::ENOENT), (0, 0)),
-    (Ask::Mkdir("/a"), Told::Done, (2, 0)),
-    (Ask::Mkdir("/a/d"), Told::Done, (2, 0)),
-    (Ask::Create("/f"), Told::Done, (2, 0)),
     (
-        Ask::Rename("/f/x", "/b"),
-        Told::Fault(Errno::ENOTDIR),
+        SampleCall::Rename("/", "/b"),
+        ExpectedReply::Fault(Errno::EBUSY),
         (0, 0),
     ),
     (
-        Ask::Rename("/a", "/a/b"),
-        Told::Fault(Errno::EINVAL),
+        SampleCall::Rename("/", "/"),
+        ExpectedReply::Fault(Errno::EBUSY),
         (0, 0),
     ),
     (
-        Ask::Rename("/a", "/a/x/y"),
-        Told::Fault(Errno::EINVAL),
+        SampleCall::Rename("/a", "/b"),
+        ExpectedReply::Fault(Errno::ENOENT),
         (0, 0),
     ),
     (
-        Ask::Rename("/f", "/f/x"),
-        Told::Fault(Errno::ENOTDIR),
+        SampleCall::Rename("/a", "/a"),
+        ExpectedReply::Fault(Errno::ENOENT),
+        (0, 0),
+    ),
+    (SampleCall::Mkdir("/a"), ExpectedReply::Done, (2, 0)),
+    (SampleCall::Mkdir("/a/d"), ExpectedReply::Done, (2, 0)),
+    (SampleCall::Create("/f"), ExpectedReply::Done, (2, 0)),
+    (
+        SampleCall::Rename("/f/x", "/b"),
+        ExpectedReply::Fault(Errno::ENOTDIR),
         (0, 0),
     ),
     (
-        Ask::Rename("/f", "/b/x"),
-        Told::Fault(Errno::ENOENT),
+        SampleCall::Rename("/a", "/a/b"),
+        ExpectedReply::Fault(Errno::EINVAL),
         (0, 0),
     ),
     (
-        Ask::Rename("/a", "/f/x"),
-        Told::Fault(Errno::ENOTDIR),
+        SampleCall::Rename("/a", "/a/x/y"),
+        ExpectedReply::Fault(Errno::EINVAL),
         (0, 0),
     ),
-    (Ask::Rename("/f", "/a"), Told::Fault(Errno::EISDIR), (0, 0)),
-    (Ask::Rename("/a", "/f"), Told::Fault(Errno::ENOTDIR), (0, 0)),
     (
-        Ask::Rename("/a/d", "/a"),
-        Told::Fault(Errno::ENOTEMPTY),
+        SampleCall::Rename("/f", "/f/x"),
+        ExpectedReply::Fault(Errno::ENOTDIR),
         (0, 0),
     ),
-    (Ask::Rename("/a", "/a"), Told::Done, (0, 0)),
-    (Ask::Rename("/f", "/f"), Told::Done, (0, 0)),
+    (
+        SampleCall::Rename("/f", "/b/x"),
+        ExpectedReply::Fault(Errno::ENOENT),
+        (0, 0),
+    ),
+    (
+        SampleCall::Rename("/a", "/f/x"),
+        ExpectedReply::Fault(Errno::ENOTDIR),
+        (0, 0),
+    ),
+    (
+        SampleCall::Rename("/f", "/a"),
+        ExpectedReply::Fault(Errno::EISDIR),
+        (0, 0),
+    ),
+    (
+        SampleCall::Rename("/a", "/f"),
+        ExpectedReply::Fault(Errno::ENOTDIR),
+        (0, 0),
+    ),
+    (
+        SampleCall::Rename("/a/d", "/a"),
+        ExpectedReply::Fault(Errno::ENOTEMPTY),
+        (0, 0),
+    ),
+    (SampleCall::Rename("/a", "/a"), ExpectedReply::Done, (0, 0)),
+    (SampleCall::Rename("/f", "/f"), ExpectedReply::Done, (0, 0)),
 ];
 
 const MOVES: &[Row] = &[
-    (Ask::Mkdir("/a"), Told::Done, (2, 0)),
-    (Ask::Create("/a/x"), Told::Done, (2, 0)),
-    (Ask::Write("/a/x", 0, b"\xaa"), Told::Count(1), (1, 1)),
-    (Ask::Mkdir("/a/d"), Told::Done, (2, 0)),
-    (Ask::Create("/a/d/y"), Told::Done, (2, 0)),
+    (SampleCall::Mkdir("/a"), ExpectedReply::Done, (2, 0)),
+    (SampleCall::Create("/a/x"), ExpectedReply::Done, (2, 0)),
     (
-        Ask::Write("/a/d/y", 4_095, b"\xbb\xcc"),
-        Told::Count(2),
+        SampleCall::Write("/a/x", 0, b"\xaa"),
+        ExpectedReply::Count(1),
+        (1, 1),
+    ),
+    (SampleCall::Mkdir("/a/d"), ExpectedReply::Done, (2, 0)),
+    (SampleCall::Create("/a/d/y"), ExpectedReply::Done, (2, 0)),
+    (
+        SampleCall::Write("/a/d/y", 4_095, b"\xbb\xcc"),
+        ExpectedReply::Count(2),
         (1, 2),
     ),
-    (Ask::Create("/a-b"), Told::Done, (2, 0)),
-    (Ask::Write("/a-b", 4_096, b"\xdd"), Told::Count(1), (1, 1)),
+    (SampleCall::Create("/a-b"), ExpectedReply::Done, (2, 0)),
+    (
+        SampleCall::Write("/a-b", 4_096, b"\xdd"),
+        ExpectedReply::Count(1),
+        (1, 1),
+    ),
     // four entries, three blocks, a range-delete for each index, and the moment of the root
-    (Ask::Rename("/a", "/b"), Told::Done, (6, 4)),
-    (Ask::Stat("/a"), Told::Fault(Errno::ENOENT), (0, 0)),
-    (Ask::Stat("/a/x"), Told::Fault(Errno::ENOENT), (0, 0)),
-    (Ask::Read("/b/x", 0, 9), Told::Data(b"\xaa"), (0, 0)),
+    (SampleCall::Rename("/a", "/b"), ExpectedReply::Done, (6, 4)),
     (
-        Ask::Read("/b/d/y", 4_094, 9),
-        Told::Data(b"\0\xbb\xcc"),
+        SampleCall::Stat("/a"),
+        ExpectedReply::Fault(Errno::ENOENT),
         (0, 0),
     ),
-    (Ask::Read("/a-b", 4_095, 9), Told::Data(b"\0\xdd"), (0, 0)),
+    (
+        SampleCall::Stat("/a/x"),
+        ExpectedReply::Fault(Errno::ENOENT),
+        (0, 0),
+    ),
+    (
+        SampleCall::Read("/b/x", 0, 9),
+        ExpectedReply::Data(b"\xaa"),
+        (0, 0),
+    ),
+    (
+        SampleCall::Read("/b/d/y", 4_094, 9),
+        ExpectedReply::Data(b"\0\xbb\xcc"),
+        (0, 0),
+    ),
+    (
+        SampleCall::Read("/a-b", 4_095, 9),
+        ExpectedReply::Data(b"\0\xdd"),
+        (0, 0),
+    ),
     // one entry and one block, the blocks of the file that is replaced, and the moments of two directories
-    (Ask::Rename("/b/x", "/a-b"), Told::Done, (4, 3)),
-    (Ask::Read("/a-b", 0, 9), Told::Data(b"\xaa"), (0, 0)),
-    (Ask::Truncate("/a-b", 4_098), Told::Done, (1, 0)),
-    (Ask::Read("/a-b", 4_095, 9), Told::Data(b"\0\0\0"), (0, 0)),
-    (Ask::Mkdir("/e"), Told::Done, (2, 0)),
-    (Ask::Rename("/b/d", "/e"), Told::Done, (5, 3)),
     (
-        Ask::Read("/e/y", 4_094, 9),
-        Told::Data(b"\0\xbb\xcc"),
+        SampleCall::Rename("/b/x", "/a-b"),
+        ExpectedReply::Done,
+        (4, 3),
+    ),
+    (
+        SampleCall::Read("/a-b", 0, 9),
+        ExpectedReply::Data(b"\xaa"),
         (0, 0),
     ),
-    (Ask::Rmdir("/b"), Told::Done, (2, 0)),
+    (
+        SampleCall::Truncate("/a-b", 4_098),
+        ExpectedReply::Done,
+        (1, 0),
+    ),
+    (
+        SampleCall::Read("/a-b", 4_095, 9),
+        ExpectedReply::Data(b"\0\0\0"),
+        (0, 0),
+    ),
+    (SampleCall::Mkdir("/e"), ExpectedReply::Done, (2, 0)),
+    (
+        SampleCall::Rename("/b/d", "/e"),
+        ExpectedReply::Done,
+        (5, 3),
+    ),
+    (
+        SampleCall::Read("/e/y", 4_094, 9),
+        ExpectedReply::Data(b"\0\xbb\xcc"),
+        (0, 0),
+    ),
+    (SampleCall::Rmdir("/b"), ExpectedReply::Done, (2, 0)),
 ];
 
 /// A file that has no block, also where it once had one, and one that has a byte.
 const BLOCKS_OF_FILES: &[Row] = &[
-    (Ask::Create("/e"), Told::Done, (2, 0)),
-    (Ask::Unlink("/e"), Told::Done, (2, 0)),
-    (Ask::Create("/f"), Told::Done, (2, 0)),
-    (Ask::Write("/f", 5_000, b"\xaa"), Told::Count(1), (1, 1)),
-    (Ask::Truncate("/f", 0), Told::Done, (1, 1)),
-    (Ask::Create("/f-g"), Told::Done, (2, 0)),
-    (Ask::Write("/f-g", 0, b"\xbb"), Told::Count(1), (1, 1)),
-    (Ask::Unlink("/f"), Told::Done, (2, 0)),
-    (Ask::Read("/f-g", 0, 9), Told::Data(b"\xbb"), (0, 0)),
+    (SampleCall::Create("/e"), ExpectedReply::Done, (2, 0)),
+    (SampleCall::Unlink("/e"), ExpectedReply::Done, (2, 0)),
+    (SampleCall::Create("/f"), ExpectedReply::Done, (2, 0)),
+    (
+        SampleCall::Write("/f", 5_000, b"\xaa"),
+        ExpectedReply::Count(1),
+        (1, 1),
+    ),
+    (SampleCall::Truncate("/f", 0), ExpectedReply::Done, (1, 1)),
+    (SampleCall::Create("/f-g"), ExpectedReply::Done, (2, 0)),
+    (
+        SampleCall::Write("/f-g", 0, b"\xbb"),
+        ExpectedReply::Count(1),
+        (1, 1),
+    ),
+    (SampleCall::Unlink("/f"), ExpectedReply::Done, (2, 0)),
+    (
+        SampleCall::Read("/f-g", 0, 9),
+        ExpectedReply::Data(b"\xbb"),
+        (0, 0),
+    ),
     // a file without blocks that has bytes: no block is asked for
-    (Ask::Truncate("/f-g", 0), Told::Done, (1, 1)),
-    (Ask::Truncate("/f-g", 9), Told::Done, (1, 0)),
-    (Ask::Unlink("/f-g"), Told::Done, (2, 1)),
+    (SampleCall::Truncate("/f-g", 0), ExpectedReply::Done, (1, 1)),
+    (SampleCall::Truncate("/f-g", 9), ExpectedReply::Done, (1, 0)),
+    (SampleCall::Unlink("/f-g"), ExpectedReply::Done, (2, 1)),
 ];
 
 /// Calls of one moment, in a root that has another at first.
 const ONE_MOMENT: &[Row] = &[
-    (Ask::Create("/f"), Told::Done, (2, 0)),
-    (Ask::Create("/g"), Told::Done, (1, 0)),
-    (Ask::Mkdir("/a"), Told::Done, (1, 0)),
-    (Ask::Create("/a/x"), Told::Done, (1, 0)),
-    (Ask::Write("/f", 0, b"\xaa\xbb"), Told::Count(2), (1, 1)),
-    (Ask::Write("/f", 1, b"\xcc"), Told::Count(1), (0, 1)),
-    (Ask::Write("/f", 1, b"\xdd\xee"), Told::Count(2), (1, 1)),
-    (Ask::Stat("/f"), Told::File(3), (0, 0)),
-    (Ask::Read("/f", 0, 9), Told::Data(b"\xaa\xdd\xee"), (0, 0)),
-    (Ask::Truncate("/f", 3), Told::Done, (0, 0)),
-    (Ask::Truncate("/f", 4), Told::Done, (1, 0)),
-    (Ask::Truncate("/f", 3), Told::Done, (1, 2)),
-    (Ask::Unlink("/f"), Told::Done, (2, 1)),
-    (Ask::Unlink("/g"), Told::Done, (2, 0)),
-    (Ask::Rmtree("/a"), Told::Done, (2, 1)),
+    (SampleCall::Create("/f"), ExpectedReply::Done, (2, 0)),
+    (SampleCall::Create("/g"), ExpectedReply::Done, (1, 0)),
+    (SampleCall::Mkdir("/a"), ExpectedReply::Done, (1, 0)),
+    (SampleCall::Create("/a/x"), ExpectedReply::Done, (1, 0)),
+    (
+        SampleCall::Write("/f", 0, b"\xaa\xbb"),
+        ExpectedReply::Count(2),
+        (1, 1),
+    ),
+    (
+        SampleCall::Write("/f", 1, b"\xcc"),
+        ExpectedReply::Count(1),
+        (0, 1),
+    ),
+    (
+        SampleCall::Write("/f", 1, b"\xdd\xee"),
+        ExpectedReply::Count(2),
+        (1, 1),
+    ),
+    (SampleCall::Stat("/f"), ExpectedReply::File(3), (0, 0)),
+    (
+        SampleCall::Read("/f", 0, 9),
+        ExpectedReply::Data(b"\xaa\xdd\xee"),
+        (0, 0),
+    ),
+    (SampleCall::Truncate("/f", 3), ExpectedReply::Done, (0, 0)),
+    (SampleCall::Truncate("/f", 4), ExpectedReply::Done, (1, 0)),
+    (SampleCall::Truncate("/f", 3), ExpectedReply::Done, (1, 2)),
+    (SampleCall::Unlink("/f"), ExpectedReply::Done, (2, 1)),
+    (SampleCall::Unlink("/g"), ExpectedReply::Done, (2, 0)),
+    (SampleCall::Rmtree("/a"), ExpectedReply::Done, (2, 1)),
 ];
 
 /// Calls of which each has a moment of its own, in a root that has another at first.
 const RISING_MOMENTS: &[Row] = &[
-    (Ask::Create("/f"), Told::Done, (2, 0)),
-    (Ask::Create("/g"), Told::Done, (2, 0)),
-    (Ask::Mkdir("/a"), Told::Done, (2, 0)),
-    (Ask::Create("/a/x"), Told::Done, (2, 0)),
-    (Ask::Write("/f", 0, b"\xaa\xbb"), Told::Count(2), (1, 1)),
-    (Ask::Write("/f", 1, b"\xcc"), Told::Count(1), (1, 1)),
-    (Ask::Truncate("/f", 2), Told::Done, (1, 0)),
-    (Ask::Unlink("/f"), Told::Done, (2, 1)),
+    (SampleCall::Create("/f"), ExpectedReply::Done, (2, 0)),
+    (SampleCall::Create("/g"), ExpectedReply::Done, (2, 0)),
+    (SampleCall::Mkdir("/a"), ExpectedReply::Done, (2, 0)),
+    (SampleCall::Create("/a/x"), ExpectedReply::Done, (2, 0)),
+    (
+        SampleCall::Write("/f", 0, b"\xaa\xbb"),
+        ExpectedReply::Count(2),
+        (1, 1),
+    ),
+    (
+        SampleCall::Write("/f", 1, b"\xcc"),
+        ExpectedReply::Count(1),
+        (1, 1),
+    ),
+    (SampleCall::Truncate("/f", 2), ExpectedReply::Done, (1, 0)),
+    (SampleCall::Unlink("/f"), ExpectedReply::Done, (2, 1)),
 ];
 
 /// Each table, with what it shows, and the moments of its calls.

@@ -6,8 +6,8 @@ use block_index::BlockUpdate;
 use message::Msg;
 use pathkey::Key;
 use pending::Pending;
-use samples::{Holds, all_hold};
 use std::alloc::Global;
+use test_support::{Holds, all_hold};
 
 /// The message of an update at a key; none where memory is refused.
 fn edit(alloc: Global, key: &Key, update: BlockUpdate) -> Option<Msg<BlockUpdate>> {

@@ -95,7 +95,7 @@ struct Reading;
 
 impl Course for Reading {
     fn goes(&self, alloc: Global, index: &mut BlockIndex, file: &Path) -> Result<(), usize> {
-        let last = blocks::Ask::Write(1_048_576, b"\x01", 1);
+        let last = blocks::SampleCall::Write(1_048_576, b"\x01", 1);
         if blocks::is_answered(alloc, index, file, last) && reads_in(alloc, index, file, 257) {
             Ok(())
         } else {

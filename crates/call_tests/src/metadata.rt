@@ -4,10 +4,10 @@ use message::Msg;
 use meta_index::{At, Kind, Meta, MetaIndex, MetaUpdate};
 use node::{Shape, Tree};
 use pathkey::{Errno, Key, NoMemory, Path, subtree};
-use samples::ask::path;
-use samples::{Holds, all_hold};
 use scan::scan;
 use std::alloc::Global;
+use test_support::ask::path;
+use test_support::{Holds, all_hold};
 
 const SHAPE: Shape = Shape {
     fanout: 4,
@@ -282,7 +282,7 @@ fn is_measured(alloc: Global, index: &MetaIndex, path: &Path, names: &[Name], mo
 }
 
 /// Whether so many searches tell that nothing lies below a path, or that something does.
-fn is_told(alloc: Global, index: &MetaIndex, path: &Path, empty: bool, wanted: u64) -> bool {
+fn is_reported(alloc: Global, index: &MetaIndex, path: &Path, empty: bool, wanted: u64) -> bool {
     let mut searches = 0;
     match index.is_empty_dir_counted(alloc, path, &mut searches) {
         Ok(told) => told == empty && searches == wanted,
@@ -488,7 +488,7 @@ fn is_answered(alloc: Global, index: &MetaIndex, path: &Path, asked: Asked) -> b
             is_walked(alloc, index, path, names, walks)
                 && is_measured(alloc, index, path, names, pairs)
         }
-        Asked::Told(empty, wanted) => is_told(alloc, index, path, empty, wanted),
+        Asked::Told(empty, wanted) => is_reported(alloc, index, path, empty, wanted),
         Asked::Below(limit, wanted) => holds(alloc, index, path, None, limit, wanted),
         Asked::Behind(behind, limit, wanted) => {
             goes_on(alloc, index, path, behind, limit, wanted)

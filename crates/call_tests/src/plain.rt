@@ -3,8 +3,8 @@ use pathkey::{Errno, NoMemory, Path, SnapName};
 use reference::plain::reading::list_directory;
 use reference::plain::{Tree, World, image_of};
 use reference::{Call, Kind, Reply};
-use samples::ask::{Ask, Told, path};
 use std::alloc::{AllocError, Global};
+use test_support::ask::{ExpectedReply, SampleCall, path};
 
 /// A call on snapshots, with the text of the name.
 #[derive(Clone, Copy)]
@@ -46,10 +46,10 @@ fn fault_of(alloc: Global, world: &mut World, snap: Snap<'_>) -> Option<Errno> {
 }
 
 /// Whether this is the reply, or the fault of a text that is no path.
-fn is_told(told: Told<'_>, reply: Result<Reply, Errno>) -> bool {
+fn is_reported(told: ExpectedReply<'_>, reply: Result<Reply, Errno>) -> bool {
     match reply {
         Ok(reply) => told.is(&reply),
-        Err(fault) => matches!(told, Told::Fault(wanted) if wanted == fault),
+        Err(fault) => matches!(told, ExpectedReply::Fault(wanted) if wanted == fault),
     }
 }
 
@@ -62,15 +62,21 @@ fn list(alloc: Global, tree: &Tree, path: &Path) -> Result<Reply, Errno> {
 }
 
 /// Whether a directory of the tree has these entries.
-fn lists(alloc: Global, tree: &Tree, text: &str, told: Told<'_>) -> bool {
+fn lists(alloc: Global, tree: &Tree, text: &str, told: ExpectedReply<'_>) -> bool {
     match path(alloc, text) {
-        Ok(path) => is_told(told, list(alloc, tree, &path)),
+        Ok(path) => is_reported(told, list(alloc, tree, &path)),
         Err(_) => false,
     }
 }
 
 /// Whether a directory of a snapshot has these entries.
-fn lists_frozen(alloc: Global, world: &World, name: &str, text: &str, told: Told<'_>) -> bool {
+fn lists_frozen(
+    alloc: Global,
+    world: &World,
+    name: &str,
+    text: &str,
+    told: ExpectedReply<'_>,
+) -> bool {
     match snap_name(alloc, name) {
         Ok(name) => match world.frozen(&name) {
             Some(tree) => lists(alloc, tree, text, told),
@@ -89,13 +95,13 @@ fn reply_to(alloc: Global, world: &mut World, call: &Call) -> Result<Reply, Errn
 }
 
 /// What is asked, and what is told.
-type Row<'a> = (Ask<'a>, Told<'a>);
+type Row<'a> = (SampleCall<'a>, ExpectedReply<'a>);
 
 /// Whether the row's reply comes to its call.
 fn is_answered(alloc: Global, world: &mut World, row: &Row<'_>) -> bool {
     match row.0.call(alloc) {
-        Ok(call) => is_told(row.1, reply_to(alloc, world, &call)),
-        Err(fault) => is_told(row.1, Err(fault)),
+        Ok(call) => is_reported(row.1, reply_to(alloc, world, &call)),
+        Err(fault) => is_reported(row.1, Err(fault)),
     }
 }
 
@@ -172,88 +178,130 @@ fn longer(alloc: Global, text: &str, letter: &str, count: u32) -> Result<String,
 
 /// A parent that is absent is another fault than a parent that is a file.
 const PARENTS: &[Row<'static>] = &[
-    (Ask::Mkdir("/x/y"), Told::Fault(Errno::ENOENT)),
-    (Ask::Create("/x"), Told::Done),
-    (Ask::Mkdir("/x/y"), Told::Fault(Errno::ENOTDIR)),
+    (
+        SampleCall::Mkdir("/x/y"),
+        ExpectedReply::Fault(Errno::ENOENT),
+    ),
+    (SampleCall::Create("/x"), ExpectedReply::Done),
+    (
+        SampleCall::Mkdir("/x/y"),
+        ExpectedReply::Fault(Errno::ENOTDIR),
+    ),
 ];
 
 /// A name that begins as the removed one is not below it.
 const BELOW: &[Row<'static>] = &[
-    (Ask::Mkdir("/a"), Told::Done),
-    (Ask::Create("/a/x"), Told::Done),
-    (Ask::Create("/a-b"), Told::Done),
-    (Ask::Rmtree("/a"), Told::Done),
-    (Ask::Readdir("/"), Told::Names(&[(Kind::File, "a-b")])),
+    (SampleCall::Mkdir("/a"), ExpectedReply::Done),
+    (SampleCall::Create("/a/x"), ExpectedReply::Done),
+    (SampleCall::Create("/a-b"), ExpectedReply::Done),
+    (SampleCall::Rmtree("/a"), ExpectedReply::Done),
+    (
+        SampleCall::Readdir("/"),
+        ExpectedReply::Names(&[(Kind::File, "a-b")]),
+    ),
 ];
 
 /// A write across the end of a block, and a read past the end of the file.
 const ACROSS: &[Row<'static>] = &[
-    (Ask::Create("/f"), Told::Done),
-    (Ask::Write("/f", 4095, &[0xaa, 0xbb]), Told::Count(2)),
-    (Ask::Read("/f", 4094, 4), Told::Data(&[0x00, 0xaa, 0xbb])),
-    (Ask::Stat("/f"), Told::File(4097)),
+    (SampleCall::Create("/f"), ExpectedReply::Done),
+    (
+        SampleCall::Write("/f", 4095, &[0xaa, 0xbb]),
+        ExpectedReply::Count(2),
+    ),
+    (
+        SampleCall::Read("/f", 4094, 4),
+        ExpectedReply::Data(&[0x00, 0xaa, 0xbb]),
+    ),
+    (SampleCall::Stat("/f"), ExpectedReply::File(4097)),
 ];
 
 const CUT: &[Row<'static>] = &[
-    (Ask::Create("/f"), Told::Done),
-    (Ask::Write("/f", 0, &[0xff; 10]), Told::Count(10)),
-    (Ask::Truncate("/f", 5), Told::Done),
-    (Ask::Truncate("/f", 9000), Told::Done),
+    (SampleCall::Create("/f"), ExpectedReply::Done),
     (
-        Ask::Read("/f", 0, 8),
-        Told::Data(&[0xff, 0xff, 0xff, 0xff, 0xff, 0, 0, 0]),
+        SampleCall::Write("/f", 0, &[0xff; 10]),
+        ExpectedReply::Count(10),
+    ),
+    (SampleCall::Truncate("/f", 5), ExpectedReply::Done),
+    (SampleCall::Truncate("/f", 9000), ExpectedReply::Done),
+    (
+        SampleCall::Read("/f", 0, 8),
+        ExpectedReply::Data(&[0xff, 0xff, 0xff, 0xff, 0xff, 0, 0, 0]),
     ),
 ];
 
 /// A directory is not moved below itself, and onto itself it stays.
 const ITSELF: &[Row<'static>] = &[
-    (Ask::Mkdir("/a"), Told::Done),
-    (Ask::Mkdir("/a/b"), Told::Done),
-    (Ask::Rename("/a", "/a/b/c"), Told::Fault(Errno::EINVAL)),
-    (Ask::Rename("/a", "/a"), Told::Done),
-    (Ask::Readdir("/a"), Told::Names(&[(Kind::Dir, "b")])),
+    (SampleCall::Mkdir("/a"), ExpectedReply::Done),
+    (SampleCall::Mkdir("/a/b"), ExpectedReply::Done),
+    (
+        SampleCall::Rename("/a", "/a/b/c"),
+        ExpectedReply::Fault(Errno::EINVAL),
+    ),
+    (SampleCall::Rename("/a", "/a"), ExpectedReply::Done),
+    (
+        SampleCall::Readdir("/a"),
+        ExpectedReply::Names(&[(Kind::Dir, "b")]),
+    ),
 ];
 
 /// A directory replaces an empty directory alone.
 const EMPTY: &[Row<'static>] = &[
-    (Ask::Mkdir("/p"), Told::Done),
-    (Ask::Mkdir("/q"), Told::Done),
-    (Ask::Mkdir("/r"), Told::Done),
-    (Ask::Create("/r/k"), Told::Done),
-    (Ask::Create("/s"), Told::Done),
-    (Ask::Rename("/p", "/r"), Told::Fault(Errno::ENOTEMPTY)),
-    (Ask::Rename("/p", "/s"), Told::Fault(Errno::ENOTDIR)),
-    (Ask::Rename("/p", "/q"), Told::Done),
+    (SampleCall::Mkdir("/p"), ExpectedReply::Done),
+    (SampleCall::Mkdir("/q"), ExpectedReply::Done),
+    (SampleCall::Mkdir("/r"), ExpectedReply::Done),
+    (SampleCall::Create("/r/k"), ExpectedReply::Done),
+    (SampleCall::Create("/s"), ExpectedReply::Done),
     (
-        Ask::Readdir("/"),
-        Told::Names(&[(Kind::Dir, "q"), (Kind::Dir, "r"), (Kind::File, "s")]),
+        SampleCall::Rename("/p", "/r"),
+        ExpectedReply::Fault(Errno::ENOTEMPTY),
+    ),
+    (
+        SampleCall::Rename("/p", "/s"),
+        ExpectedReply::Fault(Errno::ENOTDIR),
+    ),
+    (SampleCall::Rename("/p", "/q"), ExpectedReply::Done),
+    (
+        SampleCall::Readdir("/"),
+        ExpectedReply::Names(&[(Kind::Dir, "q"), (Kind::Dir, "r"), (Kind::File, "s")]),
     ),
 ];
 
 /// Nothing is moved onto a directory that holds it, nor the root anywhere.
 const HOLDERS: &[Row<'static>] = &[
-    (Ask::Mkdir("/a"), Told::Done),
-    (Ask::Create("/a/f"), Told::Done),
-    (Ask::Mkdir("/a/d"), Told::Done),
-    (Ask::Rename("/a/f", "/a"), Told::Fault(Errno::EISDIR)),
-    (Ask::Rename("/a/d", "/a"), Told::Fault(Errno::ENOTEMPTY)),
-    (Ask::Rename("/a/d", "/"), Told::Fault(Errno::ENOTEMPTY)),
-    (Ask::Rename("/", "/b"), Told::Fault(Errno::EBUSY)),
+    (SampleCall::Mkdir("/a"), ExpectedReply::Done),
+    (SampleCall::Create("/a/f"), ExpectedReply::Done),
+    (SampleCall::Mkdir("/a/d"), ExpectedReply::Done),
+    (
+        SampleCall::Rename("/a/f", "/a"),
+        ExpectedReply::Fault(Errno::EISDIR),
+    ),
+    (
+        SampleCall::Rename("/a/d", "/a"),
+        ExpectedReply::Fault(Errno::ENOTEMPTY),
+    ),
+    (
+        SampleCall::Rename("/a/d", "/"),
+        ExpectedReply::Fault(Errno::ENOTEMPTY),
+    ),
+    (
+        SampleCall::Rename("/", "/b"),
+        ExpectedReply::Fault(Errno::EBUSY),
+    ),
 ];
 
 const BEFORE: &[Row<'static>] = &[
-    (Ask::Mkdir("/a"), Told::Done),
-    (Ask::Create("/a/x"), Told::Done),
+    (SampleCall::Mkdir("/a"), ExpectedReply::Done),
+    (SampleCall::Create("/a/x"), ExpectedReply::Done),
 ];
 
 const BEHIND: &[Row<'static>] = &[
-    (Ask::Rmtree("/a"), Told::Done),
-    (Ask::Stat("/a"), Told::Fault(Errno::ENOENT)),
+    (SampleCall::Rmtree("/a"), ExpectedReply::Done),
+    (SampleCall::Stat("/a"), ExpectedReply::Fault(Errno::ENOENT)),
 ];
 
-const LISTED: Told<'static> = Told::Names(&[(Kind::File, "x")]);
+const LISTED: ExpectedReply<'static> = ExpectedReply::Names(&[(Kind::File, "x")]);
 
-const RESTORED: &[Row<'static>] = &[(Ask::Readdir("/a"), LISTED)];
+const RESTORED: &[Row<'static>] = &[(SampleCall::Readdir("/a"), LISTED)];
 
 /// A snapshot keeps what the live tree loses, and gives it back.
 struct Keeping;
@@ -276,48 +324,72 @@ fn snapshot_and_restore(rt: HostRuntime) {
 
 /// A file that is moved onto a longer one leaves none of its bytes, also where the file grows again.
 const LONGER: &[Row<'static>] = &[
-    (Ask::Create("/f"), Told::Done),
-    (Ask::Write("/f", 0, &[0xaa]), Told::Count(1)),
-    (Ask::Create("/g"), Told::Done),
-    (Ask::Write("/g", 5000, &[0xbb]), Told::Count(1)),
-    (Ask::Rename("/f", "/g"), Told::Done),
-    (Ask::Read("/g", 0, 6000), Told::Data(&[0xaa])),
-    (Ask::Stat("/f"), Told::Fault(Errno::ENOENT)),
-    (Ask::Truncate("/g", 5001), Told::Done),
-    (Ask::Read("/g", 5000, 1), Told::Data(&[0x00])),
+    (SampleCall::Create("/f"), ExpectedReply::Done),
+    (SampleCall::Write("/f", 0, &[0xaa]), ExpectedReply::Count(1)),
+    (SampleCall::Create("/g"), ExpectedReply::Done),
+    (
+        SampleCall::Write("/g", 5000, &[0xbb]),
+        ExpectedReply::Count(1),
+    ),
+    (SampleCall::Rename("/f", "/g"), ExpectedReply::Done),
+    (
+        SampleCall::Read("/g", 0, 6000),
+        ExpectedReply::Data(&[0xaa]),
+    ),
+    (SampleCall::Stat("/f"), ExpectedReply::Fault(Errno::ENOENT)),
+    (SampleCall::Truncate("/g", 5001), ExpectedReply::Done),
+    (
+        SampleCall::Read("/g", 5000, 1),
+        ExpectedReply::Data(&[0x00]),
+    ),
 ];
 
 /// Calls on the wrong kind of entry, and a read that is too long or past the end.
 const KINDS: &[Row<'static>] = &[
-    (Ask::Mkdir("/a"), Told::Done),
-    (Ask::Unlink("/a"), Told::Fault(Errno::EPERM)),
-    (Ask::Unlink("/"), Told::Fault(Errno::EPERM)),
-    (Ask::Rmdir("/"), Told::Fault(Errno::EBUSY)),
-    (Ask::Create("/f"), Told::Done),
-    (Ask::Rmdir("/f"), Told::Fault(Errno::ENOTDIR)),
-    (Ask::Unlink("/f/x"), Told::Fault(Errno::ENOTDIR)),
-    (Ask::Read("/a", 0, 1), Told::Fault(Errno::EISDIR)),
-    (Ask::Read("/f", 0, 1_048_577), Told::Fault(Errno::EINVAL)),
-    (Ask::Read("/f", 9, 1), Told::Data(&[])),
+    (SampleCall::Mkdir("/a"), ExpectedReply::Done),
+    (SampleCall::Unlink("/a"), ExpectedReply::Fault(Errno::EPERM)),
+    (SampleCall::Unlink("/"), ExpectedReply::Fault(Errno::EPERM)),
+    (SampleCall::Rmdir("/"), ExpectedReply::Fault(Errno::EBUSY)),
+    (SampleCall::Create("/f"), ExpectedReply::Done),
+    (
+        SampleCall::Rmdir("/f"),
+        ExpectedReply::Fault(Errno::ENOTDIR),
+    ),
+    (
+        SampleCall::Unlink("/f/x"),
+        ExpectedReply::Fault(Errno::ENOTDIR),
+    ),
+    (
+        SampleCall::Read("/a", 0, 1),
+        ExpectedReply::Fault(Errno::EISDIR),
+    ),
+    (
+        SampleCall::Read("/f", 0, 1_048_577),
+        ExpectedReply::Fault(Errno::EINVAL),
+    ),
+    (SampleCall::Read("/f", 9, 1), ExpectedReply::Data(&[])),
 ];
 
 /// Texts that are no paths.
 const NO_PATHS: &[Row<'static>] = &[
-    (Ask::Stat("/a//b"), Told::Fault(Errno::EINVAL)),
-    (Ask::Stat("/a/"), Told::Fault(Errno::EINVAL)),
-    (Ask::Stat("a"), Told::Fault(Errno::EINVAL)),
-    (Ask::Stat("/.."), Told::Fault(Errno::EINVAL)),
-    (Ask::Stat("/\0"), Told::Fault(Errno::EINVAL)),
-    (Ask::Stat(""), Told::Fault(Errno::ENOENT)),
+    (
+        SampleCall::Stat("/a//b"),
+        ExpectedReply::Fault(Errno::EINVAL),
+    ),
+    (SampleCall::Stat("/a/"), ExpectedReply::Fault(Errno::EINVAL)),
+    (SampleCall::Stat("a"), ExpectedReply::Fault(Errno::EINVAL)),
+    (SampleCall::Stat("/.."), ExpectedReply::Fault(Errno::EINVAL)),
+    (SampleCall::Stat("/\0"), ExpectedReply::Fault(Errno::EINVAL)),
+    (SampleCall::Stat(""), ExpectedReply::Fault(Errno::ENOENT)),
 ];
 
 /// How many letters a name has, and whether it can be made or is refused.
-struct Name(u32, Told<'static>);
+struct Name(u32, ExpectedReply<'static>);
 
 impl Course for Name {
     fn goes(&self, alloc: Global, world: &mut World) -> bool {
         match longer(alloc, "", "n", self.0) {
-            Ok(text) => is_answered(alloc, world, &(Ask::Create(text.as_str()), self.1)),
+            Ok(text) => is_answered(alloc, world, &(SampleCall::Create(text.as_str()), self.1)),
             Err(_) => false,
         }
     }
@@ -325,8 +397,8 @@ impl Course for Name {
 
 /// A name may have 255 bytes, and no more.
 const LONGEST: &[Name] = &[
-    Name(255, Told::Done),
-    Name(256, Told::Fault(Errno::ENAMETOOLONG)),
+    Name(255, ExpectedReply::Done),
+    Name(256, ExpectedReply::Fault(Errno::ENAMETOOLONG)),
 ];
 
 #[test]
@@ -336,7 +408,11 @@ fn longest_name(rt: HostRuntime) -> Result<(), usize> {
 
 /// Makes a directory; whether it is done.
 fn makes(alloc: Global, world: &mut World, text: &str) -> bool {
-    is_answered(alloc, world, &(Ask::Mkdir(text), Told::Done))
+    is_answered(
+        alloc,
+        world,
+        &(SampleCall::Mkdir(text), ExpectedReply::Done),
+    )
 }
 
 /// Makes four directories in one another below `/a`, each with a name of 254 letters; the deepest text.
@@ -360,8 +436,11 @@ fn is_deep(alloc: Global, world: &mut World, wanted: usize) -> bool {
 }
 
 const DEEP: &[Row<'static>] = &[
-    (Ask::Rename("/a", "/abc"), Told::Fault(Errno::ENAMETOOLONG)),
-    (Ask::Rename("/a", "/ab"), Told::Done),
+    (
+        SampleCall::Rename("/a", "/abc"),
+        ExpectedReply::Fault(Errno::ENAMETOOLONG),
+    ),
+    (SampleCall::Rename("/a", "/ab"), ExpectedReply::Done),
 ];
 
 /// A subtree whose deepest text has 1,022 bytes can be moved to a name one byte longer, and no further.
@@ -426,8 +505,8 @@ fn most_snapshots(rt: HostRuntime) {
 }
 
 const NESTED: &[Row<'static>] = &[
-    (Ask::Mkdir("/d"), Told::Done),
-    (Ask::Create("/d/n"), Told::Done),
+    (SampleCall::Mkdir("/d"), ExpectedReply::Done),
+    (SampleCall::Create("/d/n"), ExpectedReply::Done),
 ];
 
 /// A table of calls, with what it shows.

@@ -7,17 +7,17 @@ use Rattle.std.proofs.lemmas.List.{append_cancel_left, length-map, length-replic
 use Rattle.std.proofs.lemmas.List.Elements.{All-nil, All-cons, All-head, All-map, All-weaker, All-push}
 use Rattle.pathkey.proofs.Pieces.{not_lacking}
 use Rattle.reference.specs.Image.{Text}
-use Rattle.delta.specs.Deltas.{IsLine, text_of, Command, Stay, Go, Come, IsCommand, IsDigest, IsSomeDelta, commands_text, heading, spelled, told}
+use Rattle.delta.specs.Deltas.{IsLine, text_of, Command, Stay, Go, Come, IsCommand, IsDigest, IsSomeDelta, commands_text, heading, spelled, parsed}
 use Rattle.delta.specs.Texts.{HasNoCommand, IsBadAt, IsBadBehind, IsNext, NoEnd, Passes, ReadsDelta, command_of, end_text}
-use Rattle.delta.specs.declared.command.Told.{Told}
-use Rattle.delta.proofs.TextFacts.{behind_commands, commands_append, end_is_no_command, end_line, first_line, heading_line, same_line, spelled_line, told_text}
+use Rattle.delta.specs.declared.command.DeltaCommand.{DeltaCommand}
+use Rattle.delta.proofs.TextFacts.{behind_commands, commands_append, end_is_no_command, end_line, first_line, heading_line, same_line, spelled_line, reported_text}
 
 -- ---- commands that were passed
 
 pub passes_none : (text : Text) → Passes [] text text
 passes_none text = record { commands = All-nil IsCommand; cut = refl }
 
-pub passes_more : (cs : List Command) (text rest line behind : Text) (t : Told) → Passes cs text rest → IsNext rest line t behind → Passes (cs ++ command_of t line ∷ []) text behind
+pub passes_more : (cs : List Command) (text rest line behind : Text) (t : DeltaCommand) → Passes cs text rest → IsNext rest line t behind → Passes (cs ++ command_of t line ∷ []) text behind
 passes_more cs text rest line behind t p n = record {
   commands = All-push IsCommand cs (command_of t line) p.commands n.tells.command;
   cut =
@@ -42,7 +42,7 @@ few_commands cs text rest p =
     let size : length text ≡ length (commands_text cs) + length rest = ap length p.cut ∙ length-append (commands_text cs) rest in
     omega (arith, size, many_bytes cs)
 
-pub shorter : (rest line behind : Text) (t : Told) → IsNext rest line t behind → length behind < length rest
+pub shorter : (rest line behind : Text) (t : DeltaCommand) → IsNext rest line t behind → length behind < length rest
 shorter rest line behind t n = let size : length rest ≡ length line + length (10 ∷ behind) = ap length n.cut ∙ length-append line (10 ∷ behind) in omega (arith, size)
 
 -- ---- no command is next
@@ -56,9 +56,9 @@ lacks_command text line behind cut whole none c after is e = none c is (same_lin
 -- ---- bad lines
 
 -- what a delta has behind its first line holds a line feed
-told_has_end : (cs : List Command) → IsLine (text_of (told cs)) → ⊥
-told_has_end [] whole = not_lacking 10 (codes "end") [] whole
-told_has_end (c ∷ cs) whole = not_lacking 10 (spelled c) (text_of (told cs)) whole
+reported_has_end : (cs : List Command) → IsLine (text_of (parsed cs)) → ⊥
+reported_has_end [] whole = not_lacking 10 (codes "end") [] whole
+reported_has_end (c ∷ cs) whole = not_lacking 10 (spelled c) (text_of (parsed cs)) whole
 
 zero_bytes : (n i : ℕ) → slice_index (replicate n 0) i < 256
 zero_bytes zero zero = omega arith
@@ -69,7 +69,7 @@ zero_bytes (suc n) (suc i) = zero_bytes n i
 zeros : IsDigest (replicate 32 0)
 zeros = record { size = length-replicate {A = ℕ} 32 0; bytes = zero_bytes 32 }
 
-some_delta : IsSomeDelta (text_of (heading (replicate 32 0) ∷ told []))
+some_delta : IsSomeDelta (text_of (heading (replicate 32 0) ∷ parsed []))
 some_delta = (replicate 32 0, [], record { sum = zeros; commands = All-nil IsCommand; is = refl })
 
 pub bad_start : (text : Text) → IsLine text → IsBadAt 1 text
@@ -79,8 +79,8 @@ bad_start text whole = record {
   whole = All-nil IsLine;
   cut = refl;
   number = refl;
-  begins = (text_of (heading (replicate 32 0) ∷ told []), some_delta);
-  bad = inr (whole, λ h. let (d, cs, is) = h in not_lacking 10 (heading d) (text_of (told cs)) (subst IsLine is.is whole));
+  begins = (text_of (heading (replicate 32 0) ∷ parsed []), some_delta);
+  bad = inr (whole, λ h. let (d, cs, is) = h in not_lacking 10 (heading d) (text_of (parsed cs)) (subst IsLine is.is whole));
 }
 
 pub bad_heading : (text line behind : Text) → text ≡ line ++ 10 ∷ behind → IsLine line → ((digest : List ℕ) → IsDigest digest → line ≢ heading digest) → IsBadAt 1 text
@@ -90,16 +90,16 @@ bad_heading text line behind cut whole none = record {
   whole = All-nil IsLine;
   cut = refl;
   number = refl;
-  begins = (text_of (heading (replicate 32 0) ∷ told []), some_delta);
-  bad = inl (line, behind, whole, cut, λ more h. let (d, cs, is) = h in none d is.sum (same_line line (heading d) more (text_of (told cs)) whole (heading_line d is.sum) is.is).0);
+  begins = (text_of (heading (replicate 32 0) ∷ parsed []), some_delta);
+  bad = inl (line, behind, whole, cut, λ more h. let (d, cs, is) = h in none d is.sum (same_line line (heading d) more (text_of (parsed cs)) whole (heading_line d is.sum) is.is).0);
 }
 
 -- what goes on behind the first line and commands of a delta
 goes_on : (digest : List ℕ) (cs : List Command) (rest : Text) → IsDigest digest → All IsCommand cs → IsSomeDelta (text_of (heading digest ∷ map spelled cs) ++ rest)
-    → (ds : List Command) × All IsCommand ds × (rest ≡ text_of (told ds))
+    → (ds : List Command) × All IsCommand ds × (rest ≡ text_of (parsed ds))
 goes_on digest cs rest sum are (d, es, is) =
-    let cut : heading digest ++ 10 ∷ (commands_text cs ++ rest) ≡ heading d ++ 10 ∷ text_of (told es) = sym (append_assoc (heading digest) (10 ∷ commands_text cs) rest) ∙ is.is in
-    let both = same_line (heading digest) (heading d) (commands_text cs ++ rest) (text_of (told es)) (heading_line digest sum) (heading_line d is.sum) cut in
+    let cut : heading digest ++ 10 ∷ (commands_text cs ++ rest) ≡ heading d ++ 10 ∷ text_of (parsed es) = sym (append_assoc (heading digest) (10 ∷ commands_text cs) rest) ∙ is.is in
+    let both = same_line (heading digest) (heading d) (commands_text cs ++ rest) (text_of (parsed es)) (heading_line digest sum) (heading_line d is.sum) cut in
     behind_commands cs es rest are is.commands (sym both.1)
 
 spelled_lines : (cs : List Command) → All IsCommand cs → All IsLine (map spelled cs)
@@ -122,56 +122,56 @@ bad_other digest cs text behind rest sum first p none no_end = record {
       record {
         sum = sum;
         commands = p.commands;
-        is = append_assoc (heading digest) (10 ∷ commands_text cs) end_text ∙ ap (λ b. heading digest ++ 10 ∷ b) (sym (told_text cs));
+        is = append_assoc (heading digest) (10 ∷ commands_text cs) end_text ∙ ap (λ b. heading digest ++ 10 ∷ b) (sym (reported_text cs));
       },
     ),
   );
   bad = next (first_line rest);
 }
   where
-    no_line : (ds : List Command) (line after more : Text) → IsLine line → rest ≡ line ++ 10 ∷ after → All IsCommand ds → line ++ 10 ∷ more ≡ text_of (told ds) → ⊥
+    no_line : (ds : List Command) (line after more : Text) → IsLine line → rest ≡ line ++ 10 ∷ after → All IsCommand ds → line ++ 10 ∷ more ≡ text_of (parsed ds) → ⊥
     no_line [] line after more whole cut are e =
         let same = same_line line (codes "end") more [] whole end_line e in
         no_end after (cut ∙ ap (λ l. l ++ 10 ∷ after) same.0)
     no_line (d ∷ ds) line after more whole cut are e =
         let is = All-head IsCommand d ds are in
-        let same = same_line line (spelled d) more (text_of (told ds)) whole (spelled_line d is) e in
+        let same = same_line line (spelled d) more (text_of (parsed ds)) whole (spelled_line d is) e in
         none d after is (cut ∙ ap (λ l. l ++ 10 ∷ after) same.0)
 
     next : ((line after : Text) × IsLine line × (rest ≡ line ++ 10 ∷ after)) ⊎ IsLine rest → IsBadBehind (heading digest ∷ map spelled cs) rest
     next (inl (line, after, whole, cut)) =
         inl (line, after, whole, cut, λ more h. let (ds, are, e) = goes_on digest cs (line ++ 10 ∷ more) sum p.commands h in no_line ds line after more whole cut are e)
-    next (inr whole) = inr (whole, λ h. let (ds, are, e) = goes_on digest cs rest sum p.commands h in told_has_end ds (subst IsLine e whole))
+    next (inr whole) = inr (whole, λ h. let (ds, are, e) = goes_on digest cs rest sum p.commands h in reported_has_end ds (subst IsLine e whole))
 
 -- the end is next, and more stands behind it
 bad_behind_end : (digest : List ℕ) (cs : List Command) (text behind rest after : Text) → IsDigest digest → text ≡ heading digest ++ 10 ∷ behind → Passes cs behind rest → rest ≡ end_text ++ after
     → after ≢ [] → IsBadAt (length cs + 3) text
 bad_behind_end digest cs text behind rest after sum first p end some = record {
-  front = heading digest ∷ told cs;
+  front = heading digest ∷ parsed cs;
   rest = after;
-  whole = All-cons IsLine (heading digest) (told cs) (heading_line digest sum) (All-push IsLine (map spelled cs) (codes "end") (spelled_lines cs p.commands) end_line);
+  whole = All-cons IsLine (heading digest) (parsed cs) (heading_line digest sum) (All-push IsLine (map spelled cs) (codes "end") (spelled_lines cs p.commands) end_line);
   cut = all after (first ∙ ap (λ b. heading digest ++ 10 ∷ b) (p.cut ∙ ap (λ r. commands_text cs ++ r) end));
   number = omega (arith, length-append (map spelled cs) (codes "end" ∷ []), length-map cs spelled);
-  begins = ([], (digest, cs, record { sum = sum; commands = p.commands; is = append-nil (text_of (heading digest ∷ told cs)) }));
+  begins = ([], (digest, cs, record { sum = sum; commands = p.commands; is = append-nil (text_of (heading digest ∷ parsed cs)) }));
   bad = next (first_line after);
 }
   where
-    all : (x : Text) → text ≡ heading digest ++ 10 ∷ (commands_text cs ++ (end_text ++ x)) → text ≡ text_of (heading digest ∷ told cs) ++ x
+    all : (x : Text) → text ≡ heading digest ++ 10 ∷ (commands_text cs ++ (end_text ++ x)) → text ≡ text_of (heading digest ∷ parsed cs) ++ x
     all x e =
         e
-        ∙ ap (λ b. heading digest ++ 10 ∷ b) (sym (append_assoc (commands_text cs) end_text x) ∙ ap (λ b. b ++ x) (sym (told_text cs)))
-        ∙ sym (append_assoc (heading digest) (10 ∷ text_of (told cs)) x)
+        ∙ ap (λ b. heading digest ++ 10 ∷ b) (sym (append_assoc (commands_text cs) end_text x) ∙ ap (λ b. b ++ x) (sym (reported_text cs)))
+        ∙ sym (append_assoc (heading digest) (10 ∷ text_of (parsed cs)) x)
 
-    no_more : (x : Text) (ds : List Command) → All IsCommand ds → end_text ++ x ≡ text_of (told ds) → x ≡ []
+    no_more : (x : Text) (ds : List Command) → All IsCommand ds → end_text ++ x ≡ text_of (parsed ds) → x ≡ []
     no_more x [] are e = append_cancel_left end_text x [] (e ∙ sym (append-nil end_text))
     no_more x (d ∷ ds) are e =
-        absurd (end_is_no_command d (same_line (codes "end") (spelled d) x (text_of (told ds)) end_line (spelled_line d (All-head IsCommand d ds are)) e).0)
+        absurd (end_is_no_command d (same_line (codes "end") (spelled d) x (text_of (parsed ds)) end_line (spelled_line d (All-head IsCommand d ds are)) e).0)
 
-    ends : (x : Text) → IsSomeDelta (text_of (heading digest ∷ told cs) ++ x) → x ≡ []
+    ends : (x : Text) → IsSomeDelta (text_of (heading digest ∷ parsed cs) ++ x) → x ≡ []
     ends x h =
-        let back : text_of (heading digest ∷ told cs) ++ x ≡ text_of (heading digest ∷ map spelled cs) ++ (end_text ++ x) =
-        append_assoc (heading digest) (10 ∷ text_of (told cs)) x
-        ∙ ap (λ b. heading digest ++ 10 ∷ b) (ap (λ b. b ++ x) (told_text cs) ∙ append_assoc (commands_text cs) end_text x)
+        let back : text_of (heading digest ∷ parsed cs) ++ x ≡ text_of (heading digest ∷ map spelled cs) ++ (end_text ++ x) =
+        append_assoc (heading digest) (10 ∷ text_of (parsed cs)) x
+        ∙ ap (λ b. heading digest ++ 10 ∷ b) (ap (λ b. b ++ x) (reported_text cs) ∙ append_assoc (commands_text cs) end_text x)
         ∙ sym (append_assoc (heading digest) (10 ∷ commands_text cs) (end_text ++ x))
         in
         let (ds, are, e) = goes_on digest cs (end_text ++ x) sum p.commands (subst IsSomeDelta back h) in
@@ -181,7 +181,7 @@ bad_behind_end digest cs text behind rest after sum first p end some = record {
     never [] more e = cc
     never (b ∷ line) more e = cc
 
-    next : ((line later : Text) × IsLine line × (after ≡ line ++ 10 ∷ later)) ⊎ IsLine after → IsBadBehind (heading digest ∷ told cs) after
+    next : ((line later : Text) × IsLine line × (after ≡ line ++ 10 ∷ later)) ⊎ IsLine after → IsBadBehind (heading digest ∷ parsed cs) after
     next (inl (line, later, whole, cut)) = inl (line, later, whole, cut, λ more h. never line more (ends (line ++ 10 ∷ more) h))
     next (inr whole) = inr (whole, λ h. some (ends after h))
 
@@ -203,7 +203,7 @@ bad_end digest cs text behind rest number bad sum first p none count h =
 -- a delta was read
 pub read_all : (digest : List ℕ) (cs : List Command) (text behind rest : Text) → IsDigest digest → text ≡ heading digest ++ 10 ∷ behind → Passes cs behind rest → rest ≡ end_text → ReadsDelta text digest behind cs
 read_all digest cs text behind rest sum first p end =
-    let told_behind : behind ≡ text_of (told cs) = p.cut ∙ ap (λ r. commands_text cs ++ r) end ∙ sym (told_text cs) in
+    let told_behind : behind ≡ text_of (parsed cs) = p.cut ∙ ap (λ r. commands_text cs ++ r) end ∙ sym (reported_text cs) in
     record {
       is = record { sum = sum; commands = p.commands; is = first ∙ ap (λ b. heading digest ++ 10 ∷ b) told_behind };
       rest = told_behind;

@@ -7,16 +7,16 @@ use Rattle.std.proofs.lemmas.List.Elements.{All-nil, All-cons, All-head, All-tai
 use Rattle.reference.specs.Image.{Second, Text, image}
 use Rattle.reference.specs.Tree.{Tree}
 use Rattle.sha2.specs.Sha256.{sha256}
-use Rattle.lines.specs.Lines.{lines_of}
-use Rattle.lines.specs.Parts.{AppendsPart}
-use Rattle.lines.proofs.Known.{all_is_part, part_after, part_before}
+use Rattle.textio.specs.Lines.{lines_of}
+use Rattle.textio.specs.Parts.{AppendsPart}
+use Rattle.textio.proofs.Known.{all_is_part, part_after, part_before}
 use Rattle.volume.specs.Volumes.{MeanRooted}
-use Rattle.volume.specs.declared.rooted.Rooted.{Rooted}
+use Rattle.volume.specs.declared.fs_root.FsRoot.{FsRoot}
 use Rattle.delta.specs.Applies.{BeginsDelta, IsDifference}
 use Rattle.delta.specs.Deltas.{Command, Come, Go, IsCommand, IsDigest, IsLine, Line, commands_text, heading, patched, text_of}
 use Rattle.delta.specs.Texts.{end_text}
 use Rattle.delta.specs.Walks.{BeginsAll, IsAtStart, Patches, Puts, PutsAll, left, lines_from}
-use Rattle.delta.specs.declared.line_walk.LineWalk.{LineWalk}
+use Rattle.delta.specs.declared.line_cursor.LineCursor.{LineCursor}
 use Rattle.delta.proofs.PatchFacts.{come_made, go_made, lines_free}
 use Rattle.delta.proofs.PrintFacts.{difference, heading_cut, mean_at, patches_none}
 use Rattle.delta.proofs.TextFacts.{commands_append}
@@ -46,7 +46,7 @@ whole_makes [] new = all_come new
 whole_makes (l ∷ old) new = go_made 1 (l ∷ []) old (whole old new) refl ∙ whole_makes old new
 
 -- the lines of an image have no line feeds
-pub from_free : (t : Tree) (w : LineWalk) → All IsLine (lines_from t w)
+pub from_free : (t : Tree) (w : LineCursor) → All IsLine (lines_from t w)
 from_free t w = go w.there refl
   where
     go : (b : Bool) → w.there ≡ b → All IsLine (lines_from t w)
@@ -56,7 +56,7 @@ from_free t w = go w.there refl
 -- ---- commands of which a beginning was written
 
 -- these commands were begun
-pub begun : (cs : List Command) (h i : Option (List ℕ)) (a b x y : LineWalk) → All IsCommand cs → Patches cs a b x y → AppendsPart h i (commands_text cs) → BeginsAll h i a b
+pub begun : (cs : List Command) (h i : Option (List ℕ)) (a b x y : LineCursor) → All IsCommand cs → Patches cs a b x y → AppendsPart h i (commands_text cs) → BeginsAll h i a b
 begun cs h i a b x y commands f text = λ t u m k.
     let rest : List Command = whole (lines_from t x) (lines_from u y) in
     record {
@@ -67,11 +67,11 @@ begun cs h i a b x y commands f text = λ t u m k.
     }
 
 -- nothing was written
-pub begun_none : (h : Option (List ℕ)) (a b : LineWalk) → BeginsAll h h a b
+pub begun_none : (h : Option (List ℕ)) (a b : LineCursor) → BeginsAll h h a b
 begun_none h a b = begun [] h h a b a b (All-nil IsCommand) (patches_none a b) (all_is_part h h [] (Appends-nil h))
 
 -- the line at which the new walk stands was begun
-pub begun_come : (h i : Option (List ℕ)) (a b : LineWalk) → b.there ≡ true → AppendsPart h i (commands_text (Come b.line.items ∷ [])) → BeginsAll h i a b
+pub begun_come : (h i : Option (List ℕ)) (a b : LineCursor) → b.there ≡ true → AppendsPart h i (commands_text (Come b.line.items ∷ [])) → BeginsAll h i a b
 begun_come h i a b there text = λ t u m k.
     let l : Line = b.line.items in
     let new : List Line = lines_of (left u b) in
@@ -84,7 +84,7 @@ begun_come h i a b there text = λ t u m k.
     }
 
 -- commands were written, and behind them others were begun
-pub begun_then : (cs : List Command) (h i j : Option (List ℕ)) (a b x y : LineWalk) → Puts cs h i a b x y → BeginsAll i j x y → BeginsAll h j a b
+pub begun_then : (cs : List Command) (h i j : Option (List ℕ)) (a b x y : LineCursor) → Puts cs h i a b x y → BeginsAll i j x y → BeginsAll h j a b
 begun_then cs h i j a b x y f more = λ t u m k.
     let g = more t u (mean_at a x t f.patches.old_tree m) (mean_at b y u f.patches.new_tree k) in
     record {
@@ -112,13 +112,13 @@ pub delta_none : (h : Option (List ℕ)) (digest : List ℕ) (t u : Tree) → Is
 delta_none h digest t u sum is = delta_heading h h digest t u sum is (part_before h h [] (text_of (heading digest ∷ [])) (all_is_part h h [] (Appends-nil h)))
 
 -- behind the first line
-module _ (h i j : Option (List ℕ)) (digest : List ℕ) (a b : LineWalk) (r s : Rooted) (t u : Tree) (at_a : IsAtStart r a) (at_b : IsAtStart s b) (m : MeanRooted r t) (n : MeanRooted s u)
+module _ (h i j : Option (List ℕ)) (digest : List ℕ) (a b : LineCursor) (r s : FsRoot) (t u : Tree) (at_a : IsAtStart r a) (at_b : IsAtStart s b) (m : MeanRooted r t) (n : MeanRooted s u)
     (sum : IsDigest digest) (is : digest ≡ sha256 (image Second t)) (first : Appends h i (text_of (heading digest ∷ []))) where
   mean_a : MeanRooted a.printing.tree t
-  mean_a = subst (λ (r : Rooted). MeanRooted r t) (sym at_a.same) m
+  mean_a = subst (λ (r : FsRoot). MeanRooted r t) (sym at_a.same) m
 
   mean_b : MeanRooted b.printing.tree u
-  mean_b = subst (λ (r : Rooted). MeanRooted r u) (sym at_b.same) n
+  mean_b = subst (λ (r : FsRoot). MeanRooted r u) (sym at_b.same) n
 
   -- all lines of the walks are those of the images
   pub of_images : (cs : List Command) → All IsCommand cs → patched cs (lines_from t a) ≡ Some (lines_from u b) → IsDifference (heading digest ++ 10 ∷ (commands_text cs ++ end_text)) t u

@@ -6,17 +6,17 @@ use Rattle.delta.specs.Deltas.{IsLine, Stay, Go, Come}
 use Rattle.delta.specs.Texts.{Tells, TellsNone}
 use Rattle.delta.proofs.TextFacts.{heads, tails}
 
-pub come_told : (line rest : Text) → IsLine line → line ≡ codes "+ " ++ rest → Tells line (Come (drop 2 line))
-come_told line rest whole e = record {
+pub come_reported : (line rest : Text) → IsLine line → line ≡ codes "+ " ++ rest → Tells line (Come (drop 2 line))
+come_reported line rest whole e = record {
   command = All-drop (λ b. b ≢ 10) 2 line whole;
   is = e ∙ ap (λ l. codes "+ " ++ l) (sym (ap (drop 2) e));
 }
 
-pub stay_told : (line word : Text) (n : ℕ) → line ≡ codes "= " ++ word → 0 < n → n < 2 ^ 64 → word ≡ decimal n → Tells line (Stay n)
-stay_told line word n e some small is = record { command = (some, small); is = e ∙ ap (λ l. codes "= " ++ l) is }
+pub stay_reported : (line word : Text) (n : ℕ) → line ≡ codes "= " ++ word → 0 < n → n < 2 ^ 64 → word ≡ decimal n → Tells line (Stay n)
+stay_reported line word n e some small is = record { command = (some, small); is = e ∙ ap (λ l. codes "= " ++ l) is }
 
-pub go_told : (line word : Text) (n : ℕ) → line ≡ codes "- " ++ word → 0 < n → n < 2 ^ 64 → word ≡ decimal n → Tells line (Go n)
-go_told line word n e some small is = record { command = (some, small); is = e ∙ ap (λ l. codes "- " ++ l) is }
+pub go_reported : (line word : Text) (n : ℕ) → line ≡ codes "- " ++ word → 0 < n → n < 2 ^ 64 → word ≡ decimal n → Tells line (Go n)
+go_reported line word n e some small is = record { command = (some, small); is = e ∙ ap (λ l. codes "- " ++ l) is }
 
 -- a number word that writes none
 abbrev pub WritesNone : Text → Type 0

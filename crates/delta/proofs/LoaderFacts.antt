@@ -7,37 +7,37 @@ use Rattle.std.proofs.lemmas.Slice.Eq.{bytes_eq-Decides}
 use Rattle.images.specs.Loads.{Loaded, alone}
 use Rattle.images.specs.Taken.{LoadedIn, Took, TookBy, answer_of}
 use Rattle.images.specs.declared.load.LoadFault.TheVariants.{Bad}
-use Rattle.images.specs.declared.loader.Intake.{Intake}
-use Rattle.images.specs.declared.loader.Intake.TheVariants.{Open, Starved, Spoiled}
-use Rattle.images.specs.declared.loader.Loader.{Loader}
-use Rattle.lines.specs.Lines.{lines_of}
+use Rattle.images.specs.declared.loader.FeedOutcome.{FeedOutcome}
+use Rattle.images.specs.declared.loader.FeedOutcome.TheVariants.{Open, Starved, Spoiled}
+use Rattle.images.specs.declared.loader.ImageLoader.{ImageLoader}
+use Rattle.textio.specs.Lines.{lines_of}
 use Rattle.node.specs.declared.shape.Shape.{Shape}
-use Rattle.reference.specs.Image.{Text, Version, Second, as_told, image, root_line}
+use Rattle.reference.specs.Image.{Text, Version, Second, as_reported, image, root_line}
 use Rattle.reference.specs.ImageLines.{IsBadAt as IsBadImageAt, IsImage, Lines, image_of_lines, spelled as spelled_line}
 use Rattle.reference.specs.Shape.{IsTree}
 use Rattle.reference.specs.Tree.{Tree}
 use Rattle.reference.proofs.LinesRead.{one_version}
-use Rattle.reference.proofs.OneImage.{one_image, told_law}
+use Rattle.reference.proofs.OneImage.{one_image, reported_law}
 use Rattle.reference.proofs.TreeLines.{image_law}
 use Rattle.sha2.specs.Sha256.{sha256}
 use Rattle.volume.specs.Volumes.{MeanRooted, Means, PVolume}
-use Rattle.volume.specs.declared.rooted.Rooted.{Rooted}
+use Rattle.volume.specs.declared.fs_root.FsRoot.{FsRoot}
 use Rattle.delta.specs.Applies.{Applied, DoesAll, DoesCommand, IsOfOther, IsOfTree, LoadsPatched, PatchesNone, RoundTripLaw, SpoilsImage}
 use Rattle.delta.specs.Deltas.{Command, Go, IsDelta, Line, Stay, patched, text_of}
 use Rattle.delta.specs.Patching.{Does, IsSpoilt, MakesNoImage}
 use Rattle.delta.specs.Texts.{ReadsDelta, TellsAll}
 use Rattle.delta.specs.Walks.{IsAtStart, lines_from}
-use Rattle.delta.specs.declared.line_walk.LineWalk.{LineWalk}
+use Rattle.delta.specs.declared.line_cursor.LineCursor.{LineCursor}
 use Rattle.delta.proofs.PatchFacts.{text_of_lines}
 use Rattle.delta.proofs.PatchingFacts.{does_go, does_stay, makes_one}
 use Rattle.delta.proofs.TextFacts.{text_append}
 
 -- ---- what is spoilt
 
-pub spoils : (s : Shape) (text : Text) (l : Loader) (n : ℕ) → answer_of l.intake ≡ Err (Bad n) → Took s text l → IsSpoilt text
+pub spoils : (s : Shape) (text : Text) (l : ImageLoader) (n : ℕ) → answer_of l.intake ≡ Err (Bad n) → Took s text l → IsSpoilt text
 spoils s text l n = go l.intake
   where
-    go : (i : Intake) → answer_of i ≡ Err (Bad n) → TookBy i s text l → IsSpoilt text
+    go : (i : FeedOutcome) → answer_of i ≡ Err (Bad n) → TookBy i s text l → IsSpoilt text
     go Open e took = absurd (cc)
     go Starved e took = absurd (cc)
     go (Spoiled m) e took = (m, took)
@@ -56,10 +56,10 @@ spoilt_whole text line bad = subst IsSpoilt (append_assoc text line (10 ∷ []))
 pub kept_line : (text line : Text) (kept : List Line) → (text ++ text_of kept) ++ (line ++ 10 ∷ []) ≡ text ++ text_of (kept ++ line ∷ [])
 kept_line text line kept = append_assoc text (text_of kept) (line ++ 10 ∷ []) ∙ ap (λ x. text ++ x) (sym (text_append kept (line ∷ [])))
 
-pub does_lines : (count : ℕ) (kept old left : List Line) (text : Text) (s : Shape) (l : Loader) → length kept ≡ count → old ≡ kept ++ left → Took s (text ++ text_of kept) l → DoesCommand (Stay count) old text left s l
+pub does_lines : (count : ℕ) (kept old left : List Line) (text : Text) (s : Shape) (l : ImageLoader) → length kept ≡ count → old ≡ kept ++ left → Took s (text ++ text_of kept) l → DoesCommand (Stay count) old text left s l
 does_lines count kept old left text s l size is took = (text ++ text_of kept, subst (λ x. Does (Stay count ∷ []) x text left (text ++ text_of kept)) (sym is) (does_stay count kept left text size), took)
 
-pub does_pass : (count : ℕ) (gone old left : List Line) (text : Text) (s : Shape) (l : Loader) → length gone ≡ count → old ≡ gone ++ left → Took s text l → DoesCommand (Go count) old text left s l
+pub does_pass : (count : ℕ) (gone old left : List Line) (text : Text) (s : Shape) (l : ImageLoader) → length gone ≡ count → old ≡ gone ++ left → Took s text l → DoesCommand (Go count) old text left s l
 does_pass count gone old left text s l size is took = (text, subst (λ x. Does (Go count ∷ []) x text left text) (sym is) (does_go count gone left text size), took)
 
 -- ---- the whole
@@ -110,25 +110,25 @@ round_trip text t u shape v is_t is_u difference made =
     let is_loaded : IsImage got.version (image Second u) = (image_law got.version (image Second u)).1 (got.tree, got.is_tree, sym got.image_is) in
     let version : got.version ≡ Second = one_version got.version Second (image Second u) is_loaded is_image in
     let images : image Second got.tree ≡ image Second u = subst (λ w. image w got.tree ≡ image Second u) version got.image_is in
-    let one : as_told Second got.tree ≡ as_told Second u = one_image Second got.tree u got.is_tree is_u images in
-    let tree : got.tree ≡ u = sym (told_law got.tree) ∙ one ∙ told_law u in
+    let one : as_reported Second got.tree ≡ as_reported Second u = one_image Second got.tree u got.is_tree is_u images in
+    let tree : got.tree ≡ u = sym (reported_law got.tree) ∙ one ∙ reported_law u in
     subst (λ x. Means v (alone x)) tree got.means
 
 -- ---- from the first line to the end
 
-pub mean_start : (a : Rooted) (w : LineWalk) (t : Tree) → IsAtStart a w → MeanRooted a t → MeanRooted w.printing.tree t
-mean_start a w t at m = subst (λ (r : Rooted). MeanRooted r t) (sym at.same) m
+pub mean_start : (a : FsRoot) (w : LineCursor) (t : Tree) → IsAtStart a w → MeanRooted a t → MeanRooted w.printing.tree t
+mean_start a w t at m = subst (λ (r : FsRoot). MeanRooted r t) (sym at.same) m
 
-pub into_ok : (commands : Text) (a : Rooted) (t : Tree) (s : Shape) (w : LineWalk) (l : Loader) (v : PVolume) → IsAtStart a w → MeanRooted a t → ((cs : List Command) → TellsAll commands cs → DoesAll cs (lines_from t w) s l)
+pub into_ok : (commands : Text) (a : FsRoot) (t : Tree) (s : Shape) (w : LineCursor) (l : ImageLoader) (v : PVolume) → IsAtStart a w → MeanRooted a t → ((cs : List Command) → TellsAll commands cs → DoesAll cs (lines_from t w) s l)
     → ((text : Text) → Took s text l → LoadedIn s text v) → LoadsPatched commands t s v
 into_ok commands a t s w l v at m does loads cs tells =
     let did = does cs tells in
     (did.0, ap (patched cs) (sym (at.all t m)) ∙ did.1, loads (text_of did.0) did.2)
 
-pub into_none : (commands : Text) (a : Rooted) (t : Tree) (w : LineWalk) → IsAtStart a w → MeanRooted a t → ((cs : List Command) → TellsAll commands cs → MakesNoImage cs (lines_from t w) []) → PatchesNone commands t
+pub into_none : (commands : Text) (a : FsRoot) (t : Tree) (w : LineCursor) → IsAtStart a w → MeanRooted a t → ((cs : List Command) → TellsAll commands cs → MakesNoImage cs (lines_from t w) []) → PatchesNone commands t
 into_none commands a t w at m none cs tells = subst (λ x. MakesNoImage cs x []) (at.all t m) (none cs tells)
 
-pub into_bad : (commands : Text) (a : Rooted) (t : Tree) (s : Shape) (w : LineWalk) (l : Loader) (n : ℕ) → IsAtStart a w → MeanRooted a t → ((cs : List Command) → TellsAll commands cs → DoesAll cs (lines_from t w) s l)
+pub into_bad : (commands : Text) (a : FsRoot) (t : Tree) (s : Shape) (w : LineCursor) (l : ImageLoader) (n : ℕ) → IsAtStart a w → MeanRooted a t → ((cs : List Command) → TellsAll commands cs → DoesAll cs (lines_from t w) s l)
     → ((text : Text) → Took s text l → IsBadImageAt n text) → PatchesNone commands t
 into_bad commands a t s w l n at m does bad cs tells =
     let did = does cs tells in

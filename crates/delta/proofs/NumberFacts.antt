@@ -11,8 +11,8 @@ use Rattle.std.proofs.lemmas.Fmt.{decimal-digits_value, decimal_nonempty, digits
 use Rattle.hex.specs.Hex.{IsBytes, decode_sized, encode_lower}
 use Rattle.hex.specs.declared.error.FromHexError.{FromHexError}
 use Rattle.hex.proofs.HexLemmas.{decode_of-ok, decode_sized-encode_lower, decode_sized-ok, decode_sized-twice}
-use Rattle.lines.specs.Values.{is_decimal, number_of}
-use Rattle.lines.proofs.ValueFacts.{own}
+use Rattle.textio.specs.Values.{is_decimal, number_of}
+use Rattle.textio.proofs.ValueFacts.{own}
 use Rattle.delta.specs.Deltas.{IsDigest}
 
 -- ---- numbers
@@ -90,12 +90,12 @@ pub decoded_digest : (word out : List ℕ) (r : Result (Unit {0}) FromHexError) 
 decoded_digest word out r h ok = go (decode_sized word 32) refl h
   where
     go : (d : Result (List ℕ) FromHexError) → decode_sized word 32 ≡ d → MatchResult d (λ bytes. (r ≡ Ok tt) × (out ≡ bytes)) (λ e. r ≡ Err e) → IsDigest out
-    go (Ok bytes) is (told, same) =
+    go (Ok bytes) is (parsed, same) =
         let long : length word ≡ 2 * 32 = decode_sized-ok word 32 bytes is in
         let all = decode_of-ok word bytes (sym (decode_sized-twice word 32 long) ∙ is) in
         let size : length out ≡ length bytes = ap length same in
         record { size = omega (arith, size, long, all.2); bytes = subst IsBytes (sym same) all.3 }
-    go (Err e) is told = absurd (let clash : ◌≡◌ {A = Result (Unit {0}) FromHexError} (Ok tt) (Err e) = sym ok ∙ told in cc)
+    go (Err e) is parsed = absurd (let clash : ◌≡◌ {A = Result (Unit {0}) FromHexError} (Ok tt) (Err e) = sym ok ∙ parsed in cc)
 
 -- ---- words that are compared
 

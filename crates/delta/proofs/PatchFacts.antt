@@ -4,7 +4,7 @@ use Rattle.std.specs.List.{All}
 use Rattle.std.proofs.lemmas.Bool.{eqb-true, eqb-false, lt-ltb, le-ltb, ne_eqb, cond-false}
 use Rattle.std.proofs.Math.Seq.{take-append_seam, drop-append_seam}
 use Rattle.std.proofs.lemmas.List.Elements.{All-nil, All-cons, All-head, All-tail}
-use Rattle.lines.specs.Lines.{lines_of}
+use Rattle.textio.specs.Lines.{lines_of}
 use Rattle.pathkey.specs.Texts.{onto_first}
 use Rattle.pathkey.proofs.Pieces.{pieces_cut}
 use Rattle.reference.specs.Image.{Text}

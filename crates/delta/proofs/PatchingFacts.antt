@@ -5,10 +5,10 @@ use Rattle.std.proofs.Math.Seq.{take-append-add}
 use Rattle.std.proofs.lemmas.List.Elements.{All-head, All-tail}
 use Rattle.reference.specs.Image.{Text}
 use Rattle.reference.specs.ImageLines.{IsBadAt as IsBadImageAt}
-use Rattle.delta.specs.Deltas.{Command, Come, Go, IsCommand, Line, Makes, Stay, patched, spelled, text_of, told}
+use Rattle.delta.specs.Deltas.{Command, Come, Go, IsCommand, Line, Makes, Stay, patched, spelled, text_of, parsed}
 use Rattle.delta.specs.Patching.{Does, IsDoing, IsSpoilt, MakesNoImage}
 use Rattle.delta.specs.Texts.{HasNoCommand, IsNext, command_of}
-use Rattle.delta.specs.declared.command.Told.{Told}
+use Rattle.delta.specs.declared.command.DeltaCommand.{DeltaCommand}
 use Rattle.delta.proofs.PatchFacts.{go_made, mapped_none, mapped_some, mapped_twice, stay_made}
 use Rattle.delta.proofs.TextFacts.{end_is_no_command, end_line, one_reading, same_line, same_spelled, spelled_line, text_append}
 
@@ -79,27 +79,27 @@ spoilt_stay n kept old more l text ds few is (m, bad) lines e =
 
 -- ---- which command is next
 
-no_more : (es : List Command) (rest : Text) → All IsCommand es → rest ≡ text_of (told es) → HasNoCommand rest → es ≡ []
+no_more : (es : List Command) (rest : Text) → All IsCommand es → rest ≡ text_of (parsed es) → HasNoCommand rest → es ≡ []
 no_more [] rest are e none = refl
-no_more (c ∷ es) rest are e none = absurd (none c (text_of (told es)) (All-head IsCommand c es are) e)
+no_more (c ∷ es) rest are e none = absurd (none c (text_of (parsed es)) (All-head IsCommand c es are) e)
 
-next_is : (es : List Command) (rest line behind : Text) (t : Told) → All IsCommand es → rest ≡ text_of (told es) → IsNext rest line t behind
-    → (ds : List Command) × (es ≡ command_of t line ∷ ds) × All IsCommand ds × (behind ≡ text_of (told ds))
+next_is : (es : List Command) (rest line behind : Text) (t : DeltaCommand) → All IsCommand es → rest ≡ text_of (parsed es) → IsNext rest line t behind
+    → (ds : List Command) × (es ≡ command_of t line ∷ ds) × All IsCommand ds × (behind ≡ text_of (parsed ds))
 next_is [] rest line behind t are e n =
     let same = same_line (codes "end") line [] behind end_line n.whole (sym e ∙ n.cut) in
     absurd (end_is_no_command (command_of t line) (same.0 ∙ n.tells.is))
 next_is (c ∷ es) rest line behind t are e n =
     let is = All-head IsCommand c es are in
-    let same = same_line line (spelled c) behind (text_of (told es)) n.whole (spelled_line c is) (sym n.cut ∙ e) in
+    let same = same_line line (spelled c) behind (text_of (parsed es)) n.whole (spelled_line c is) (sym n.cut ∙ e) in
     let first : c ≡ command_of t line = same_spelled c (command_of t line) is n.tells.command (sym same.0 ∙ n.tells.is) in
     (es, ap (λ d. d ∷ es) first, All-tail IsCommand c es are, same.1)
 
 -- ---- over a delta
 
-pub doing_start : (cs : List Command) (old : List Line) (text : Text) → All IsCommand cs → text ≡ text_of (told cs) → IsDoing cs old text old []
+pub doing_start : (cs : List Command) (old : List Line) (text : Text) → All IsCommand cs → text ≡ text_of (parsed cs) → IsDoing cs old text old []
 doing_start cs old text are e = record { done = []; more = cs; parts = refl; commands = are; text = e; does = does_nothing old [] }
 
-pub doing_next : (cs : List Command) (old left now : List Line) (rest line behind has gets : Text) (t : Told) → IsDoing cs old rest left has → IsNext rest line t behind
+pub doing_next : (cs : List Command) (old left now : List Line) (rest line behind has gets : Text) (t : DeltaCommand) → IsDoing cs old rest left has → IsNext rest line t behind
     → Does (command_of t line ∷ []) left has now gets → IsDoing cs old behind now gets
 doing_next cs old left now rest line behind has gets t d n step =
     let c = command_of t line in
@@ -126,7 +126,7 @@ doing_left cs old more l rest has d none =
     let short : patched d.more (l ∷ more) ≡ None = ap (λ k. patched k (l ∷ more)) all in
     subst (λ k. MakesNoImage k old []) (sym d.parts) (spoilt_behind d.done d.more old (l ∷ more) [] has d.does (short_now d.more (l ∷ more) has short))
 
-pub doing_spoilt : (cs : List Command) (old left : List Line) (rest line behind has : Text) (t : Told) → IsDoing cs old rest left has → IsNext rest line t behind
+pub doing_spoilt : (cs : List Command) (old left : List Line) (rest line behind has : Text) (t : DeltaCommand) → IsDoing cs old rest left has → IsNext rest line t behind
     → ((ds : List Command) → MakesNoImage (command_of t line ∷ ds) left has) → MakesNoImage cs old []
 doing_spoilt cs old left rest line behind has t d n none =
     let next = next_is d.more rest line behind t d.commands d.text n in

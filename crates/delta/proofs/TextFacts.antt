@@ -8,7 +8,7 @@ use Rattle.std.proofs.lemmas.List.Elements.{All-nil, All-cons, All-head, All-tai
 use Rattle.hex.specs.Hex.{encode_lower, decode_of, is_hex_digit}
 use Rattle.hex.proofs.HexLemmas.{decode_of-encode_lower, decode_of-ok, decode_of-same}
 use Rattle.reference.specs.Image.{Text}
-use Rattle.delta.specs.Deltas.{Line, IsLine, text_of, Command, Stay, Go, Come, IsCommand, IsDigest, IsDelta, commands_text, heading, spelled, told}
+use Rattle.delta.specs.Deltas.{Line, IsLine, text_of, Command, Stay, Go, Come, IsCommand, IsDigest, IsDelta, commands_text, heading, spelled, parsed}
 use Rattle.delta.specs.Texts.{end_text}
 
 -- ---- lines
@@ -43,9 +43,9 @@ pub commands_append : (cs ds : List Command) → commands_text (cs ++ ds) ≡ co
 commands_append [] ds = refl
 commands_append (c ∷ cs) ds = ap (λ t. spelled c ++ 10 ∷ t) (commands_append cs ds) ∙ sym (append_assoc (spelled c) (10 ∷ commands_text cs) (commands_text ds))
 
-pub told_text : (cs : List Command) → text_of (told cs) ≡ commands_text cs ++ end_text
-told_text [] = refl
-told_text (c ∷ cs) = ap (λ t. spelled c ++ 10 ∷ t) (told_text cs) ∙ sym (append_assoc (spelled c) (10 ∷ commands_text cs) end_text)
+pub reported_text : (cs : List Command) → text_of (parsed cs) ≡ commands_text cs ++ end_text
+reported_text [] = refl
+reported_text (c ∷ cs) = ap (λ t. spelled c ++ 10 ∷ t) (reported_text cs) ∙ sym (append_assoc (spelled c) (10 ∷ commands_text cs) end_text)
 
 -- ---- spellings
 
@@ -117,26 +117,26 @@ same_heading d e a b same = same_digits d e a b (append_cancel_left (codes "delt
 -- ---- what stands behind commands
 
 -- a text that begins with commands, and is all that a delta has behind its first line, goes on with commands and the end
-pub behind_commands : (cs es : List Command) (rest : Text) → All IsCommand cs → All IsCommand es → text_of (told es) ≡ commands_text cs ++ rest
-    → (ds : List Command) × All IsCommand ds × (rest ≡ text_of (told ds))
+pub behind_commands : (cs es : List Command) (rest : Text) → All IsCommand cs → All IsCommand es → text_of (parsed es) ≡ commands_text cs ++ rest
+    → (ds : List Command) × All IsCommand ds × (rest ≡ text_of (parsed ds))
 behind_commands [] es rest a b e = (es, b, sym e)
 behind_commands (c ∷ cs) [] rest a b e =
     let cut : codes "end" ++ 10 ∷ [] ≡ spelled c ++ 10 ∷ (commands_text cs ++ rest) = e ∙ append_assoc (spelled c) (10 ∷ commands_text cs) rest in
     absurd (end_is_no_command c (same_line (codes "end") (spelled c) [] (commands_text cs ++ rest) end_line (spelled_line c (All-head IsCommand c cs a)) cut).0)
 behind_commands (c ∷ cs) (d ∷ es) rest a b e =
-    let cut : spelled d ++ 10 ∷ text_of (told es) ≡ spelled c ++ 10 ∷ (commands_text cs ++ rest) = e ∙ append_assoc (spelled c) (10 ∷ commands_text cs) rest in
-    let both = same_line (spelled d) (spelled c) (text_of (told es)) (commands_text cs ++ rest) (spelled_line d (All-head IsCommand d es b)) (spelled_line c (All-head IsCommand c cs a)) cut in
+    let cut : spelled d ++ 10 ∷ text_of (parsed es) ≡ spelled c ++ 10 ∷ (commands_text cs ++ rest) = e ∙ append_assoc (spelled c) (10 ∷ commands_text cs) rest in
+    let both = same_line (spelled d) (spelled c) (text_of (parsed es)) (commands_text cs ++ rest) (spelled_line d (All-head IsCommand d es b)) (spelled_line c (All-head IsCommand c cs a)) cut in
     behind_commands cs es rest (All-tail IsCommand c cs a) (All-tail IsCommand d es b) both.1
 
 -- commands are known from their text
-pub same_commands : (cs es : List Command) → All IsCommand cs → All IsCommand es → text_of (told cs) ≡ text_of (told es) → cs ≡ es
+pub same_commands : (cs es : List Command) → All IsCommand cs → All IsCommand es → text_of (parsed cs) ≡ text_of (parsed es) → cs ≡ es
 same_commands [] [] a b e = refl
-same_commands [] (d ∷ es) a b e = absurd (end_is_no_command d (same_line (codes "end") (spelled d) [] (text_of (told es)) end_line (spelled_line d (All-head IsCommand d es b)) e).0)
-same_commands (c ∷ cs) [] a b e = absurd (end_is_no_command c (same_line (codes "end") (spelled c) [] (text_of (told cs)) end_line (spelled_line c (All-head IsCommand c cs a)) (sym e)).0)
+same_commands [] (d ∷ es) a b e = absurd (end_is_no_command d (same_line (codes "end") (spelled d) [] (text_of (parsed es)) end_line (spelled_line d (All-head IsCommand d es b)) e).0)
+same_commands (c ∷ cs) [] a b e = absurd (end_is_no_command c (same_line (codes "end") (spelled c) [] (text_of (parsed cs)) end_line (spelled_line c (All-head IsCommand c cs a)) (sym e)).0)
 same_commands (c ∷ cs) (d ∷ es) a b e =
     let is_c = All-head IsCommand c cs a in
     let is_d = All-head IsCommand d es b in
-    let both = same_line (spelled c) (spelled d) (text_of (told cs)) (text_of (told es)) (spelled_line c is_c) (spelled_line d is_d) e in
+    let both = same_line (spelled c) (spelled d) (text_of (parsed cs)) (text_of (parsed es)) (spelled_line c is_c) (spelled_line d is_d) e in
     let first : c ≡ d = same_spelled c d is_c is_d both.0 in
     let more : cs ≡ es = same_commands cs es (All-tail IsCommand c cs a) (All-tail IsCommand d es b) both.1 in
     cc
@@ -144,5 +144,5 @@ same_commands (c ∷ cs) (d ∷ es) a b e =
 -- a delta tells one digest and one list of commands
 pub one_reading : (text : Text) (d e : List ℕ) (cs es : List Command) → IsDelta text d cs → IsDelta text e es → (d ≡ e) × (cs ≡ es)
 one_reading text d e cs es a b =
-    let both = same_line (heading d) (heading e) (text_of (told cs)) (text_of (told es)) (heading_line d a.sum) (heading_line e b.sum) (sym a.is ∙ b.is) in
+    let both = same_line (heading d) (heading e) (text_of (parsed cs)) (text_of (parsed es)) (heading_line d a.sum) (heading_line e b.sum) (sym a.is ∙ b.is) in
     (same_heading d e a.sum b.sum both.0, same_commands cs es a.commands b.commands both.1)

@@ -4,14 +4,14 @@ use Rattle.std.proofs.lemmas.Bool.{eqb-false, eqb-true, false≢true, lt-ltb}
 use Rattle.std.proofs.Math.Seq.{drop-append_seam}
 use Rattle.std.proofs.lemmas.List.{drop-drop, drop-take, drop_all, length-take-le}
 use Rattle.images.specs.Printings.{HandsOver}
-use Rattle.lines.specs.Lines.{lines_of}
+use Rattle.textio.specs.Lines.{lines_of}
 use Rattle.reference.specs.Image.{Text, Second, image}
 use Rattle.reference.specs.Tree.{Tree}
 use Rattle.volume.specs.Volumes.{MeanRooted}
-use Rattle.volume.specs.declared.rooted.Rooted.{Rooted}
+use Rattle.volume.specs.declared.fs_root.FsRoot.{FsRoot}
 use Rattle.delta.specs.Deltas.{IsLine, Line}
 use Rattle.delta.specs.Walks.{IsAtStart, ReadsLine, Refills, SameTree, TakesPart, Walks, left, lines_from, unread}
-use Rattle.delta.specs.declared.line_walk.LineWalk.{LineWalk}
+use Rattle.delta.specs.declared.line_cursor.LineCursor.{LineCursor}
 use Rattle.delta.proofs.PatchFacts.{lines_cut, lines_whole}
 
 -- ---- pieces
@@ -48,7 +48,7 @@ no_items n (x ∷ items) true e size h = absurd (let z : n ≡ 0 = eqb-true n 0 
 no_items n (x ∷ items) false e size h = absurd (false≢true (sym h))
 
 -- a piece was printed where all before was read
-pub refilled : (old w : LineWalk) (n k : ℕ) (had new : List ℕ) (more : Bool) → ((t : Tree) → MeanRooted old.printing.tree t → HandsOver (image Second t) old.printing.done n had new)
+pub refilled : (old w : LineCursor) (n k : ℕ) (had new : List ℕ) (more : Bool) → ((t : Tree) → MeanRooted old.printing.tree t → HandsOver (image Second t) old.printing.done n had new)
     → w.printing ≡ record old.printing { done = old.printing.done + n } → length new ≡ length had → w.piece.items ≡ new → w.used ≡ 0 → w.filled ≡ k → (n ≤ length new → k ≡ n)
     → w.line.items ≡ old.line.items → 0 < length had → (more ≡ false → n ≡ 0) → Refills more old w
 refilled old w n k had new more hands on size items used filled whole line some end = record {
@@ -90,23 +90,23 @@ none_behind items filled h = drop_all filled (take filled items) (let e : length
 -- ---- a line
 
 -- of what was left at a start, this line was read so far
-pub record InLine (start now : LineWalk) : Type 0 where
+pub record InLine (start now : LineCursor) : Type 0 where
   pub same : SameTree start now
   pub so_far : (t : Tree) → MeanRooted start.printing.tree t → left t start ≡ now.line.items ++ left t now
 
-pub line_starts : (start : LineWalk) → start.line.items ≡ [] → InLine start start
+pub line_starts : (start : LineCursor) → start.line.items ≡ [] → InLine start start
 line_starts start none = record { same = refl; so_far = λ t m. ap (λ l. l ++ left t start) (sym none) }
 
-pub mean_now : (start now : LineWalk) (t : Tree) → SameTree start now → MeanRooted start.printing.tree t → MeanRooted now.printing.tree t
-mean_now start now t same m = subst (λ (r : Rooted). MeanRooted r t) (sym same) m
+pub mean_now : (start now : LineCursor) (t : Tree) → SameTree start now → MeanRooted start.printing.tree t → MeanRooted now.printing.tree t
+mean_now start now t same m = subst (λ (r : FsRoot). MeanRooted r t) (sym same) m
 
-pub line_goes_on : (start now mid next : LineWalk) (more : Bool) → InLine start now → TakesPart false now mid → Refills more mid next → InLine start next
+pub line_goes_on : (start now mid next : LineCursor) (more : Bool) → InLine start now → TakesPart false now mid → Refills more mid next → InLine start next
 line_goes_on start now mid next more l p r =
     let tree : mid.printing.tree ≡ now.printing.tree = ap (λ q. q.tree) p.printing in
     record {
       same = r.same ∙ tree ∙ l.same;
       so_far = λ t m.
-          let mean_mid : MeanRooted mid.printing.tree t = subst (λ (r : Rooted). MeanRooted r t) (sym (tree ∙ l.same)) m in
+          let mean_mid : MeanRooted mid.printing.tree t = subst (λ (r : FsRoot). MeanRooted r t) (sym (tree ∙ l.same)) m in
           let next_left : left t next ≡ drop now.printing.done (image Second t) = r.next t mean_mid ∙ ap (λ q. drop q.done (image Second t)) p.printing in
           let line : next.line.items ≡ now.line.items ++ p.part = r.line ∙ p.line in
           l.so_far t m
@@ -117,7 +117,7 @@ line_goes_on start now mid next more l p r =
     }
 
 -- up to its end
-pub line_ends : (start now mid w : LineWalk) → InLine start now → TakesPart true now mid → IsLine mid.line.items → w.printing ≡ mid.printing → unread w ≡ unread mid → w.line.items ≡ mid.line.items → w.there ≡ true
+pub line_ends : (start now mid w : LineCursor) → InLine start now → TakesPart true now mid → IsLine mid.line.items → w.printing ≡ mid.printing → unread w ≡ unread mid → w.line.items ≡ mid.line.items → w.there ≡ true
     → ReadsLine start w
 line_ends start now mid w l p whole printing rest line there = record {
   same = ap (λ q. q.tree) (printing ∙ p.printing) ∙ l.same;
@@ -140,7 +140,7 @@ line_ends start now mid w l p whole printing rest line there = record {
 }
 
 -- or up to the end of the image
-pub line_is_last : (start now mid next w : LineWalk) → InLine start now → TakesPart false now mid → Refills false mid next → IsLine next.line.items → w.printing ≡ next.printing → unread w ≡ unread next
+pub line_is_last : (start now mid next w : LineCursor) → InLine start now → TakesPart false now mid → Refills false mid next → IsLine next.line.items → w.printing ≡ next.printing → unread w ≡ unread next
     → w.line.items ≡ next.line.items → (w.there ≡ true → next.line.items ≢ []) → (w.there ≡ false → next.line.items ≡ []) → ReadsLine start w
 line_is_last start now mid next w l p r whole printing rest line some none =
     let on = line_goes_on start now mid next false l p r in
@@ -148,7 +148,7 @@ line_is_last start now mid next w l p r whole printing rest line some none =
       same = ap (λ q. q.tree) printing ∙ on.same;
       next = λ t m.
           let tree : mid.printing.tree ≡ start.printing.tree = ap (λ q. q.tree) p.printing ∙ l.same in
-          let mean_mid : MeanRooted mid.printing.tree t = subst (λ (r : Rooted). MeanRooted r t) (sym tree) m in
+          let mean_mid : MeanRooted mid.printing.tree t = subst (λ (r : FsRoot). MeanRooted r t) (sym tree) m in
           let end : left t next ≡ [] = r.end t mean_mid refl in
           let left_w : left t w ≡ [] = ap (λ u. u ++ drop w.printing.done (image Second t)) rest ∙ ap (λ q. unread next ++ drop q.done (image Second t)) printing ∙ end in
           let all : left t start ≡ next.line.items = on.so_far t m ∙ ap (λ x. next.line.items ++ x) end ∙ append-nil next.line.items in
@@ -164,49 +164,49 @@ line_is_last start now mid next w l p r whole printing rest line some none =
 
 -- ---- lines
 
-pub walks_none : (w : LineWalk) → Walks [] w w
+pub walks_none : (w : LineCursor) → Walks [] w w
 walks_none w = record { same = refl; over = λ t m. refl }
 
-pub walks_more : (ls : List Line) (l : Line) (a b c : LineWalk) → Walks ls a b → Walks (l ∷ []) b c → Walks (ls ++ l ∷ []) a c
+pub walks_more : (ls : List Line) (l : Line) (a b c : LineCursor) → Walks ls a b → Walks (l ∷ []) b c → Walks (ls ++ l ∷ []) a c
 walks_more ls l a b c f g = record {
   same = g.same ∙ f.same;
   over = λ t m. f.over t m ∙ ap (λ x. ls ++ x) (g.over t (mean_now a b t f.same m)) ∙ sym (append_assoc ls (l ∷ []) (lines_from t c));
 }
 
-pub walks_one : (a b : LineWalk) → a.there ≡ true → ReadsLine a b → Walks (a.line.items ∷ []) a b
+pub walks_one : (a b : LineCursor) → a.there ≡ true → ReadsLine a b → Walks (a.line.items ∷ []) a b
 walks_one a b there r = record {
   same = r.same;
   over = λ t m. ap (λ x. cond x (a.line.items ∷ lines_of (left t a)) []) there ∙ ap (λ ls. a.line.items ∷ ls) (r.next t m);
 }
 
 -- behind the last line
-pub none_left : (t : Tree) (w : LineWalk) → w.there ≡ false → lines_from t w ≡ []
+pub none_left : (t : Tree) (w : LineCursor) → w.there ≡ false → lines_from t w ≡ []
 none_left t w there = ap (λ x. cond x (w.line.items ∷ lines_of (left t w)) []) there
 
-pub some_left : (t : Tree) (w : LineWalk) → w.there ≡ true → lines_from t w ≡ w.line.items ∷ lines_of (left t w)
+pub some_left : (t : Tree) (w : LineCursor) → w.there ≡ true → lines_from t w ≡ w.line.items ∷ lines_of (left t w)
 some_left t w there = ap (λ x. cond x (w.line.items ∷ lines_of (left t w)) []) there
 
 -- at the first line
-pub at_start : (tree : Rooted) (start w : LineWalk) → start.printing.tree ≡ tree → start.printing.done ≡ 0 → start.used ≡ 0 → start.filled ≡ 0 → ReadsLine start w → IsAtStart tree w
+pub at_start : (tree : FsRoot) (start w : LineCursor) → start.printing.tree ≡ tree → start.printing.done ≡ 0 → start.used ≡ 0 → start.filled ≡ 0 → ReadsLine start w → IsAtStart tree w
 at_start tree start w same fresh used filled r = record {
   same = r.same ∙ same;
   all = λ t m.
       let none : unread start ≡ [] = ap (λ (k : ℕ). drop k (take start.filled start.piece.items)) used ∙ ap (λ (k : ℕ). take k start.piece.items) filled in
       let all : left t start ≡ image Second t = ap (λ u. u ++ drop start.printing.done (image Second t)) none ∙ ap (λ (k : ℕ). drop k (image Second t)) fresh in
-      sym (r.next t (subst (λ (x : Rooted). MeanRooted x t) (sym same) m)) ∙ ap lines_of all;
+      sym (r.next t (subst (λ (x : FsRoot). MeanRooted x t) (sym same) m)) ∙ ap lines_of all;
 }
 
 -- a line that is read, where the entry's is noted behind it
-pub read_noted : (start cleared mid w : LineWalk) → cleared.printing ≡ start.printing → unread cleared ≡ unread start → ReadsLine cleared mid → ((t : Tree) → lines_from t w ≡ lines_from t mid) → SameTree mid w → ReadsLine start w
+pub read_noted : (start cleared mid w : LineCursor) → cleared.printing ≡ start.printing → unread cleared ≡ unread start → ReadsLine cleared mid → ((t : Tree) → lines_from t w ≡ lines_from t mid) → SameTree mid w → ReadsLine start w
 read_noted start cleared mid w printing rest r lines same = record {
   same = same ∙ r.same ∙ ap (λ q. q.tree) printing;
   next = λ t m.
       let here : left t cleared ≡ left t start = ap (λ u. u ++ drop cleared.printing.done (image Second t)) rest ∙ ap (λ q. unread start ++ drop q.done (image Second t)) printing in
-      ap lines_of (sym here) ∙ r.next t (subst (λ (x : Rooted). MeanRooted x t) (sym (ap (λ q. q.tree) printing)) m) ∙ sym (lines t);
+      ap lines_of (sym here) ∙ r.next t (subst (λ (x : FsRoot). MeanRooted x t) (sym (ap (λ q. q.tree) printing)) m) ∙ sym (lines t);
 }
 
 -- fewer lines are left than so many
-pub ended_short : (gone : List Line) (t : Tree) (a b : LineWalk) (counter count : ℕ) → Walks gone a b → length gone ≡ counter → b.there ≡ false → MeanRooted a.printing.tree t → counter < count → length (lines_from t a) < count
+pub ended_short : (gone : List Line) (t : Tree) (a b : LineCursor) (counter count : ℕ) → Walks gone a b → length gone ≡ counter → b.there ≡ false → MeanRooted a.printing.tree t → counter < count → length (lines_from t a) < count
 ended_short gone t a b counter count f size there m few =
     let all : length (lines_from t a) ≡ length gone = ap length (f.over t m ∙ ap (λ x. gone ++ x) (none_left t b there) ∙ append-nil gone) in
     omega arith

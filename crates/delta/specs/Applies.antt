@@ -3,9 +3,9 @@ use Rattle.std.specs.Prelude.{◌≡◌, ◌≢◌, ℕ, Bool, true, false, List
 use Rattle.std.specs.Io.KnownBytes.{Appends}
 use Rattle.images.specs.Loads.{alone}
 use Rattle.images.specs.Taken.{LoadedIn, Took}
-use Rattle.images.specs.declared.loader.Loader.{Loader}
-use Rattle.lines.specs.Lines.{lines_of}
-use Rattle.lines.specs.Parts.{AppendsPart}
+use Rattle.images.specs.declared.loader.ImageLoader.{ImageLoader}
+use Rattle.textio.specs.Lines.{lines_of}
+use Rattle.textio.specs.Parts.{AppendsPart}
 use Rattle.reference.specs.Image.{Text, Second, image}
 use Rattle.reference.specs.Shape.{IsTree}
 use Rattle.reference.specs.Tree.{Tree}
@@ -60,11 +60,11 @@ abbrev pub PatchesNone : Text → Tree → Type 0
 PatchesNone text t = (cs : List Command) → TellsAll text cs → MakesNoImage cs (lines_of (image Second t)) []
 
 -- a command was done, and the loader took what it makes
-abbrev pub DoesCommand : Command → List Line → Text → List Line → Shape → Loader → Type 0
+abbrev pub DoesCommand : Command → List Line → Text → List Line → Shape → ImageLoader → Type 0
 DoesCommand c old text left s l = (has : Text) × Does (c ∷ []) old text left has × Took s has l
 
 -- all were done
-abbrev pub DoesAll : List Command → List Line → Shape → Loader → Type 0
+abbrev pub DoesAll : List Command → List Line → Shape → ImageLoader → Type 0
 DoesAll cs old s l = (lines : List Line) × (patched cs old ≡ Some lines) × Took s (text_of lines) l
 
 -- ---- laws

@@ -3,7 +3,7 @@ use Rattle.std.specs.Prelude.{◌≡◌, ◌≢◌, ℕ, ◌<◌, ◌^◌, nat_l
 use Rattle.hex.specs.Hex.{IsBytes, encode_lower}
 use Rattle.reference.specs.Image.{Text}
 use Rattle.sha2.specs.Sha256.{sha256}
-use Rattle.lines.specs.Lines.{lines_of}
+use Rattle.textio.specs.Lines.{lines_of}
 
 -- a line, without its line feed
 abbrev pub Line : Type 0
@@ -60,8 +60,8 @@ abbrev pub heading : List ℕ → Line
 heading digest = codes "delta 1 " ++ encode_lower digest
 
 -- the lines behind it: those of the commands, and the last
-abbrev pub told : List Command → List Line
-told cs = map spelled cs ++ codes "end" ∷ []
+abbrev pub parsed : List Command → List Line
+parsed cs = map spelled cs ++ codes "end" ∷ []
 
 -- 32 bytes
 pub record IsDigest (digest : List ℕ) : Type 0 where
@@ -72,7 +72,7 @@ pub record IsDigest (digest : List ℕ) : Type 0 where
 pub record IsDelta (text : Text) (digest : List ℕ) (cs : List Command) : Type 0 where
   pub sum : IsDigest digest
   pub commands : All IsCommand cs
-  pub is : text ≡ text_of (heading digest ∷ told cs)
+  pub is : text ≡ text_of (heading digest ∷ parsed cs)
 
 abbrev pub IsSomeDelta : Text → Type 0
 IsSomeDelta text = (digest : List ℕ) × (cs : List Command) × IsDelta text digest cs

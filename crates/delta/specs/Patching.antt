@@ -2,7 +2,7 @@
 use Rattle.std.specs.Prelude.{◌≡◌, ℕ, List, [], ◌++◌, All, Some, option_map}
 use Rattle.reference.specs.Image.{Text}
 use Rattle.reference.specs.ImageLines.{IsBadAt as IsBadImageAt}
-use Rattle.delta.specs.Deltas.{Command, IsCommand, Line, patched, text_of, told}
+use Rattle.delta.specs.Deltas.{Command, IsCommand, Line, patched, text_of, parsed}
 
 -- commands were done on old lines: what they make was added to a text, and these lines are left
 pub record Does (cs : List Command) (old : List Line) (text : Text) (left : List Line) (has : Text) : Type 0 where
@@ -16,7 +16,7 @@ pub record IsDoing (cs : List Command) (old : List Line) (rest : Text) (left : L
   pub more : List Command
   pub parts : cs ≡ done ++ more
   pub commands : All IsCommand more
-  pub text : rest ≡ text_of (told more)
+  pub text : rest ≡ text_of (parsed more)
   pub does : Does done old [] left has
 
 -- whatever follows the text, it is no image from one line on

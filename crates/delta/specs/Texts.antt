@@ -1,12 +1,12 @@
 -- Which texts are no deltas, and from which line on.
 use Rattle.std.specs.Prelude.{◌≡◌, ◌≢◌, ◌⊎◌, ℕ, ◌+◌, List, [], ◌∷◌, ◌++◌, length, drop, codes, All}
 use Rattle.reference.specs.Image.{Text}
-use Rattle.delta.specs.Deltas.{Line, IsLine, text_of, Command, Stay, Go, Come, IsCommand, IsDelta, IsSomeDelta, commands_text, spelled, told}
-use Rattle.delta.specs.declared.command.Told.{Told}
-use Rattle.delta.specs.declared.command.Told.TheVariants.{Stay as StayTold, Go as GoTold, Come as ComeTold}
+use Rattle.delta.specs.Deltas.{Line, IsLine, text_of, Command, Stay, Go, Come, IsCommand, IsDelta, IsSomeDelta, commands_text, spelled, parsed}
+use Rattle.delta.specs.declared.command.DeltaCommand.{DeltaCommand}
+use Rattle.delta.specs.declared.command.DeltaCommand.TheVariants.{Stay as StayTold, Go as GoTold, Come as ComeTold}
 
 -- the command that was read of a line
-abbrev pub command_of : Told → Line → Command
+abbrev pub command_of : DeltaCommand → Line → Command
 command_of (StayTold n) line = Stay n
 command_of (GoTold n) line = Go n
 command_of ComeTold line = Come (drop 2 line)
@@ -21,7 +21,7 @@ pub record Tells (line : Line) (c : Command) : Type 0 where
   pub is : line ≡ spelled c
 
 -- the text goes on with the line of a command, and with this text behind it
-pub record IsNext (text line : Text) (t : Told) (behind : Text) : Type 0 where
+pub record IsNext (text line : Text) (t : DeltaCommand) (behind : Text) : Type 0 where
   pub cut : text ≡ line ++ 10 ∷ behind
   pub whole : IsLine line
   pub tells : Tells line (command_of t line)
@@ -48,12 +48,12 @@ pub record NoEnd (text : Text) (number bad : ℕ) : Type 0 where
 -- the text has these commands, and the end behind them
 pub record TellsAll (text : Text) (cs : List Command) : Type 0 where
   pub commands : All IsCommand cs
-  pub is : text ≡ text_of (told cs)
+  pub is : text ≡ text_of (parsed cs)
 
 -- the text is a delta that tells this digest and these commands, and this is all behind its first line
 pub record ReadsDelta (text digest behind : Text) (cs : List Command) : Type 0 where
   pub is : IsDelta text digest cs
-  pub rest : behind ≡ text_of (told cs)
+  pub rest : behind ≡ text_of (parsed cs)
 
 -- behind these lines of the text stands one with which no delta begins; or none stands there, and the text is no delta
 abbrev pub IsBadBehind : List Line → Text → Type 0

@@ -1,18 +1,18 @@
 //! The lines of a delta that tell commands: how many lines of the old image stay, or go, or which line comes.
 ghost use Rattle.std.specs.Prelude.{◌≡◌, ◌≢◌, ◌∷◌, [], ◌<◌, ◌^◌, ℕ, MatchOption, OnErr, OnOk, decimal};
 ghost use Rattle.std.specs.Io.KnownBytes.{Appends};
-ghost use Rattle.lines.specs.Parts.{AppendsPart};
+ghost use Rattle.textio.specs.Parts.{AppendsPart};
 ghost use Rattle.delta.specs.Deltas.{Come, Go, IsLine, Stay, commands_text, run};
 ghost use Rattle.delta.specs.Texts.{Tells, TellsNone, command_of};
 
-use lines::output::{WriteFailed, put};
-use lines::text::put_number_line;
-use lines::values::read_number;
 use std::io::Write;
+use textio::output::{WriteFailed, put};
+use textio::text::put_number_line;
+use textio::values::read_number;
 
 /// A command as its line tells it.
 #[derive(Clone, Copy, Debug, PartialEq, Eq)]
-pub enum Told {
+pub enum DeltaCommand {
     /// So many lines of the old image stay.
     Stay(u64),
     /// So many go.
@@ -22,22 +22,22 @@ pub enum Told {
 }
 
 /// The command that a line tells; none where it tells none.
-pub fn read_command(line: &[u8]) -> Option<Told>
+pub fn read_command(line: &[u8]) -> Option<DeltaCommand>
     requires { IsLine line.now }
-    ensures { MatchOption result (TellsNone line.now) (λ told. Tells line.now (command_of told line.now)) }
+    ensures { MatchOption result (TellsNone line.now) (λ parsed. Tells line.now (command_of parsed line.now)) }
 {
     if let Some(_) = line.strip_prefix(b"+ ") {
-        return Some(Told::Come);
+        return Some(DeltaCommand::Come);
     }
     if let Some(word) = line.strip_prefix(b"= ") {
         return match read_count(word) {
-            Some(count) => Some(Told::Stay(count)),
+            Some(count) => Some(DeltaCommand::Stay(count)),
             None => None,
         };
     }
     if let Some(word) = line.strip_prefix(b"- ") {
         return match read_count(word) {
-            Some(count) => Some(Told::Go(count)),
+            Some(count) => Some(DeltaCommand::Go(count)),
             None => None,
         };
     }
@@ -58,7 +58,7 @@ fn read_count(word: &[u8]) -> Option<u64>
 }
 
 /// Writes that so many lines stay, or a beginning of it; nothing where they are none.
-pub(crate) fn put_stay<W: Write>(writer: &mut W, count: u64) -> Result<(), WriteFailed>
+pub(crate) fn print_copy<W: Write>(writer: &mut W, count: u64) -> Result<(), WriteFailed>
     ensures ok { OnOk result (Appends (W.contents writer.old) (W.contents writer.new) (commands_text (run Stay count))) }
     ensures err { OnErr result (AppendsPart (W.contents writer.old) (W.contents writer.new) (commands_text (run Stay count))) }
 {
@@ -69,7 +69,7 @@ pub(crate) fn put_stay<W: Write>(writer: &mut W, count: u64) -> Result<(), Write
 }
 
 /// Writes that so many lines go, or a beginning of it; nothing where they are none.
-pub(crate) fn put_go<W: Write>(writer: &mut W, count: u64) -> Result<(), WriteFailed>
+pub(crate) fn print_delete<W: Write>(writer: &mut W, count: u64) -> Result<(), WriteFailed>
     ensures ok { OnOk result (Appends (W.contents writer.old) (W.contents writer.new) (commands_text (run Go count))) }
     ensures err { OnErr result (AppendsPart (W.contents writer.old) (W.contents writer.new) (commands_text (run Go count))) }
 {
@@ -80,7 +80,7 @@ pub(crate) fn put_go<W: Write>(writer: &mut W, count: u64) -> Result<(), WriteFa
 }
 
 /// Writes that a line comes, or a beginning of it.
-pub(crate) fn put_come<W: Write>(writer: &mut W, line: &[u8]) -> Result<(), WriteFailed>
+pub(crate) fn print_insert<W: Write>(writer: &mut W, line: &[u8]) -> Result<(), WriteFailed>
     ensures ok { OnOk result (Appends (W.contents writer.old) (W.contents writer.new) (commands_text (Come line.now ∷ []))) }
     ensures err { OnErr result (AppendsPart (W.contents writer.old) (W.contents writer.new) (commands_text (Come line.now ∷ []))) }
 {

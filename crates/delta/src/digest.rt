@@ -5,7 +5,7 @@ ghost use Rattle.reference.specs.Tree.{Tree};
 ghost use Rattle.sha2.specs.Sha256.{sha256};
 ghost use Rattle.volume.specs.Volumes.{MeanRooted};
 
-use images::Printing;
+use images::ImagePrinter;
 use pathkey::NoMemory;
 use sha2::{Digest, Sha256};
 use std::alloc::Global;
@@ -22,7 +22,7 @@ pub fn image_digest(alloc: Global, frozen: Frozen) -> Result<[u8; 32], NoMemory>
         drop(frozen);
         return Err(NoMemory);
     };
-    let Ok(mut printing) = Printing::new(alloc, frozen) else {
+    let Ok(mut printing) = ImagePrinter::new(alloc, frozen) else {
         drop(piece);
         return Err(NoMemory);
     };
@@ -33,7 +33,11 @@ pub fn image_digest(alloc: Global, frozen: Frozen) -> Result<[u8; 32], NoMemory>
 }
 
 // The digest of an image of which nothing was printed, printed in pieces into the buffer.
-fn digest_of(alloc: Global, printing: &mut Printing, piece: &mut [u8]) -> Result<[u8; 32], NoMemory>
+fn digest_of(
+    alloc: Global,
+    printing: &mut ImagePrinter,
+    piece: &mut [u8],
+) -> Result<[u8; 32], NoMemory>
     requires fresh { printing.old.done ≡ 0 }
     requires some { 0 < length piece.old }
     ensures { IfOk result (λ digest. (t : Tree) → MeanRooted printing.old.tree t → digest ≡ sha256 (image Second t)) }

@@ -2,8 +2,8 @@
 ghost use Rattle.std.specs.Prelude.{◌≡◌};
 ghost use Rattle.delta.specs.declared.fault.PrintFault.TheVariants as fault;
 
-use lines::output::WriteFailed;
 use pathkey::NoMemory;
+use textio::output::WriteFailed;
 use thiserror::Error;
 
 /// Why a delta was not printed to its end.

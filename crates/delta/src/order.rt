@@ -2,15 +2,15 @@
 //! it is only short where lines of one place meet.
 ghost use Rattle.std.specs.Prelude.{◌≡◌, false, true};
 
-use crate::line_walk::LineWalk;
-use lines::values::{read_number, read_path};
-use lines::words::cut_space;
+use crate::line_cursor::LineCursor;
 use pathkey::Path;
 use std::alloc::Global;
 use std::cmp::Ordering;
+use textio::values::{read_number, read_path};
+use textio::words::split_space;
 
 /// Whether both walks stand behind their last lines.
-pub(crate) fn are_at_end(old: &LineWalk, new: &LineWalk) -> bool
+pub(crate) fn are_at_end(old: &LineCursor, new: &LineCursor) -> bool
     ensures old { result ≡ true → old.now.there ≡ false }
     ensures new { result ≡ true → new.now.there ≡ false }
 {
@@ -21,7 +21,7 @@ pub(crate) fn are_at_end(old: &LineWalk, new: &LineWalk) -> bool
 }
 
 /// Whether both walks stand at one line.
-pub(crate) fn is_same(old: &LineWalk, new: &LineWalk) -> bool
+pub(crate) fn is_same(old: &LineCursor, new: &LineCursor) -> bool
     ensures old { result ≡ true → old.now.there ≡ true }
     ensures new { result ≡ true → new.now.there ≡ true }
     ensures line { result ≡ true → new.now.line.items ≡ old.now.line.items }
@@ -33,7 +33,7 @@ pub(crate) fn is_same(old: &LineWalk, new: &LineWalk) -> bool
 }
 
 /// Whether the line of the old image goes before another line of the new one is told.
-pub(crate) fn goes(alloc: Global, old: &LineWalk, new: &LineWalk) -> bool
+pub(crate) fn is_deleted(alloc: Global, old: &LineCursor, new: &LineCursor) -> bool
     ensures { result ≡ true → old.now.there ≡ true }
 {
     if !old.there || is_same(old, new) {
@@ -43,7 +43,7 @@ pub(crate) fn goes(alloc: Global, old: &LineWalk, new: &LineWalk) -> bool
 }
 
 /// Whether the line of the new image comes before another line of the old one is told.
-pub(crate) fn comes(alloc: Global, old: &LineWalk, new: &LineWalk) -> bool
+pub(crate) fn is_inserted(alloc: Global, old: &LineCursor, new: &LineCursor) -> bool
     ensures { result ≡ true → new.now.there ≡ true }
 {
     if !new.there || is_same(old, new) {
@@ -53,7 +53,7 @@ pub(crate) fn comes(alloc: Global, old: &LineWalk, new: &LineWalk) -> bool
 }
 
 // Whether the place of the old line is not behind that of the new one.
-fn is_first(alloc: Global, old: &LineWalk, new: &LineWalk) -> bool {
+fn is_first(alloc: Global, old: &LineCursor, new: &LineCursor) -> bool {
     match compare_entries(alloc, old.entry.as_slice(), new.entry.as_slice()) {
         Ordering::Less => true,
         Ordering::Equal => rank(old.line.as_slice()) <= rank(new.line.as_slice()),
@@ -81,10 +81,10 @@ fn compare_entries(alloc: Global, old: &[u8], new: &[u8]) -> Ordering {
 
 // The path of which the line of an entry tells.
 fn path_in(alloc: Global, line: &[u8]) -> Option<Path> {
-    let Some((_, rest)) = cut_space(line) else {
+    let Some((_, rest)) = split_space(line) else {
         return None;
     };
-    let Some((path, _)) = cut_space(rest) else {
+    let Some((path, _)) = split_space(rest) else {
         return None;
     };
     read_path(alloc, path).ok()
@@ -95,7 +95,7 @@ fn rank(line: &[u8]) -> u64 {
     let Some(rest) = line.strip_prefix(b"b ") else {
         return 0;
     };
-    let Some((number, _)) = cut_space(rest) else {
+    let Some((number, _)) = split_space(rest) else {
         return 0;
     };
     match read_number(number) {

@@ -6,19 +6,19 @@ ghost use Rattle.reference.specs.Image.{Text};
 ghost use Rattle.reference.specs.Tree.{Tree};
 ghost use Rattle.reference.specs.Worlds.{World};
 ghost use Rattle.volume.specs.Volumes.{MeanRooted, Means};
-ghost use Rattle.volume.specs.declared.rooted.Rooted.{Rooted};
+ghost use Rattle.volume.specs.declared.fs_root.FsRoot.{FsRoot};
 ghost use Rattle.delta.specs.Applies.{Applied, DoesAll, DoesCommand, IsOfOther, IsOfTree, LoadsPatched, PatchesNone, SpoilsImage};
 ghost use Rattle.delta.specs.Deltas.{Command, Line, Stay};
 ghost use Rattle.delta.specs.Patching.{IsSpoilt, MakesNoImage};
 ghost use Rattle.delta.specs.Texts.{ReadsDelta, Tells, TellsAll, command_of};
 ghost use Rattle.delta.specs.Walks.{IsAtStart, SameTree, Walks, lines_from};
 
-use crate::command::Told;
+use crate::command::DeltaCommand;
 use crate::digest::image_digest;
 use crate::fault::DeltaFault;
-use crate::line_walk::LineWalk;
+use crate::line_cursor::LineCursor;
 use crate::reading::next_command;
-use images::{LoadFault, Loader};
+use images::{ImageLoader, LoadFault};
 use pathkey::NoMemory;
 use std::alloc::Global;
 use volume::Volume;
@@ -60,10 +60,10 @@ fn patch_volume(alloc: Global, volume: &Volume, commands: &[u8]) -> Result<Volum
     let Ok(frozen) = volume.freeze() else {
         return Err(DeltaFault::Memory);
     };
-    let Ok(walk) = LineWalk::new(alloc, frozen) else {
+    let Ok(walk) = LineCursor::new(alloc, frozen) else {
         return Err(DeltaFault::Memory);
     };
-    match Loader::new(alloc, volume.indexes().meta.tree.shape()) {
+    match ImageLoader::new(alloc, volume.indexes().meta.tree.shape()) {
         Ok(loader) => patch_into(alloc, commands, walk, loader),
         Err(_refused) => {
             drop(walk);
@@ -76,11 +76,11 @@ fn patch_volume(alloc: Global, volume: &Volume, commands: &[u8]) -> Result<Volum
 fn patch_into(
     alloc: Global,
     commands: &[u8],
-    mut walk: LineWalk,
-    mut loader: Loader,
+    mut walk: LineCursor,
+    mut loader: ImageLoader,
 ) -> Result<Volume, DeltaFault>
-    ensures ok { (a : Rooted) (t : Tree) (s : Shape) → IsAtStart a walk → MeanRooted a t → IsFresh s loader → IfOk result (LoadsPatched commands.now t s) }
-    ensures no_image { (a : Rooted) (t : Tree) (s : Shape) → IsAtStart a walk → MeanRooted a t → IsFresh s loader → result ≡ Err DeltaFault.NoImage → PatchesNone commands.now t }
+    ensures ok { (a : FsRoot) (t : Tree) (s : Shape) → IsAtStart a walk → MeanRooted a t → IsFresh s loader → IfOk result (LoadsPatched commands.now t s) }
+    ensures no_image { (a : FsRoot) (t : Tree) (s : Shape) → IsAtStart a walk → MeanRooted a t → IsFresh s loader → result ≡ Err DeltaFault.NoImage → PatchesNone commands.now t }
     ensures kind { IfErr result (λ e. (e ≡ DeltaFault.Memory) ⊎ (e ≡ DeltaFault.NoImage)) }
 {
     let done = do_commands(alloc, commands, &mut walk, &mut loader);
@@ -110,16 +110,16 @@ fn fault_of(fault: LoadFault) -> DeltaFault
 fn do_commands(
     alloc: Global,
     commands: &[u8],
-    walk: &mut LineWalk,
-    loader: &mut Loader,
+    walk: &mut LineCursor,
+    loader: &mut ImageLoader,
 ) -> Result<(), DeltaFault>
     ensures ok { (s : Shape) (t : Tree) (cs : List Command) → MeanRooted walk.old.printing.tree t → TellsAll commands.now cs → Took s [] loader.old → OnOk result (DoesAll cs (lines_from t walk.old) s loader.new) }
     ensures no_image { (s : Shape) (t : Tree) (cs : List Command) → MeanRooted walk.old.printing.tree t → TellsAll commands.now cs → Took s [] loader.old → result ≡ Err DeltaFault.NoImage → MakesNoImage cs (lines_from t walk.old) [] }
     ensures kind { IfErr result (λ e. (e ≡ DeltaFault.Memory) ⊎ (e ≡ DeltaFault.NoImage)) }
 {
     let mut rest = commands;
-    'commands: while let Some((line, told, behind)) = next_command(rest) {
-        if let Err(fault) = do_command(alloc, told, line, walk, loader) {
+    'commands: while let Some((line, parsed, behind)) = next_command(rest) {
+        if let Err(fault) = do_command(alloc, parsed, line, walk, loader) {
             return Err(fault);
         }
         rest = behind;
@@ -133,21 +133,21 @@ fn do_commands(
 // Does the command that a line tells.
 fn do_command(
     alloc: Global,
-    told: Told,
+    parsed: DeltaCommand,
     line: &[u8],
-    walk: &mut LineWalk,
-    loader: &mut Loader,
+    walk: &mut LineCursor,
+    loader: &mut ImageLoader,
 ) -> Result<(), DeltaFault>
-    requires { Tells line.now (command_of told line.now) }
-    ensures ok { (s : Shape) (t : Tree) (text : Text) → MeanRooted walk.old.printing.tree t → Took s text loader.old → OnOk result (DoesCommand (command_of told line.now) (lines_from t walk.old) text (lines_from t walk.new) s loader.new) }
-    ensures no_image { (s : Shape) (t : Tree) (text : Text) (ds : List Command) → MeanRooted walk.old.printing.tree t → Took s text loader.old → result ≡ Err DeltaFault.NoImage → MakesNoImage (command_of told line.now ∷ ds) (lines_from t walk.old) text }
+    requires { Tells line.now (command_of parsed line.now) }
+    ensures ok { (s : Shape) (t : Tree) (text : Text) → MeanRooted walk.old.printing.tree t → Took s text loader.old → OnOk result (DoesCommand (command_of parsed line.now) (lines_from t walk.old) text (lines_from t walk.new) s loader.new) }
+    ensures no_image { (s : Shape) (t : Tree) (text : Text) (ds : List Command) → MeanRooted walk.old.printing.tree t → Took s text loader.old → result ≡ Err DeltaFault.NoImage → MakesNoImage (command_of parsed line.now ∷ ds) (lines_from t walk.old) text }
     ensures kind { IfErr result (λ e. (e ≡ DeltaFault.Memory) ⊎ (e ≡ DeltaFault.NoImage)) }
     ensures same { OnOk result (SameTree walk.old walk.new) }
 {
-    match told {
-        Told::Stay(count) => keep_lines(alloc, count, walk, loader),
-        Told::Go(count) => pass_lines(alloc, count, walk),
-        Told::Come => add_line(alloc, loader, &line[2..]),
+    match parsed {
+        DeltaCommand::Stay(count) => keep_lines(alloc, count, walk, loader),
+        DeltaCommand::Go(count) => pass_lines(alloc, count, walk),
+        DeltaCommand::Come => add_line(alloc, loader, &line[2..]),
     }
 }
 
@@ -155,8 +155,8 @@ fn do_command(
 fn keep_lines(
     alloc: Global,
     count: u64,
-    walk: &mut LineWalk,
-    loader: &mut Loader,
+    walk: &mut LineCursor,
+    loader: &mut ImageLoader,
 ) -> Result<(), DeltaFault>
     ensures ok { (s : Shape) (t : Tree) (text : Text) → MeanRooted walk.old.printing.tree t → Took s text loader.old → OnOk result (DoesCommand (Stay count) (lines_from t walk.old) text (lines_from t walk.new) s loader.new) }
     ensures no_image { (s : Shape) (t : Tree) (text : Text) (ds : List Command) → MeanRooted walk.old.printing.tree t → Took s text loader.old → result ≡ Err DeltaFault.NoImage → MakesNoImage (Stay count ∷ ds) (lines_from t walk.old) text }
@@ -178,7 +178,7 @@ fn keep_lines(
 }
 
 // Goes over so many lines of the walk.
-fn pass_lines(alloc: Global, count: u64, walk: &mut LineWalk) -> Result<(), DeltaFault>
+fn pass_lines(alloc: Global, count: u64, walk: &mut LineCursor) -> Result<(), DeltaFault>
     ensures ok { OnOk result ((gone : List Line) × (length gone ≡ count) × Walks gone walk.old walk.new) }
     ensures no_image { (t : Tree) → MeanRooted walk.old.printing.tree t → result ≡ Err DeltaFault.NoImage → length (lines_from t walk.old) < count }
     ensures kind { IfErr result (λ e. (e ≡ DeltaFault.Memory) ⊎ (e ≡ DeltaFault.NoImage)) }
@@ -195,7 +195,7 @@ fn pass_lines(alloc: Global, count: u64, walk: &mut LineWalk) -> Result<(), Delt
 }
 
 // Takes a line.
-fn add_line(alloc: Global, loader: &mut Loader, line: &[u8]) -> Result<(), DeltaFault>
+fn add_line(alloc: Global, loader: &mut ImageLoader, line: &[u8]) -> Result<(), DeltaFault>
     ensures took { (s : Shape) (text : Text) → Took s text loader.old → OnOk result (Took s (text ++ (line.now ++ 10 ∷ [])) loader.new) }
     ensures spoilt { (s : Shape) (text : Text) → Took s text loader.old → result ≡ Err DeltaFault.NoImage → IsSpoilt (text ++ (line.now ++ 10 ∷ [])) }
     ensures kind { IfErr result (λ e. (e ≡ DeltaFault.Memory) ⊎ (e ≡ DeltaFault.NoImage)) }
@@ -207,12 +207,12 @@ fn add_line(alloc: Global, loader: &mut Loader, line: &[u8]) -> Result<(), Delta
 }
 
 // Takes a piece of text.
-fn add_piece(alloc: Global, loader: &mut Loader, piece: &[u8]) -> Result<(), DeltaFault>
+fn add_piece(alloc: Global, loader: &mut ImageLoader, piece: &[u8]) -> Result<(), DeltaFault>
     ensures took { (s : Shape) (text : Text) → Took s text loader.old → OnOk result (Took s (text ++ piece.now) loader.new) }
     ensures spoilt { (s : Shape) (text : Text) → Took s text loader.old → result ≡ Err DeltaFault.NoImage → IsSpoilt (text ++ piece.now) }
     ensures kind { IfErr result (λ e. (e ≡ DeltaFault.Memory) ⊎ (e ≡ DeltaFault.NoImage)) }
 {
-    match loader.take(alloc, piece) {
+    match loader.feed(alloc, piece) {
         Ok(()) => Ok(()),
         Err(fault) => Err(fault_of(fault)),
     }

@@ -4,20 +4,20 @@ ghost use Rattle.reference.specs.Image.{Second, image};
 ghost use Rattle.reference.specs.Tree.{Tree};
 ghost use Rattle.sha2.specs.Sha256.{sha256};
 ghost use Rattle.volume.specs.Volumes.{MeanRooted};
-ghost use Rattle.volume.specs.declared.rooted.Rooted.{Rooted};
+ghost use Rattle.volume.specs.declared.fs_root.FsRoot.{FsRoot};
 ghost use Rattle.delta.specs.Applies.{AppendsDelta, BeginsDelta};
 ghost use Rattle.delta.specs.Deltas.{Command, Go, Stay, run};
 ghost use Rattle.delta.specs.Walks.{BeginsAll, IsAtStart, Patches, Puts, PutsAll};
 
-use crate::command::{put_come, put_go, put_stay};
+use crate::command::{print_copy, print_delete, print_insert};
 use crate::fault::PrintFault;
-use crate::heading::put_heading;
-use crate::line_walk::LineWalk;
-use crate::order::{are_at_end, comes, goes, is_same};
-use lines::output::put;
+use crate::header::put_heading;
+use crate::line_cursor::LineCursor;
+use crate::order::{are_at_end, is_deleted, is_inserted, is_same};
 use pathkey::NoMemory;
 use std::alloc::Global;
 use std::io::Write;
+use textio::output::put;
 use volume::Frozen;
 
 /// Prints the delta that makes the image of one tree of that of another, whose digest is given (`image_digest`). Where it fails, what was
@@ -32,30 +32,30 @@ pub fn print_delta<W: Write>(
     ensures ok { (t u : Tree) → MeanRooted old t → MeanRooted new u → digest.now ≡ sha256 (image Second t) → OnOk result (AppendsDelta (W.contents writer.old) (W.contents writer.new) t u) }
     ensures err { (t u : Tree) → MeanRooted old t → MeanRooted new u → digest.now ≡ sha256 (image Second t) → OnErr result (BeginsDelta (W.contents writer.old) (W.contents writer.new) t u) }
 {
-    let Ok(mut old) = LineWalk::new(alloc, old) else {
+    let Ok(mut old) = LineCursor::new(alloc, old) else {
         drop(new);
         return Err(PrintFault::Memory);
     };
-    let Ok(mut new) = LineWalk::new(alloc, new) else {
+    let Ok(mut new) = LineCursor::new(alloc, new) else {
         drop(old);
         return Err(PrintFault::Memory);
     };
-    let told = put_delta(alloc, digest, &mut old, &mut new, writer);
+    let parsed = put_delta(alloc, digest, &mut old, &mut new, writer);
     drop(old);
     drop(new);
-    told
+    parsed
 }
 
 // Writes a delta, by walks that stand at the first lines of both images.
 fn put_delta<W: Write>(
     alloc: Global,
     digest: &[u8; 32],
-    old: &mut LineWalk,
-    new: &mut LineWalk,
+    old: &mut LineCursor,
+    new: &mut LineCursor,
     writer: &mut W,
 ) -> Result<(), PrintFault>
-    ensures ok { (a b : Rooted) (t u : Tree) → IsAtStart a old.old → IsAtStart b new.old → MeanRooted a t → MeanRooted b u → digest.now ≡ sha256 (image Second t) → OnOk result (AppendsDelta (W.contents writer.old) (W.contents writer.new) t u) }
-    ensures err { (a b : Rooted) (t u : Tree) → IsAtStart a old.old → IsAtStart b new.old → MeanRooted a t → MeanRooted b u → digest.now ≡ sha256 (image Second t) → OnErr result (BeginsDelta (W.contents writer.old) (W.contents writer.new) t u) }
+    ensures ok { (a b : FsRoot) (t u : Tree) → IsAtStart a old.old → IsAtStart b new.old → MeanRooted a t → MeanRooted b u → digest.now ≡ sha256 (image Second t) → OnOk result (AppendsDelta (W.contents writer.old) (W.contents writer.new) t u) }
+    ensures err { (a b : FsRoot) (t u : Tree) → IsAtStart a old.old → IsAtStart b new.old → MeanRooted a t → MeanRooted b u → digest.now ≡ sha256 (image Second t) → OnErr result (BeginsDelta (W.contents writer.old) (W.contents writer.new) t u) }
 {
     put_heading(writer, digest)?;
     put_commands(alloc, old, new, writer)?;
@@ -66,8 +66,8 @@ fn put_delta<W: Write>(
 // Writes the commands for the lines from the places of both walks on.
 fn put_commands<W: Write>(
     alloc: Global,
-    old: &mut LineWalk,
-    new: &mut LineWalk,
+    old: &mut LineCursor,
+    new: &mut LineCursor,
     writer: &mut W,
 ) -> Result<(), PrintFault>
     ensures ok { OnOk result ((cs : List Command) × PutsAll cs (W.contents writer.old) (W.contents writer.new) old.old new.old) }
@@ -86,22 +86,22 @@ fn put_commands<W: Write>(
 // Writes how many lines stay, how many go behind them, and which come behind these.
 fn put_round<W: Write>(
     alloc: Global,
-    old: &mut LineWalk,
-    new: &mut LineWalk,
+    old: &mut LineCursor,
+    new: &mut LineCursor,
     writer: &mut W,
 ) -> Result<(), PrintFault>
     ensures ok { OnOk result ((cs : List Command) × Puts cs (W.contents writer.old) (W.contents writer.new) old.old new.old old.new new.new) }
     ensures err { OnErr result (BeginsAll (W.contents writer.old) (W.contents writer.new) old.old new.old) }
 {
     let staying = pass_same(alloc, old, new)?;
-    put_stay(writer, staying)?;
+    print_copy(writer, staying)?;
     let going = pass_going(alloc, old, new)?;
-    put_go(writer, going)?;
+    print_delete(writer, going)?;
     put_coming(alloc, old, new, writer)
 }
 
 // Goes over the lines that both images have next: how many they are.
-fn pass_same(alloc: Global, old: &mut LineWalk, new: &mut LineWalk) -> Result<u64, NoMemory>
+fn pass_same(alloc: Global, old: &mut LineCursor, new: &mut LineCursor) -> Result<u64, NoMemory>
     ensures patches { IfOk result (λ n. Patches (run Stay n) old.old new.old old.new new.new) }
     ensures fits { IfOk result (λ n. n < 2 ^ 64) }
 {
@@ -116,12 +116,12 @@ fn pass_same(alloc: Global, old: &mut LineWalk, new: &mut LineWalk) -> Result<u6
 }
 
 // Goes over the lines of the old image that go: how many they are.
-fn pass_going(alloc: Global, old: &mut LineWalk, new: &LineWalk) -> Result<u64, NoMemory>
+fn pass_going(alloc: Global, old: &mut LineCursor, new: &LineCursor) -> Result<u64, NoMemory>
     ensures patches { IfOk result (λ n. Patches (run Go n) old.old new.now old.new new.now) }
     ensures fits { IfOk result (λ n. n < 2 ^ 64) }
 {
     for count in 0..u64::MAX {
-        if !goes(alloc, old, new) {
+        if !is_deleted(alloc, old, new) {
             return Ok(count);
         }
         old.step(alloc)?;
@@ -132,8 +132,8 @@ fn pass_going(alloc: Global, old: &mut LineWalk, new: &LineWalk) -> Result<u64, 
 // Writes the lines of the new image that come.
 fn put_coming<W: Write>(
     alloc: Global,
-    old: &LineWalk,
-    new: &mut LineWalk,
+    old: &LineCursor,
+    new: &mut LineCursor,
     writer: &mut W,
 ) -> Result<(), PrintFault>
     ensures ok { OnOk result ((cs : List Command) × Puts cs (W.contents writer.old) (W.contents writer.new) old.now new.old old.now new.new) }
@@ -141,10 +141,10 @@ fn put_coming<W: Write>(
 {
     // No image has more lines.
     for _ in 0..u64::MAX {
-        if !comes(alloc, old, new) {
+        if !is_inserted(alloc, old, new) {
             return Ok(());
         }
-        put_come(writer, new.line.as_slice())?;
+        print_insert(writer, new.line.as_slice())?;
         new.step(alloc)?;
     }
     Err(PrintFault::Memory)

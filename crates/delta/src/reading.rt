@@ -3,18 +3,18 @@ ghost use Rattle.std.specs.Prelude.{◌≡◌, ◌+◌, ◌<◌, ◌^◌, List, 
 ghost use Rattle.delta.specs.Deltas.{Command};
 ghost use Rattle.delta.specs.Texts.{HasNoCommand, IsBadAt, IsNext, NoEnd, Passes, ReadsDelta, end_text};
 
-use crate::command::{Told, read_command};
-use crate::heading::read_heading;
-use lines::words::cut_line;
+use crate::command::{DeltaCommand, read_command};
+use crate::header::read_header;
+use textio::words::split_line;
 
 /// The digest that a delta tells, and the lines behind its first. A text that is no delta is refused by the number of its first bad line.
 pub fn read_delta(text: &[u8]) -> Result<([u8; 32], &[u8]), u64>
     ensures { MatchResult result (λ r. (cs : List Command) × ReadsDelta text.now r.0 r.1.now cs) (λ n. IsBadAt n text.now) }
 {
-    let Some((line, behind)) = cut_line(text) else {
+    let Some((line, behind)) = split_line(text) else {
         return Err(1);
     };
-    let Some(digest) = read_heading(line) else {
+    let Some(digest) = read_header(line) else {
         return Err(1);
     };
     let (rest, number) = pass_commands(behind);
@@ -40,14 +40,14 @@ fn pass_commands(text: &[u8]) -> (&[u8], u64)
 }
 
 /// The next line of a text, with the command that it tells, and the text behind it; none where no whole line that tells one is next.
-pub(crate) fn next_command(text: &[u8]) -> Option<(&[u8], Told, &[u8])>
+pub(crate) fn next_command(text: &[u8]) -> Option<(&[u8], DeltaCommand, &[u8])>
     ensures { MatchOption result (HasNoCommand text.now) (λ next. IsNext text.now next.0.now next.1 next.2.now) }
 {
-    let Some((line, behind)) = cut_line(text) else {
+    let Some((line, behind)) = split_line(text) else {
         return None;
     };
     match read_command(line) {
-        Some(told) => Some((line, told, behind)),
+        Some(parsed) => Some((line, parsed, behind)),
         None => None,
     }
 }

@@ -7,52 +7,52 @@ use Rattle.delta.specs.declared.fault.DeltaFault.TheVariants.{Memory, Bad, Other
 use Rattle.pathkey.specs.declared.errno.Errno.{Errno}
 use Rattle.pathkey.specs.declared.errno.Errno.TheVariants.{EINVAL}
 use Rattle.reference.specs.Tree.{Tree}
-use Rattle.doorvervain.specs.Differences.{DeltaFaultTold, DeltaTold, NotApplied}
+use Rattle.doorvervain.specs.Differences.{DeltaFaultReported, DeltaReported, NotApplied}
 
 -- no text is bad at line 0
-bad_told : (text : List ℕ) (t : Tree) (n : ℕ) → IsBadAt n text → NotApplied text t EINVAL n
-bad_told text t zero bad = absurd (let number : zero ≡ length bad.front + 1 = bad.number in omega arith)
-bad_told text t (suc n) bad = bad
+bad_reported : (text : List ℕ) (t : Tree) (n : ℕ) → IsBadAt n text → NotApplied text t EINVAL n
+bad_reported text t zero bad = absurd (let number : zero ≡ length bad.front + 1 = bad.number in omega arith)
+bad_reported text t (suc n) bad = bad
 
 not_applied : (text : List ℕ) (t : Tree) (fault : DeltaFault) (e : Errno) (line : ℕ)
-    → ((n : ℕ) → fault ≡ Bad n → IsBadAt n text) → (fault ≡ OtherTree → IsOfOther text t) → (fault ≡ NoImage → SpoilsImage text t) → DeltaFaultTold fault e line → NotApplied text t e line
-not_applied text t Memory e line bad other spoils told = subst₂ (NotApplied text t) (sym told.0) (sym told.1) tt
-not_applied text t (Bad n) e line bad other spoils told = subst₂ (NotApplied text t) (sym told.0) (sym told.1) (bad_told text t n (bad n refl))
-not_applied text t OtherTree e line bad other spoils told = subst₂ (NotApplied text t) (sym told.0) (sym told.1) (other refl)
-not_applied text t NoImage e line bad other spoils told = subst₂ (NotApplied text t) (sym told.0) (sym told.1) (spoils refl)
+    → ((n : ℕ) → fault ≡ Bad n → IsBadAt n text) → (fault ≡ OtherTree → IsOfOther text t) → (fault ≡ NoImage → SpoilsImage text t) → DeltaFaultReported fault e line → NotApplied text t e line
+not_applied text t Memory e line bad other spoils reported = subst₂ (NotApplied text t) (sym reported.0) (sym reported.1) tt
+not_applied text t (Bad n) e line bad other spoils reported = subst₂ (NotApplied text t) (sym reported.0) (sym reported.1) (bad_reported text t n (bad n refl))
+not_applied text t OtherTree e line bad other spoils reported = subst₂ (NotApplied text t) (sym reported.0) (sym reported.1) (other refl)
+not_applied text t NoImage e line bad other spoils reported = subst₂ (NotApplied text t) (sym reported.0) (sym reported.1) (spoils refl)
 
-module _ (outcome : Result (Unit {0}) DeltaFault) (told : Result (Unit {0}) Errno) (line : ℕ) (answer : DeltaTold outcome told line) where
+module _ (outcome : Result (Unit {0}) DeltaFault) (reported : Result (Unit {0}) Errno) (line : ℕ) (answer : DeltaReported outcome reported line) where
   -- what was done is told
-  pub told_done : (P : Type 0) → OnOk outcome P → IfOk told (λ _. P)
-  told_done P done = go outcome answer done
+  pub reported_done : (P : Type 0) → OnOk outcome P → IfOk reported (λ _. P)
+  reported_done P done = go outcome answer done
     where
-      go : (o : Result (Unit {0}) DeltaFault) → DeltaTold o told line → OnOk o P → IfOk told (λ _. P)
+      go : (o : Result (Unit {0}) DeltaFault) → DeltaReported o reported line → OnOk o P → IfOk reported (λ _. P)
       go (Ok x) h p = subst (λ (r : Result (Unit {0}) Errno). IfOk r (λ _. P)) (sym h.0) p
       go (Err f) (e, is, fault) p = subst (λ (r : Result (Unit {0}) Errno). IfOk r (λ _. P)) (sym is) tt
 
   -- with line 0
-  pub told_line : IfOk told (λ _. line ≡ 0)
-  told_line = go outcome answer
+  pub reported_line : IfOk reported (λ _. line ≡ 0)
+  reported_line = go outcome answer
     where
-      go : (o : Result (Unit {0}) DeltaFault) → DeltaTold o told line → IfOk told (λ _. line ≡ 0)
+      go : (o : Result (Unit {0}) DeltaFault) → DeltaReported o reported line → IfOk reported (λ _. line ≡ 0)
       go (Ok x) h = subst (λ (r : Result (Unit {0}) Errno). IfOk r (λ _. line ≡ 0)) (sym h.0) h.1
       go (Err f) (e, is, fault) = subst (λ (r : Result (Unit {0}) Errno). IfOk r (λ _. line ≡ 0)) (sym is) tt
 
   -- what holds of a refusal
-  pub told_kept : (P : Type 0) → OnErr outcome P → IfErr told (λ _. P)
-  told_kept P kept = go outcome answer kept
+  pub reported_kept : (P : Type 0) → OnErr outcome P → IfErr reported (λ _. P)
+  reported_kept P kept = go outcome answer kept
     where
-      go : (o : Result (Unit {0}) DeltaFault) → DeltaTold o told line → OnErr o P → IfErr told (λ _. P)
+      go : (o : Result (Unit {0}) DeltaFault) → DeltaReported o reported line → OnErr o P → IfErr reported (λ _. P)
       go (Ok x) h p = subst (λ (r : Result (Unit {0}) Errno). IfErr r (λ _. P)) (sym h.0) tt
       go (Err f) (e, is, fault) p = subst (λ (r : Result (Unit {0}) Errno). IfErr r (λ _. P)) (sym is) p
 
   -- why it was refused
-  pub told_refused : (text : List ℕ) (t : Tree) → ((n : ℕ) → outcome ≡ Err (Bad n) → IsBadAt n text) → (outcome ≡ Err OtherTree → IsOfOther text t) → (outcome ≡ Err NoImage → SpoilsImage text t)
-      → IfErr told (λ e. NotApplied text t e line)
-  told_refused text t bad other spoils = go outcome answer bad other spoils
+  pub reported_refused : (text : List ℕ) (t : Tree) → ((n : ℕ) → outcome ≡ Err (Bad n) → IsBadAt n text) → (outcome ≡ Err OtherTree → IsOfOther text t) → (outcome ≡ Err NoImage → SpoilsImage text t)
+      → IfErr reported (λ e. NotApplied text t e line)
+  reported_refused text t bad other spoils = go outcome answer bad other spoils
     where
-      go : (o : Result (Unit {0}) DeltaFault) → DeltaTold o told line → ((n : ℕ) → o ≡ Err (Bad n) → IsBadAt n text) → (o ≡ Err OtherTree → IsOfOther text t) → (o ≡ Err NoImage → SpoilsImage text t)
-          → IfErr told (λ e. NotApplied text t e line)
+      go : (o : Result (Unit {0}) DeltaFault) → DeltaReported o reported line → ((n : ℕ) → o ≡ Err (Bad n) → IsBadAt n text) → (o ≡ Err OtherTree → IsOfOther text t) → (o ≡ Err NoImage → SpoilsImage text t)
+          → IfErr reported (λ e. NotApplied text t e line)
       go (Ok x) h bad other spoils = subst (λ (r : Result (Unit {0}) Errno). IfErr r (λ e. NotApplied text t e line)) (sym h.0) tt
       go (Err f) (e, is, fault) bad other spoils =
           subst (λ (r : Result (Unit {0}) Errno). IfErr r (λ d. NotApplied text t d line)) (sym is)

@@ -7,7 +7,7 @@ use Rattle.node.specs.declared.shape.Shape.{Shape}
 use Rattle.pathkey.specs.declared.errno.Errno.{Errno}
 use Rattle.pathkey.specs.declared.errno.Errno.TheVariants.{EINVAL, ENOMEM}
 use Rattle.reference.specs.ImageLines.{IsBadAt}
-use Rattle.doorvervain.specs.Handed.{AnswerTold, FaultTold, Given, HandsOut, NoImage, NotLoaded}
+use Rattle.doorvervain.specs.Handed.{AnswerReported, FaultReported, Given, HandsOut, NoImage, NotLoaded}
 
 -- ---- what a value says of a result
 
@@ -33,8 +33,8 @@ both_of P Q (Err e) p q = tt
 
 module _ {X : Type 0} (made : Result X Errno) (outcome : Result (Unit {0}) Errno) (given : Option X) where
   -- what is told is what was made of it
-  pub told_out : (e : Errno) → HandsOut made outcome given → made ≡ Err e → outcome ≡ Err e
-  told_out e h is = subst (λ (m : Result X Errno). HandsOut m outcome given) is h
+  pub reported_out : (e : Errno) → HandsOut made outcome given → made ≡ Err e → outcome ≡ Err e
+  reported_out e h is = subst (λ (m : Result X Errno). HandsOut m outcome given) is h
 
 pub given_out : {X : Type 0} (P : X → Type 0) (made : Result X Errno) (outcome : Result (Unit {0}) Errno) (given : Option X)
     → HandsOut made outcome given → IfOk made P → IfOk outcome (λ _. Given P given)
@@ -61,73 +61,73 @@ made_refused : {X : Type 0} (made : Result X Errno) (outcome : Result (Unit {0})
     → HandsOut made outcome given → outcome ≡ Err EINVAL → made ≡ Err EINVAL
 made_refused (Ok x) (Ok u) given h is = (cc)
 made_refused (Ok x) (Err e) given h is = let memory : e ≡ ENOMEM = h.refused in (cc)
-made_refused (Err e) outcome given h is = let told : Err e ≡ Err EINVAL = sym h ∙ is in (cc)
+made_refused (Err e) outcome given h is = let reported : Err e ≡ Err EINVAL = sym h ∙ is in (cc)
 
-pub shape_told : {X : Type 0} (N : Type 0) (made : Result X Errno) (outcome : Result (Unit {0}) Errno) (given : Option X)
+pub shape_reported : {X : Type 0} (N : Type 0) (made : Result X Errno) (outcome : Result (Unit {0}) Errno) (given : Option X)
     → HandsOut made outcome given → (made ≡ Err EINVAL) ↔ N → (outcome ≡ Err EINVAL) ↔ N
-shape_told N made outcome given h k = (λ is. k.0 (made_refused made outcome given h is), λ n. told_out made outcome given EINVAL h (k.1 n))
+shape_reported N made outcome given h k = (λ is. k.0 (made_refused made outcome given h is), λ n. reported_out made outcome given EINVAL h (k.1 n))
 
 -- ---- images that were not loaded
 
 -- no text is bad at line 0
-bad_told : (shape : Shape) (text : List ℕ) (n : ℕ) → IsBadAt n text → NotLoaded shape text EINVAL n
-bad_told shape text zero bad = absurd (bad.1 (elim bad.0 [ inl e ↦ absurd (omega arith) | inr is ↦ is ]))
-bad_told shape text (suc n) bad = bad
+bad_reported : (shape : Shape) (text : List ℕ) (n : ℕ) → IsBadAt n text → NotLoaded shape text EINVAL n
+bad_reported shape text zero bad = absurd (bad.1 (elim bad.0 [ inl e ↦ absurd (omega arith) | inr is ↦ is ]))
+bad_reported shape text (suc n) bad = bad
 
 pub not_loaded : (shape : Shape) (text : List ℕ) (fault : LoadFault) (e : Errno) (line : ℕ)
-    → ((n : ℕ) → fault ≡ Bad n → IsBadAt n text) → (fault ≡ BadShape → is_shape shape ≡ false) → FaultTold fault e line → NotLoaded shape text e line
-not_loaded shape text BadShape e line bad unfit told = subst₂ (NotLoaded shape text) (sym told.0) (sym told.1) (unfit refl)
-not_loaded shape text (Bad n) e line bad unfit told = subst₂ (NotLoaded shape text) (sym told.0) (sym told.1) (bad_told shape text n (bad n refl))
-not_loaded shape text Memory e line bad unfit told = subst₂ (NotLoaded shape text) (sym told.0) (sym told.1) tt
-not_loaded shape text Read e line bad unfit told = subst₂ (NotLoaded shape text) (sym told.0) (sym told.1) tt
+    → ((n : ℕ) → fault ≡ Bad n → IsBadAt n text) → (fault ≡ BadShape → is_shape shape ≡ false) → FaultReported fault e line → NotLoaded shape text e line
+not_loaded shape text BadShape e line bad unfit reported = subst₂ (NotLoaded shape text) (sym reported.0) (sym reported.1) (unfit refl)
+not_loaded shape text (Bad n) e line bad unfit reported = subst₂ (NotLoaded shape text) (sym reported.0) (sym reported.1) (bad_reported shape text n (bad n refl))
+not_loaded shape text Memory e line bad unfit reported = subst₂ (NotLoaded shape text) (sym reported.0) (sym reported.1) tt
+not_loaded shape text Read e line bad unfit reported = subst₂ (NotLoaded shape text) (sym reported.0) (sym reported.1) tt
 
-pub shape_not_loaded : (fault : LoadFault) (e : Errno) (line : ℕ) → fault ≡ BadShape → FaultTold fault e line → (e ≡ EINVAL) × (line ≡ 0)
-shape_not_loaded fault e line is told = subst (λ (f : LoadFault). FaultTold f e line) is told
+pub shape_not_loaded : (fault : LoadFault) (e : Errno) (line : ℕ) → fault ≡ BadShape → FaultReported fault e line → (e ≡ EINVAL) × (line ≡ 0)
+shape_not_loaded fault e line is reported = subst (λ (f : LoadFault). FaultReported f e line) is reported
 
 -- of a volume that was made, memory may be refused behind it
-pub memory_told : {X : Type 0} (shape : Shape) (text : List ℕ) (made : Result X Errno) (line : ℕ) → IfOk made (λ _. line ≡ 0) → IfOk made (λ _. NotLoaded shape text ENOMEM line)
-memory_told shape text (Ok x) line is = subst (NotLoaded shape text ENOMEM) (sym is) tt
-memory_told shape text (Err e) line is = tt
+pub memory_reported : {X : Type 0} (shape : Shape) (text : List ℕ) (made : Result X Errno) (line : ℕ) → IfOk made (λ _. line ≡ 0) → IfOk made (λ _. NotLoaded shape text ENOMEM line)
+memory_reported shape text (Ok x) line is = subst (NotLoaded shape text ENOMEM) (sym is) tt
+memory_reported shape text (Err e) line is = tt
 
 -- ---- the answer of a load, as it is told
 
 -- what was made is told
-pub answer_ok : {X : Type 0} (P : X → Type 0) (made : Result X LoadFault) (told : Result X Errno) (line : ℕ) → AnswerTold made told line → IfOk made P → IfOk told P
-answer_ok P (Ok x) told line h p = subst (λ (r : Result _ Errno). IfOk r P) (sym h.0) p
-answer_ok P (Err f) told line (e, is, fault) p = subst (λ (r : Result _ Errno). IfOk r P) (sym is) tt
+pub answer_ok : {X : Type 0} (P : X → Type 0) (made : Result X LoadFault) (reported : Result X Errno) (line : ℕ) → AnswerReported made reported line → IfOk made P → IfOk reported P
+answer_ok P (Ok x) reported line h p = subst (λ (r : Result _ Errno). IfOk r P) (sym h.0) p
+answer_ok P (Err f) reported line (e, is, fault) p = subst (λ (r : Result _ Errno). IfOk r P) (sym is) tt
 
 -- with line 0
-pub answer_line : {X : Type 0} (made : Result X LoadFault) (told : Result X Errno) (line : ℕ) → AnswerTold made told line → IfOk told (λ _. line ≡ 0)
-answer_line (Ok x) told line h = subst (λ (r : Result _ Errno). IfOk r (λ _. line ≡ 0)) (sym h.0) h.1
-answer_line (Err f) told line (e, is, fault) = subst (λ (r : Result _ Errno). IfOk r (λ _. line ≡ 0)) (sym is) tt
+pub answer_line : {X : Type 0} (made : Result X LoadFault) (reported : Result X Errno) (line : ℕ) → AnswerReported made reported line → IfOk reported (λ _. line ≡ 0)
+answer_line (Ok x) reported line h = subst (λ (r : Result _ Errno). IfOk r (λ _. line ≡ 0)) (sym h.0) h.1
+answer_line (Err f) reported line (e, is, fault) = subst (λ (r : Result _ Errno). IfOk r (λ _. line ≡ 0)) (sym is) tt
 
 -- a bad shape
-pub answer_shape : {X : Type 0} (made : Result X LoadFault) (told : Result X Errno) (line : ℕ) → AnswerTold made told line → made ≡ Err BadShape → (told ≡ Err EINVAL) × (line ≡ 0)
-answer_shape (Ok x) told line h bad = absurd (cc)
-answer_shape (Err f) told line (e, is, fault) bad =
+pub answer_shape : {X : Type 0} (made : Result X LoadFault) (reported : Result X Errno) (line : ℕ) → AnswerReported made reported line → made ≡ Err BadShape → (reported ≡ Err EINVAL) × (line ≡ 0)
+answer_shape (Ok x) reported line h bad = absurd (cc)
+answer_shape (Err f) reported line (e, is, fault) bad =
     let same : f ≡ BadShape = cc in
     let both : (e ≡ EINVAL) × (line ≡ 0) = shape_not_loaded f e line same fault in
     (is ∙ ap Err both.0, both.1)
 
 -- why a text was not loaded
-pub answer_refused : {X : Type 0} (shape : Shape) (text : List ℕ) (made : Result X LoadFault) (told : Result X Errno) (line : ℕ) → AnswerTold made told line
-    → ((n : ℕ) → made ≡ Err (Bad n) → IsBadAt n text) → (made ≡ Err BadShape → is_shape shape ≡ false) → IfErr told (λ e. NotLoaded shape text e line)
-answer_refused shape text (Ok x) told line h bad unfit = subst (λ (r : Result _ Errno). IfErr r (λ e. NotLoaded shape text e line)) (sym h.0) tt
-answer_refused shape text (Err f) told line (e, is, fault) bad unfit =
+pub answer_refused : {X : Type 0} (shape : Shape) (text : List ℕ) (made : Result X LoadFault) (reported : Result X Errno) (line : ℕ) → AnswerReported made reported line
+    → ((n : ℕ) → made ≡ Err (Bad n) → IsBadAt n text) → (made ≡ Err BadShape → is_shape shape ≡ false) → IfErr reported (λ e. NotLoaded shape text e line)
+answer_refused shape text (Ok x) reported line h bad unfit = subst (λ (r : Result _ Errno). IfErr r (λ e. NotLoaded shape text e line)) (sym h.0) tt
+answer_refused shape text (Err f) reported line (e, is, fault) bad unfit =
     subst (λ (r : Result _ Errno). IfErr r (λ d. NotLoaded shape text d line)) (sym is)
     (not_loaded shape text f e line (λ n b. bad n (ap Err b)) (λ b. unfit (ap Err b)) fault)
 
 -- the same of one that was taken piece by piece
-no_image : (text : List ℕ) (fault : LoadFault) (e : Errno) (line : ℕ) → ((n : ℕ) → fault ≡ Bad n → IsBadAt n text) → fault ≢ BadShape → FaultTold fault e line → NoImage text e line
-no_image text BadShape e line bad fits told = absurd (fits refl)
-no_image text (Bad n) e line bad fits told = subst₂ (NoImage text) (sym told.0) (sym told.1) (bad n refl)
-no_image text Memory e line bad fits told = subst₂ (NoImage text) (sym told.0) (sym told.1) tt
-no_image text Read e line bad fits told = subst₂ (NoImage text) (sym told.0) (sym told.1) tt
+no_image : (text : List ℕ) (fault : LoadFault) (e : Errno) (line : ℕ) → ((n : ℕ) → fault ≡ Bad n → IsBadAt n text) → fault ≢ BadShape → FaultReported fault e line → NoImage text e line
+no_image text BadShape e line bad fits reported = absurd (fits refl)
+no_image text (Bad n) e line bad fits reported = subst₂ (NoImage text) (sym reported.0) (sym reported.1) (bad n refl)
+no_image text Memory e line bad fits reported = subst₂ (NoImage text) (sym reported.0) (sym reported.1) tt
+no_image text Read e line bad fits reported = subst₂ (NoImage text) (sym reported.0) (sym reported.1) tt
 
-pub answer_no_image : {X : Type 0} (text : List ℕ) (made : Result X LoadFault) (told : Result X Errno) (line : ℕ) → AnswerTold made told line
-    → ((n : ℕ) → made ≡ Err (Bad n) → IsBadAt n text) → made ≢ Err BadShape → IfErr told (λ e. NoImage text e line)
-answer_no_image text (Ok x) told line h bad fits = subst (λ (r : Result _ Errno). IfErr r (λ e. NoImage text e line)) (sym h.0) tt
-answer_no_image text (Err f) told line (e, is, fault) bad fits =
+pub answer_no_image : {X : Type 0} (text : List ℕ) (made : Result X LoadFault) (reported : Result X Errno) (line : ℕ) → AnswerReported made reported line
+    → ((n : ℕ) → made ≡ Err (Bad n) → IsBadAt n text) → made ≢ Err BadShape → IfErr reported (λ e. NoImage text e line)
+answer_no_image text (Ok x) reported line h bad fits = subst (λ (r : Result _ Errno). IfErr r (λ e. NoImage text e line)) (sym h.0) tt
+answer_no_image text (Err f) reported line (e, is, fault) bad fits =
     subst (λ (r : Result _ Errno). IfErr r (λ d. NoImage text d line)) (sym is)
     (no_image text f e line (λ n b. bad n (ap Err b)) (λ b. fits (ap Err b)) fault)
 

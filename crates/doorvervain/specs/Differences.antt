@@ -9,16 +9,16 @@ use Rattle.pathkey.specs.declared.errno.Errno.TheVariants.{EINVAL, ENOENT, ENOME
 use Rattle.reference.specs.Tree.{Tree}
 
 -- the refusal and the line that tell why a difference was not applied
-abbrev pub DeltaFaultTold : DeltaFault → Errno → ℕ → Type 0
-DeltaFaultTold Memory e line = (e ≡ ENOMEM) × (line ≡ 0)
-DeltaFaultTold (Bad n) e line = (e ≡ EINVAL) × (line ≡ n)
-DeltaFaultTold OtherTree e line = (e ≡ ENOENT) × (line ≡ 0)
-DeltaFaultTold NoImage e line = (e ≡ EINVAL) × (line ≡ 0)
+abbrev pub DeltaFaultReported : DeltaFault → Errno → ℕ → Type 0
+DeltaFaultReported Memory e line = (e ≡ ENOMEM) × (line ≡ 0)
+DeltaFaultReported (Bad n) e line = (e ≡ EINVAL) × (line ≡ n)
+DeltaFaultReported OtherTree e line = (e ≡ ENOENT) × (line ≡ 0)
+DeltaFaultReported NoImage e line = (e ≡ EINVAL) × (line ≡ 0)
 
 -- the answer to a difference, as it is told: done and line 0, or why not
-abbrev pub DeltaTold : Result (Unit {0}) DeltaFault → Result (Unit {0}) Errno → ℕ → Type 0
-DeltaTold (Ok x) told line = (told ≡ Ok x) × (line ≡ 0)
-DeltaTold (Err f) told line = (e : Errno) × (told ≡ Err e) × DeltaFaultTold f e line
+abbrev pub DeltaReported : Result (Unit {0}) DeltaFault → Result (Unit {0}) Errno → ℕ → Type 0
+DeltaReported (Ok x) reported line = (reported ≡ Ok x) × (line ≡ 0)
+DeltaReported (Err f) reported line = (e : Errno) × (reported ≡ Err e) × DeltaFaultReported f e line
 
 -- why a text was not applied to a tree: ENOENT, it is the difference of another; EINVAL and line 0, it makes no image of this one's; EINVAL
 -- and another line, it is the first with which the text is no difference; or ENOMEM and line 0

@@ -2,14 +2,14 @@
 use Rattle.std.specs.Prelude.{◌≡◌, ℕ, zero, suc, ⊤, false, List, Result, Ok, Err, IfErr, IfOk, Option, Some, MatchResult}
 use Rattle.images.specs.declared.load.LoadFault.{LoadFault}
 use Rattle.images.specs.declared.load.LoadFault.TheVariants.{Shape as BadShape, Bad}
-use Rattle.volume.specs.declared.rooted.Rooted.{Rooted}
+use Rattle.volume.specs.declared.fs_root.FsRoot.{FsRoot}
 use Rattle.node.specs.Shapes.{is_shape}
 use Rattle.node.specs.declared.shape.Shape.{Shape}
 use Rattle.pathkey.specs.declared.errno.Errno.{Errno}
 use Rattle.pathkey.specs.declared.errno.Errno.TheVariants.{EINVAL, ENOMEM}
 use Rattle.reference.specs.ImageLines.{IsBadAt}
 use Rattle.volume.specs.Volumes.{PVolume}
-use Rattle.byte_calls.specs.Snapshots.{FindsNamed}
+use Rattle.ffi_calls.specs.Snapshots.{FindsNamed}
 
 -- ---- shapes
 
@@ -39,23 +39,23 @@ abbrev pub HandsOut : {X : Type 0} → Result X Errno → Result (Unit {0}) Errn
 HandsOut made outcome given = MatchResult made (λ x. Hands x outcome given) (λ e. outcome ≡ Err e)
 
 -- the tree of the snapshot of that name was looked for, and so handed out
-pub record FindsHanded (name : Result (List ℕ) Errno) (v : PVolume) (outcome : Result (Unit {0}) Errno) (given : Option Rooted) : Type 0 where
-  pub found : Result Rooted Errno
+pub record FindsHanded (name : Result (List ℕ) Errno) (v : PVolume) (outcome : Result (Unit {0}) Errno) (given : Option FsRoot) : Type 0 where
+  pub found : Result FsRoot Errno
   pub finds : FindsNamed name v found
   pub hands : HandsOut found outcome given
 
 -- ---- images
 
 -- the refusal and the line that tell why an image was not loaded
-abbrev pub FaultTold : LoadFault → Errno → ℕ → Type 0
-FaultTold BadShape e line = (e ≡ EINVAL) × (line ≡ 0)
-FaultTold (Bad n) e line = (e ≡ EINVAL) × (line ≡ n)
-FaultTold _ e line = (e ≡ ENOMEM) × (line ≡ 0)
+abbrev pub FaultReported : LoadFault → Errno → ℕ → Type 0
+FaultReported BadShape e line = (e ≡ EINVAL) × (line ≡ 0)
+FaultReported (Bad n) e line = (e ≡ EINVAL) × (line ≡ n)
+FaultReported _ e line = (e ≡ ENOMEM) × (line ≡ 0)
 
 -- the answer of a load, as it is told: what was made and line 0, or why not
-abbrev pub AnswerTold : {X : Type 0} → Result X LoadFault → Result X Errno → ℕ → Type 0
-AnswerTold (Ok x) told line = (told ≡ Ok x) × (line ≡ 0)
-AnswerTold (Err f) told line = (e : Errno) × (told ≡ Err e) × FaultTold f e line
+abbrev pub AnswerReported : {X : Type 0} → Result X LoadFault → Result X Errno → ℕ → Type 0
+AnswerReported (Ok x) reported line = (reported ≡ Ok x) × (line ≡ 0)
+AnswerReported (Err f) reported line = (e : Errno) × (reported ≡ Err e) × FaultReported f e line
 
 -- why a text that was taken piece by piece was not loaded: EINVAL, and the first line with which it is no image; or ENOMEM and line 0
 abbrev pub NoImage : List ℕ → Errno → ℕ → Type 0

@@ -2,7 +2,7 @@
 pub mod Held
 pub mod Follows
 pub mod Numbers
-pub mod Looks
+pub mod Reads
 pub mod Changes
 pub mod Holes
 pub mod Log

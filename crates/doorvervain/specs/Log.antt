@@ -4,9 +4,9 @@ use Rattle.pathkey.specs.declared.errno.Errno.{Errno}
 use Rattle.pathkey.specs.declared.errno.Errno.TheVariants.{EINVAL, ENOENT}
 use Rattle.logs.specs.Records.{LacksRecord, record_of}
 use Rattle.recovery.specs.Replays.{Replays}
-use Rattle.recovery.specs.declared.stopped.Stopped.{Stopped}
+use Rattle.recovery.specs.declared.replay_error.ReplayError.{ReplayError}
 use Rattle.volume.specs.Volumes.{PVolume}
-use Rattle.doorvervain.specs.Numbers.{told}
+use Rattle.doorvervain.specs.Numbers.{reported}
 
 -- the log begins with the record of the number, whose body has so many bytes; or with none (ENOENT)
 abbrev pub FindsRecord : ℕ → List ℕ → Result ℕ Errno → Type 0
@@ -14,20 +14,20 @@ FindsRecord n log (Ok size) = (body : List ℕ) × (rest : List ℕ) × (log ≡
 FindsRecord n log (Err e) = (e ≡ ENOENT) × LacksRecord n log
 
 -- where a run stopped, by what was told and by how many changes were done
-abbrev pub stopped_of : Result (Unit {0}) Errno → ℕ → Option Stopped
+abbrev pub stopped_of : Result (Unit {0}) Errno → ℕ → Option ReplayError
 stopped_of (Ok u) done = None
 stopped_of (Err e) done = Some (record { done = done; fault = e })
 
-abbrev pub ended : Option Stopped → Result (Unit {0}) Stopped
+abbrev pub ended : Option ReplayError → Result (Unit {0}) ReplayError
 ended None = Ok tt
 ended (Some s) = Err s
 
 -- how a run ended, by the number and by how many changes were done
-abbrev pub stopped_told : ℕ → ℕ → Result (Unit {0}) Stopped
-stopped_told number done = ended (stopped_of (told number) done)
+abbrev pub stopped_reported : ℕ → ℕ → Result (Unit {0}) ReplayError
+stopped_reported number done = ended (stopped_of (reported number) done)
 
 -- a log was replayed; or its numbers would pass 2^64 (EINVAL), nothing was done, and nothing is counted
-abbrev pub ReplaysTold : ℕ → List ℕ → ℕ → ℕ → ℕ → ℕ → PVolume → PVolume → Type 0
-ReplaysTold n log number records done size old new =
-    Replays n log (record { records = records; size = size; stopped = stopped_of (told number) done }) old new
-    ⊎ ((2 ^ 64 ≤ n + length log) × (told number ≡ Err EINVAL) × (records ≡ 0) × (done ≡ 0) × (size ≡ 0) × (new ≡ old))
+abbrev pub ReplaysReported : ℕ → List ℕ → ℕ → ℕ → ℕ → ℕ → PVolume → PVolume → Type 0
+ReplaysReported n log number records done size old new =
+    Replays n log (record { records = records; size = size; stopped = stopped_of (reported number) done }) old new
+    ⊎ ((2 ^ 64 ≤ n + length log) × (reported number ≡ Err EINVAL) × (records ≡ 0) × (done ≡ 0) × (size ≡ 0) × (new ≡ old))

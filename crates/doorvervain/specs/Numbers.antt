@@ -14,13 +14,13 @@ abbrev pub IsNumber : ℕ → Type 0
 IsNumber n = n ≤ 12
 
 -- 0 tells that it was done and gave x; another number tells the refusal of that number
-abbrev pub told_by : {A : Type 0} → ℕ → A → Result A Errno
-told_by zero x = Ok x
-told_by (suc n) x = Err (slice_index_or refusals n ENOSPC)
+abbrev pub reported_by : {A : Type 0} → ℕ → A → Result A Errno
+reported_by zero x = Ok x
+reported_by (suc n) x = Err (slice_index_or refusals n ENOSPC)
 
 -- the same, of a call that gives nothing
-abbrev pub told : ℕ → Result (Unit {0}) Errno
-told n = told_by n tt
+abbrev pub reported : ℕ → Result (Unit {0}) Errno
+reported n = reported_by n tt
 
 -- ---- sizes of what is written where the buffer has room for all of it
 
@@ -30,7 +30,7 @@ short = 13
 
 -- 0 and the number of a short buffer tell that what was asked for has so many bytes; another number tells the refusal of that number
 abbrev pub sized_by : ℕ → ℕ → Result ℕ Errno
-sized_by n size = if n == short then Ok size else told_by n size
+sized_by n size = if n == short then Ok size else reported_by n size
 
 -- the number is 0, that of a refusal, or that of a short buffer
 abbrev pub IsSizeNumber : ℕ → Type 0
@@ -43,13 +43,13 @@ IsShort size out = (0 < length out) × (length out < size)
 -- ---- what stands at a path
 
 -- what a kind, a length and a moment tell: 2 for a file, and else a directory
-abbrev pub meta_told : ℕ → ℕ → ℕ → Meta
-meta_told (suc (suc _)) len at = File len at
-meta_told _ len at = Dir at
+abbrev pub meta_reported : ℕ → ℕ → ℕ → Meta
+meta_reported (suc (suc _)) len at = File len at
+meta_reported _ len at = Dir at
 
 -- the same, behind the number of the call
-abbrev pub stat_told : ℕ → ℕ → ℕ → ℕ → Result Meta Errno
-stat_told n kind len at = told_by n (meta_told kind len at)
+abbrev pub stat_reported : ℕ → ℕ → ℕ → ℕ → Result Meta Errno
+stat_reported n kind len at = reported_by n (meta_reported kind len at)
 
 -- the kind, the length and the moment that are given: kind 1 and no length for a directory, kind 2 for a file, and all 0 for a refusal
 abbrev pub Gives : Result Meta Errno → ℕ → ℕ → ℕ → Type 0

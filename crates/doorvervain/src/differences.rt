@@ -2,12 +2,12 @@
 ghost use Rattle.std.specs.Prelude.{◌≡◌, ◌↔◌, IfErr, IfOk, Ok};
 ghost use Rattle.reference.specs.Worlds.{World};
 ghost use Rattle.volume.specs.Volumes.{Means};
-ghost use Rattle.byte_calls.specs.Differences.{LacksOne, PrintsDifference};
+ghost use Rattle.ffi_calls.specs.Differences.{LacksOne, PrintsDifference};
 ghost use Rattle.delta.specs.Applies.{Applied};
-ghost use Rattle.doorvervain.specs.Differences.{DeltaFaultTold, DeltaTold, NotApplied};
-ghost use Rattle.doorvervain.specs.Numbers.{IsNumber, IsShort, IsSizeNumber, short, sized_by, told};
+ghost use Rattle.doorvervain.specs.Differences.{DeltaFaultReported, DeltaReported, NotApplied};
+ghost use Rattle.doorvervain.specs.Numbers.{IsNumber, IsShort, IsSizeNumber, short, sized_by, reported};
 
-use crate::handle::Handle;
+use crate::handle::VolumeHandle;
 use crate::numbers::{number, sized};
 use delta::{DeltaFault, apply_delta};
 use pathkey::Errno;
@@ -18,7 +18,7 @@ use std::alloc::Global;
 #[unsafe(no_mangle)]
 pub extern "C" fn doorvervain_raw_delta(
     alloc: Global,
-    fs: &mut Handle,
+    fs: &mut VolumeHandle,
     old: &[u8],
     new: &[u8],
     out: &mut [u8],
@@ -32,24 +32,24 @@ pub extern "C" fn doorvervain_raw_delta(
     ensures untouched { IfErr (sized_by result size.new) (λ _. out.new ≡ out.old) }
     ensures kept { fs.new.volume ≡ fs.old.volume }
 {
-    let told = byte_calls::delta(alloc, fs.volume(), old, new, out);
-    sized(told, out.len(), size)
+    let reported = ffi_calls::delta(alloc, fs.volume(), old, new, out);
+    sized(reported, out.len(), size)
 }
 
 /// Makes of the volume's live tree the one that a difference makes of it: 0, and the volume is a new one then, without snapshots. Or ENOENT,
 /// where it is the difference of another tree; EINVAL, and the number of the first line with which the text is no difference goes to
 /// `line`, and 0 where it is one that makes no image; or ENOMEM. Else `line` is 0. Where it is refused, the volume is as it was.
 #[unsafe(no_mangle)]
-pub extern "C" fn doorvervain_raw_apply(
+pub extern "C" fn doorvervain_raw_apply_delta(
     alloc: Global,
-    fs: &mut Handle,
+    fs: &mut VolumeHandle,
     text: &[u8],
     line: &mut u64,
 ) -> u8
-    ensures applied { (w : World) → Means fs.old.volume w → IfOk (told result) (λ _. Applied text.now w.live fs.old.volume.live.indexes.meta.tree.shape fs.new.volume) }
-    ensures line { IfOk (told result) (λ _. line.new ≡ 0) }
-    ensures refused { (w : World) → Means fs.old.volume w → IfErr (told result) (λ e. NotApplied text.now w.live e line.new) }
-    ensures unchanged { IfErr (told result) (λ _. fs.new.volume ≡ fs.old.volume) }
+    ensures applied { (w : World) → Means fs.old.volume w → IfOk (reported result) (λ _. Applied text.now w.live fs.old.volume.live.indexes.meta.tree.shape fs.new.volume) }
+    ensures line { IfOk (reported result) (λ _. line.new ≡ 0) }
+    ensures refused { (w : World) → Means fs.old.volume w → IfErr (reported result) (λ e. NotApplied text.now w.live e line.new) }
+    ensures unchanged { IfErr (reported result) (λ _. fs.new.volume ≡ fs.old.volume) }
     ensures number { IsNumber result }
 {
     number(answer(apply_delta(alloc, fs.volume(), text), line))
@@ -57,7 +57,7 @@ pub extern "C" fn doorvervain_raw_apply(
 
 // What was answered to a difference, and 0 as the line; else why it was not applied, and the line that tells it.
 fn answer(outcome: Result<(), DeltaFault>, line: &mut u64) -> Result<(), Errno>
-    ensures { DeltaTold outcome result line.new }
+    ensures { DeltaReported outcome result line.new }
 {
     match outcome {
         Ok(()) => {
@@ -70,7 +70,7 @@ fn answer(outcome: Result<(), DeltaFault>, line: &mut u64) -> Result<(), Errno>
 
 // Why a difference was not applied, and the number of the line with which the text is none, or 0.
 fn delta_fault(fault: DeltaFault, line: &mut u64) -> Errno
-    ensures { DeltaFaultTold fault result line.new }
+    ensures { DeltaFaultReported fault result line.new }
 {
     *line = 0;
     match fault {

@@ -1,10 +1,10 @@
 //! A frozen tree as C holds it: a pointer, and with it the right to the tree there.
-ghost use Rattle.volume.specs.declared.rooted.Rooted.{Rooted};
+ghost use Rattle.volume.specs.declared.fs_root.FsRoot.{FsRoot};
 ghost use Rattle.volume.specs.contracts.frozen.Frozen.{the_row as frozen_row};
 ghost use Rattle.doorvervain.specs.Held.{held_at};
 
-mod give;
-mod lend;
+mod borrow;
+mod into_raw;
 
 use std::marker::Model;
 
@@ -12,7 +12,7 @@ use std::marker::Model;
 #[repr(C)]
 pub struct FrozenHandle {
     at: *mut u8,
-    pub ghost tree: { Rooted } by { frozen_row.coded },
+    pub ghost tree: { FsRoot } by { frozen_row.coded },
 }
 
 impl Model for FrozenHandle {

@@ -1,12 +1,12 @@
 //! Exports of holes: bytes of a file that become zeros, and what of a file is stored.
 ghost use Rattle.std.specs.Prelude.{◌≡◌, ℕ, IfErr};
 ghost use Rattle.pathkey.specs.Texts.{parsed};
-ghost use Rattle.byte_calls.specs.Holes.{PunchesAt};
-ghost use Rattle.doorvervain.specs.Holes.{RunsAt, run_told};
-ghost use Rattle.doorvervain.specs.Numbers.{IsNumber, told_by};
+ghost use Rattle.ffi_calls.specs.Holes.{PunchesAt};
+ghost use Rattle.doorvervain.specs.Holes.{RunsAt, run_reported};
+ghost use Rattle.doorvervain.specs.Numbers.{IsNumber, reported_by};
 
 use crate::frozen::FrozenHandle;
-use crate::handle::Handle;
+use crate::handle::VolumeHandle;
 use crate::numbers::{run, uncounted};
 use std::alloc::Global;
 
@@ -14,44 +14,44 @@ use std::alloc::Global;
 #[unsafe(no_mangle)]
 pub extern "C" fn doorvervain_raw_punch(
     alloc: Global,
-    fs: &mut Handle,
+    fs: &mut VolumeHandle,
     path: &[u8],
     offset: u64,
     count: u64,
     at: u64,
 ) -> u8
-    ensures call { (zeros : ℕ) × PunchesAt (parsed path.now) offset count at (told_by result zeros) fs.old.volume fs.new.volume }
+    ensures call { (zeros : ℕ) × PunchesAt (parsed path.now) offset count at (reported_by result zeros) fs.old.volume fs.new.volume }
     ensures number { IsNumber result }
 {
-    uncounted(byte_calls::punch(alloc, fs.volume(), path, offset, count, at))
+    uncounted(ffi_calls::punch(alloc, fs.volume(), path, offset, count, at))
 }
 
 /// The next run of stored bytes of a file of the live tree at or behind the offset: where it begins goes to `begin`, and where it ends
 /// to `end`. Both are the file's length where there is none, and 0 for a refusal.
 #[unsafe(no_mangle)]
-pub extern "C" fn doorvervain_raw_data(
+pub extern "C" fn doorvervain_raw_next_extent(
     alloc: Global,
-    fs: &mut Handle,
+    fs: &mut VolumeHandle,
     path: &[u8],
     offset: u64,
     begin: &mut u64,
     end: &mut u64,
 ) -> u8
-    ensures run { RunsAt path.now offset fs.old.volume.live (run_told result begin.new end.new) }
+    ensures run { RunsAt path.now offset fs.old.volume.live (run_reported result begin.new end.new) }
     ensures number { IsNumber result }
-    ensures refused { IfErr (run_told result begin.new end.new) (λ _. (begin.new ≡ 0) × (end.new ≡ 0)) }
+    ensures refused { IfErr (run_reported result begin.new end.new) (λ _. (begin.new ≡ 0) × (end.new ≡ 0)) }
     ensures kept { fs.new.volume ≡ fs.old.volume }
 {
     run(
-        byte_calls::stored(alloc, fs.volume(), path, offset),
+        ffi_calls::stored(alloc, fs.volume(), path, offset),
         begin,
         end,
     )
 }
 
-/// The next run of stored bytes of a file of a frozen tree, as `doorvervain_raw_data` tells it of the live one.
+/// The next run of stored bytes of a file of a frozen tree, as `doorvervain_raw_next_extent` tells it of the live one.
 #[unsafe(no_mangle)]
-pub extern "C" fn doorvervain_raw_frozen_data(
+pub extern "C" fn doorvervain_raw_frozen_next_extent(
     alloc: Global,
     tree: &mut FrozenHandle,
     path: &[u8],
@@ -59,13 +59,13 @@ pub extern "C" fn doorvervain_raw_frozen_data(
     begin: &mut u64,
     end: &mut u64,
 ) -> u8
-    ensures run { RunsAt path.now offset tree.old.tree (run_told result begin.new end.new) }
+    ensures run { RunsAt path.now offset tree.old.tree (run_reported result begin.new end.new) }
     ensures number { IsNumber result }
-    ensures refused { IfErr (run_told result begin.new end.new) (λ _. (begin.new ≡ 0) × (end.new ≡ 0)) }
+    ensures refused { IfErr (run_reported result begin.new end.new) (λ _. (begin.new ≡ 0) × (end.new ≡ 0)) }
     ensures kept { tree.new.tree ≡ tree.old.tree }
 {
     run(
-        byte_calls::frozen_stored(alloc, tree.tree(), path, offset),
+        ffi_calls::frozen_stored(alloc, tree.tree(), path, offset),
         begin,
         end,
     )

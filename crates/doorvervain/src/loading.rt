@@ -1,20 +1,20 @@
 //! A loading as C holds it: a pointer, and with it the right to what lies there.
-ghost use Rattle.images.specs.declared.loader.Loader.{Loader};
-ghost use Rattle.images.specs.contracts.loader.Loader.{the_row as loading_row};
+ghost use Rattle.images.specs.declared.loader.ImageLoader.{ImageLoader};
+ghost use Rattle.images.specs.contracts.loader.ImageLoader.{the_row as loading_row};
 ghost use Rattle.doorvervain.specs.Held.{held_at};
 
-mod give;
-mod lend;
+mod borrow;
+mod into_raw;
 
 use std::marker::Model;
 
 /// The right to a loading, and to free it. In C a struct of one pointer.
 #[repr(C)]
-pub struct LoadingHandle {
+pub struct LoaderHandle {
     at: *mut u8,
-    pub ghost loading: { Loader } by { loading_row.coded },
+    pub ghost loading: { ImageLoader } by { loading_row.coded },
 }
 
-impl Model for LoadingHandle {
+impl Model for LoaderHandle {
     ghost also_owns = { λ h. held_at loading_row h.at h.loading };
 }

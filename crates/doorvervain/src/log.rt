@@ -4,124 +4,127 @@ ghost use Rattle.std.specs.Prelude.{◌≡◌, ◌↔◌, ◌++◌, IfErr, IfOk,
 ghost use Rattle.pathkey.specs.SnapNames.{snap_parsed};
 ghost use Rattle.pathkey.specs.Texts.{parsed};
 ghost use Rattle.pathkey.specs.declared.errno.Errno.TheVariants.{ENOMEM};
-ghost use Rattle.logs.specs.Lays.{Lays, LaysBytes, asked, moved};
+ghost use Rattle.logs.specs.Encode.{Encodes, EncodesBytes, asked, moved};
 ghost use Rattle.logs.specs.Records.{digest, front};
-ghost use Rattle.logs.specs.declared.change.Change.TheVariants as change;
-ghost use Rattle.logs.specs.declared.change.Keeping.TheVariants as keeping;
-ghost use Rattle.logs.specs.declared.change.PathChange.TheVariants as on;
-ghost use Rattle.log_lines.specs.Told.{LaysLines};
+ghost use Rattle.logs.specs.declared.wal_entry.WalEntry.TheVariants as change;
+ghost use Rattle.logs.specs.declared.wal_entry.SnapshotCall.TheVariants as keeping;
+ghost use Rattle.logs.specs.declared.wal_entry.PathCall.TheVariants as on;
+ghost use Rattle.log_lines.specs.Dump.{EncodesLines};
 ghost use Rattle.recovery.specs.Runs.{RunsBody};
-ghost use Rattle.doorvervain.specs.Log.{FindsRecord, ReplaysTold, stopped_of, stopped_told};
-ghost use Rattle.doorvervain.specs.Numbers.{IsNumber, IsShort, IsSizeNumber, short, sized_by, told, told_by};
+ghost use Rattle.doorvervain.specs.Log.{FindsRecord, ReplaysReported, stopped_of, stopped_reported};
+ghost use Rattle.doorvervain.specs.Numbers.{IsNumber, IsShort, IsSizeNumber, short, sized_by, reported, reported_by};
 
-use crate::handle::Handle;
+use crate::handle::VolumeHandle;
 use crate::numbers::{count, number, sized};
-use log_lines::lay_log_lines;
-use logs::lay::{lay_ends, lay_keep, lay_on_path, lay_punch, lay_rename, lay_truncate, lay_write};
-use logs::{Keeping, PathChange, next_record};
+use log_lines::wal_dump_into;
+use logs::encode::{
+    encode_frame, encode_path_call, encode_punch, encode_rename, encode_snapshot_call,
+    encode_truncate, encode_write,
+};
+use logs::{PathCall, SnapshotCall, next_record};
 use pathkey::Errno;
-use recovery::{Stopped, replay, run_body};
+use recovery::{ReplayError, replay, replay_body};
 use std::alloc::Global;
 
 /// The entry of a directory that is made. How many bytes it has goes to `size`; they are written where the buffer has
 /// room for all of them.
 #[unsafe(no_mangle)]
-pub extern "C" fn doorvervain_raw_log_mkdir(
+pub extern "C" fn doorvervain_raw_wal_mkdir(
     alloc: Global,
     path: &[u8],
     at: u64,
     out: &mut [u8],
     size: &mut usize,
 ) -> u8
-    ensures change { Lays (asked (λ p. change.OnPath on.Mkdir p at) (parsed path.now)) (sized_by result size.new) out.old out.new }
+    ensures change { Encodes (asked (λ p. change.OnPath on.Mkdir p at) (parsed path.now)) (sized_by result size.new) out.old out.new }
     ensures short { (result ≡ short) ↔ IsShort size.new out.old }
     ensures number { IsSizeNumber result }
     ensures refused { IfErr (sized_by result size.new) (λ _. size.new ≡ 0) }
 {
-    let laid = lay_on_path(alloc, PathChange::Mkdir, path, at, out);
+    let laid = encode_path_call(alloc, PathCall::Mkdir, path, at, out);
     sized(laid, out.len(), size)
 }
 
 /// The entry of a file that is made. How many bytes it has goes to `size`; they are written where the buffer has
 /// room for all of them.
 #[unsafe(no_mangle)]
-pub extern "C" fn doorvervain_raw_log_create(
+pub extern "C" fn doorvervain_raw_wal_create(
     alloc: Global,
     path: &[u8],
     at: u64,
     out: &mut [u8],
     size: &mut usize,
 ) -> u8
-    ensures change { Lays (asked (λ p. change.OnPath on.Create p at) (parsed path.now)) (sized_by result size.new) out.old out.new }
+    ensures change { Encodes (asked (λ p. change.OnPath on.Create p at) (parsed path.now)) (sized_by result size.new) out.old out.new }
     ensures short { (result ≡ short) ↔ IsShort size.new out.old }
     ensures number { IsSizeNumber result }
     ensures refused { IfErr (sized_by result size.new) (λ _. size.new ≡ 0) }
 {
-    let laid = lay_on_path(alloc, PathChange::Create, path, at, out);
+    let laid = encode_path_call(alloc, PathCall::Create, path, at, out);
     sized(laid, out.len(), size)
 }
 
 /// The entry of a file that is taken out. How many bytes it has goes to `size`; they are written where the buffer has
 /// room for all of them.
 #[unsafe(no_mangle)]
-pub extern "C" fn doorvervain_raw_log_unlink(
+pub extern "C" fn doorvervain_raw_wal_unlink(
     alloc: Global,
     path: &[u8],
     at: u64,
     out: &mut [u8],
     size: &mut usize,
 ) -> u8
-    ensures change { Lays (asked (λ p. change.OnPath on.Unlink p at) (parsed path.now)) (sized_by result size.new) out.old out.new }
+    ensures change { Encodes (asked (λ p. change.OnPath on.Unlink p at) (parsed path.now)) (sized_by result size.new) out.old out.new }
     ensures short { (result ≡ short) ↔ IsShort size.new out.old }
     ensures number { IsSizeNumber result }
     ensures refused { IfErr (sized_by result size.new) (λ _. size.new ≡ 0) }
 {
-    let laid = lay_on_path(alloc, PathChange::Unlink, path, at, out);
+    let laid = encode_path_call(alloc, PathCall::Unlink, path, at, out);
     sized(laid, out.len(), size)
 }
 
 /// The entry of an empty directory that is taken out. How many bytes it has goes to `size`; they are written where the buffer has
 /// room for all of them.
 #[unsafe(no_mangle)]
-pub extern "C" fn doorvervain_raw_log_rmdir(
+pub extern "C" fn doorvervain_raw_wal_rmdir(
     alloc: Global,
     path: &[u8],
     at: u64,
     out: &mut [u8],
     size: &mut usize,
 ) -> u8
-    ensures change { Lays (asked (λ p. change.OnPath on.Rmdir p at) (parsed path.now)) (sized_by result size.new) out.old out.new }
+    ensures change { Encodes (asked (λ p. change.OnPath on.Rmdir p at) (parsed path.now)) (sized_by result size.new) out.old out.new }
     ensures short { (result ≡ short) ↔ IsShort size.new out.old }
     ensures number { IsSizeNumber result }
     ensures refused { IfErr (sized_by result size.new) (λ _. size.new ≡ 0) }
 {
-    let laid = lay_on_path(alloc, PathChange::Rmdir, path, at, out);
+    let laid = encode_path_call(alloc, PathCall::Rmdir, path, at, out);
     sized(laid, out.len(), size)
 }
 
 /// The entry of what is taken out with all below it. How many bytes it has goes to `size`; they are written where the buffer has
 /// room for all of them.
 #[unsafe(no_mangle)]
-pub extern "C" fn doorvervain_raw_log_rmtree(
+pub extern "C" fn doorvervain_raw_wal_rmtree(
     alloc: Global,
     path: &[u8],
     at: u64,
     out: &mut [u8],
     size: &mut usize,
 ) -> u8
-    ensures change { Lays (asked (λ p. change.OnPath on.Rmtree p at) (parsed path.now)) (sized_by result size.new) out.old out.new }
+    ensures change { Encodes (asked (λ p. change.OnPath on.Rmtree p at) (parsed path.now)) (sized_by result size.new) out.old out.new }
     ensures short { (result ≡ short) ↔ IsShort size.new out.old }
     ensures number { IsSizeNumber result }
     ensures refused { IfErr (sized_by result size.new) (λ _. size.new ≡ 0) }
 {
-    let laid = lay_on_path(alloc, PathChange::Rmtree, path, at, out);
+    let laid = encode_path_call(alloc, PathCall::Rmtree, path, at, out);
     sized(laid, out.len(), size)
 }
 
 /// The entry of a move from the first path to the second. How many bytes it has goes to `size`; they are written where the buffer has
 /// room for all of them.
 #[unsafe(no_mangle)]
-pub extern "C" fn doorvervain_raw_log_rename(
+pub extern "C" fn doorvervain_raw_wal_rename(
     alloc: Global,
     old: &[u8],
     new: &[u8],
@@ -129,19 +132,19 @@ pub extern "C" fn doorvervain_raw_log_rename(
     out: &mut [u8],
     size: &mut usize,
 ) -> u8
-    ensures change { Lays (moved at (parsed old.now) (parsed new.now)) (sized_by result size.new) out.old out.new }
+    ensures change { Encodes (moved at (parsed old.now) (parsed new.now)) (sized_by result size.new) out.old out.new }
     ensures short { (result ≡ short) ↔ IsShort size.new out.old }
     ensures number { IsSizeNumber result }
     ensures refused { IfErr (sized_by result size.new) (λ _. size.new ≡ 0) }
 {
-    let laid = lay_rename(alloc, old, new, at, out);
+    let laid = encode_rename(alloc, old, new, at, out);
     sized(laid, out.len(), size)
 }
 
 /// The entry of a file that is cut or lengthened to so many bytes. How many bytes it has goes to `size`; they are written where the buffer has
 /// room for all of them.
 #[unsafe(no_mangle)]
-pub extern "C" fn doorvervain_raw_log_truncate(
+pub extern "C" fn doorvervain_raw_wal_truncate(
     alloc: Global,
     path: &[u8],
     length: u64,
@@ -149,19 +152,19 @@ pub extern "C" fn doorvervain_raw_log_truncate(
     out: &mut [u8],
     size: &mut usize,
 ) -> u8
-    ensures change { Lays (asked (λ p. change.Truncate p length at) (parsed path.now)) (sized_by result size.new) out.old out.new }
+    ensures change { Encodes (asked (λ p. change.Truncate p length at) (parsed path.now)) (sized_by result size.new) out.old out.new }
     ensures short { (result ≡ short) ↔ IsShort size.new out.old }
     ensures number { IsSizeNumber result }
     ensures refused { IfErr (sized_by result size.new) (λ _. size.new ≡ 0) }
 {
-    let laid = lay_truncate(alloc, path, length, at, out);
+    let laid = encode_truncate(alloc, path, length, at, out);
     sized(laid, out.len(), size)
 }
 
 /// The entry of bytes that are laid over a file from the offset on. How many bytes it has goes to `size`; they are written where the buffer has
 /// room for all of them.
 #[unsafe(no_mangle)]
-pub extern "C" fn doorvervain_raw_log_write(
+pub extern "C" fn doorvervain_raw_wal_write(
     alloc: Global,
     path: &[u8],
     offset: u64,
@@ -170,19 +173,19 @@ pub extern "C" fn doorvervain_raw_log_write(
     out: &mut [u8],
     size: &mut usize,
 ) -> u8
-    ensures change { Lays (asked (λ p. change.Write p offset bytes.now at) (parsed path.now)) (sized_by result size.new) out.old out.new }
+    ensures change { Encodes (asked (λ p. change.Write p offset bytes.now at) (parsed path.now)) (sized_by result size.new) out.old out.new }
     ensures short { (result ≡ short) ↔ IsShort size.new out.old }
     ensures number { IsSizeNumber result }
     ensures refused { IfErr (sized_by result size.new) (λ _. size.new ≡ 0) }
 {
-    let laid = lay_write(alloc, path, offset, bytes, at, out);
+    let laid = encode_write(alloc, path, offset, bytes, at, out);
     sized(laid, out.len(), size)
 }
 
 /// The entry of a hole of so many bytes from the offset on. How many bytes it has goes to `size`; they are written where the buffer has
 /// room for all of them.
 #[unsafe(no_mangle)]
-pub extern "C" fn doorvervain_raw_log_punch(
+pub extern "C" fn doorvervain_raw_wal_punch(
     alloc: Global,
     path: &[u8],
     offset: u64,
@@ -191,96 +194,96 @@ pub extern "C" fn doorvervain_raw_log_punch(
     out: &mut [u8],
     size: &mut usize,
 ) -> u8
-    ensures change { Lays (asked (λ p. change.Punch p offset count at) (parsed path.now)) (sized_by result size.new) out.old out.new }
+    ensures change { Encodes (asked (λ p. change.Punch p offset count at) (parsed path.now)) (sized_by result size.new) out.old out.new }
     ensures short { (result ≡ short) ↔ IsShort size.new out.old }
     ensures number { IsSizeNumber result }
     ensures refused { IfErr (sized_by result size.new) (λ _. size.new ≡ 0) }
 {
-    let laid = lay_punch(alloc, path, offset, count, at, out);
+    let laid = encode_punch(alloc, path, offset, count, at, out);
     sized(laid, out.len(), size)
 }
 
 /// The entry of a snapshot that is taken. How many bytes it has goes to `size`; they are written where the buffer has
 /// room for all of them.
 #[unsafe(no_mangle)]
-pub extern "C" fn doorvervain_raw_log_snapshot(
+pub extern "C" fn doorvervain_raw_wal_snapshot(
     alloc: Global,
     name: &[u8],
     out: &mut [u8],
     size: &mut usize,
 ) -> u8
-    ensures change { Lays (asked (λ s. change.Keep keeping.Snapshot s) (snap_parsed name.now)) (sized_by result size.new) out.old out.new }
+    ensures change { Encodes (asked (λ s. change.Keep keeping.Snapshot s) (snap_parsed name.now)) (sized_by result size.new) out.old out.new }
     ensures short { (result ≡ short) ↔ IsShort size.new out.old }
     ensures number { IsSizeNumber result }
     ensures refused { IfErr (sized_by result size.new) (λ _. size.new ≡ 0) }
 {
-    let laid = lay_keep(alloc, Keeping::Snapshot, name, out);
+    let laid = encode_snapshot_call(alloc, SnapshotCall::Snapshot, name, out);
     sized(laid, out.len(), size)
 }
 
 /// The entry of a snapshot that is removed. How many bytes it has goes to `size`; they are written where the buffer has
 /// room for all of them.
 #[unsafe(no_mangle)]
-pub extern "C" fn doorvervain_raw_log_drop(
+pub extern "C" fn doorvervain_raw_wal_drop(
     alloc: Global,
     name: &[u8],
     out: &mut [u8],
     size: &mut usize,
 ) -> u8
-    ensures change { Lays (asked (λ s. change.Keep keeping.Remove s) (snap_parsed name.now)) (sized_by result size.new) out.old out.new }
+    ensures change { Encodes (asked (λ s. change.Keep keeping.Remove s) (snap_parsed name.now)) (sized_by result size.new) out.old out.new }
     ensures short { (result ≡ short) ↔ IsShort size.new out.old }
     ensures number { IsSizeNumber result }
     ensures refused { IfErr (sized_by result size.new) (λ _. size.new ≡ 0) }
 {
-    let laid = lay_keep(alloc, Keeping::Remove, name, out);
+    let laid = encode_snapshot_call(alloc, SnapshotCall::Remove, name, out);
     sized(laid, out.len(), size)
 }
 
 /// The entry of a snapshot that is restored. How many bytes it has goes to `size`; they are written where the buffer has
 /// room for all of them.
 #[unsafe(no_mangle)]
-pub extern "C" fn doorvervain_raw_log_restore(
+pub extern "C" fn doorvervain_raw_wal_restore(
     alloc: Global,
     name: &[u8],
     out: &mut [u8],
     size: &mut usize,
 ) -> u8
-    ensures change { Lays (asked (λ s. change.Keep keeping.Restore s) (snap_parsed name.now)) (sized_by result size.new) out.old out.new }
+    ensures change { Encodes (asked (λ s. change.Keep keeping.Restore s) (snap_parsed name.now)) (sized_by result size.new) out.old out.new }
     ensures short { (result ≡ short) ↔ IsShort size.new out.old }
     ensures number { IsSizeNumber result }
     ensures refused { IfErr (sized_by result size.new) (λ _. size.new ≡ 0) }
 {
-    let laid = lay_keep(alloc, Keeping::Restore, name, out);
+    let laid = encode_snapshot_call(alloc, SnapshotCall::Restore, name, out);
     sized(laid, out.len(), size)
 }
 
 /// What stands round the body of a record of this number: 24 bytes before it, and 32 behind it. How many bytes these are goes to `size`;
 /// they are written where the buffer has room for all of them.
 #[unsafe(no_mangle)]
-pub extern "C" fn doorvervain_raw_log_ends(
+pub extern "C" fn doorvervain_raw_wal_frame(
     alloc: Global,
     number: u64,
     body: &[u8],
     out: &mut [u8],
     size: &mut usize,
 ) -> u8
-    ensures ends { LaysBytes (front number (length body.now) ++ digest number body.now) (sized_by result size.new) out.old out.new }
+    ensures ends { EncodesBytes (front number (length body.now) ++ digest number body.now) (sized_by result size.new) out.old out.new }
     ensures memory { IfErr (sized_by result size.new) (λ e. e ≡ ENOMEM) }
     ensures short { (result ≡ short) ↔ IsShort size.new out.old }
     ensures number { IsSizeNumber result }
     ensures refused { IfErr (sized_by result size.new) (λ _. size.new ≡ 0) }
 {
-    let laid = lay_ends(alloc, number, body, out);
+    let laid = encode_frame(alloc, number, body, out);
     sized(laid, out.len(), size)
 }
 
 /// How many bytes the body has of the record of this number with which a log begins. They stand 24 bytes behind the log's beginning, and the
 /// next record 32 bytes behind them. ENOENT where the log begins with no such record.
 #[unsafe(no_mangle)]
-pub extern "C" fn doorvervain_raw_log_next(log: &[u8], number: u64, size: &mut usize) -> u8
-    ensures record { FindsRecord number log.now (told_by result size.new) }
+pub extern "C" fn doorvervain_raw_wal_next(log: &[u8], number: u64, size: &mut usize) -> u8
+    ensures record { FindsRecord number log.now (reported_by result size.new) }
     ensures number { IsNumber result }
-    ensures refused { IfErr (told_by result size.new) (λ _. size.new ≡ 0) }
+    ensures refused { IfErr (reported_by result size.new) (λ _. size.new ≡ 0) }
 {
     let found = match next_record(log, number) {
         Some((body, _)) => Ok(body.len()),
@@ -292,35 +295,35 @@ pub extern "C" fn doorvervain_raw_log_next(log: &[u8], number: u64, size: &mut u
 /// The lines of a script that ask for the changes of a body. How many bytes they have goes to `size`; they are written where the buffer has
 /// room for all of them. EINVAL: the bytes are no body. EFBIG: a write reaches past 2^64. ENOMEM.
 #[unsafe(no_mangle)]
-pub extern "C" fn doorvervain_raw_log_lines(
+pub extern "C" fn doorvervain_raw_wal_dump(
     alloc: Global,
     body: &[u8],
     out: &mut [u8],
     size: &mut usize,
 ) -> u8
-    ensures lines { LaysLines body.now (sized_by result size.new) out.old out.new }
+    ensures lines { EncodesLines body.now (sized_by result size.new) out.old out.new }
     ensures short { (result ≡ short) ↔ IsShort size.new out.old }
     ensures number { IsSizeNumber result }
     ensures refused { IfErr (sized_by result size.new) (λ _. size.new ≡ 0) }
 {
-    let laid = lay_log_lines(alloc, body, out);
+    let laid = wal_dump_into(alloc, body, out);
     sized(laid, out.len(), size)
 }
 
 /// Does the changes of the body of a record. Of those before the one that was refused, `done` tells how many there are; it is 0 where none was
 /// refused, and where the body was not read, which is EINVAL or ENOMEM.
 #[unsafe(no_mangle)]
-pub extern "C" fn doorvervain_raw_log_run(
+pub extern "C" fn doorvervain_raw_wal_apply(
     alloc: Global,
-    fs: &mut Handle,
+    fs: &mut VolumeHandle,
     body: &[u8],
     done: &mut usize,
 ) -> u8
-    ensures run { RunsBody body.now (stopped_told result done.new) fs.old.volume fs.new.volume }
-    ensures all { IfOk (told result) (λ _. done.new ≡ 0) }
+    ensures run { RunsBody body.now (stopped_reported result done.new) fs.old.volume fs.new.volume }
+    ensures all { IfOk (reported result) (λ _. done.new ≡ 0) }
     ensures number { IsNumber result }
 {
-    match run_body(alloc, fs.volume(), body) {
+    match replay_body(alloc, fs.volume(), body) {
         Ok(()) => tell(None, done),
         Err(stopped) => tell(Some(stopped), done),
     }
@@ -330,17 +333,17 @@ pub extern "C" fn doorvervain_raw_log_run(
 /// how many bytes they take. Where a change was refused, `done` tells how many of its record were done, and else it is 0. EINVAL, with
 /// nothing done and each of these 0, where the number is so great that the log's would pass 2^64.
 #[unsafe(no_mangle)]
-pub extern "C" fn doorvervain_raw_log_replay(
+pub extern "C" fn doorvervain_raw_wal_replay(
     alloc: Global,
-    fs: &mut Handle,
+    fs: &mut VolumeHandle,
     log: &[u8],
     number: u64,
     records: &mut usize,
     done: &mut usize,
     size: &mut usize,
 ) -> u8
-    ensures replayed { ReplaysTold number log.now result records.new done.new size.new fs.old.volume fs.new.volume }
-    ensures all { IfOk (told result) (λ _. done.new ≡ 0) }
+    ensures replayed { ReplaysReported number log.now result records.new done.new size.new fs.old.volume fs.new.volume }
+    ensures all { IfOk (reported result) (λ _. done.new ≡ 0) }
     ensures number { IsNumber result }
 {
     if number > u64::MAX - log.len() as u64 {
@@ -349,16 +352,16 @@ pub extern "C" fn doorvervain_raw_log_replay(
         *size = 0;
         return Errno::EINVAL.number();
     }
-    let told = replay(alloc, fs.volume(), log, number);
-    *records = told.records;
-    *size = told.size;
-    tell(told.stopped, done)
+    let reported = replay(alloc, fs.volume(), log, number);
+    *records = reported.records;
+    *size = reported.size;
+    tell(reported.stopped, done)
 }
 
 // The number of a run, and how many changes were done before the one that was refused.
-fn tell(stopped: Option<Stopped>, done: &mut usize) -> u8
-    ensures told { stopped_of (told result) done.new ≡ stopped }
-    ensures all { IfOk (told result) (λ _. done.new ≡ 0) }
+fn tell(stopped: Option<ReplayError>, done: &mut usize) -> u8
+    ensures reported { stopped_of (reported result) done.new ≡ stopped }
+    ensures all { IfOk (reported result) (λ _. done.new ≡ 0) }
     ensures number { IsNumber result }
 {
     match stopped {

@@ -1,16 +1,16 @@
 //! Exports of the calls that only look: the volume, or the tree, is as it was. A refusal gives 0 as each other result.
 ghost use Rattle.std.specs.Prelude.{◌≡◌, ◌↔◌, IfErr, slice_get};
-ghost use Rattle.byte_calls.specs.Images.{Prints};
-ghost use Rattle.byte_calls.specs.Looks.{Fills};
-ghost use Rattle.byte_calls.specs.Snapshots.{TellsName};
+ghost use Rattle.ffi_calls.specs.Images.{Prints};
+ghost use Rattle.ffi_calls.specs.Reads.{Fills};
+ghost use Rattle.ffi_calls.specs.Snapshots.{TellsName};
 ghost use Rattle.reference.specs.Image.{Second, image};
 ghost use Rattle.reference.specs.Tree.{Tree};
 ghost use Rattle.volume.specs.Volumes.{AreNames, MeanRooted, names_in};
-ghost use Rattle.doorvervain.specs.Looks.{ListsAt, ReadsAt, StatsAt};
-ghost use Rattle.doorvervain.specs.Numbers.{Gives, IsNumber, IsShort, IsSizeNumber, short, sized_by, stat_told, told_by};
+ghost use Rattle.doorvervain.specs.Reads.{ListsAt, ReadsAt, StatsAt};
+ghost use Rattle.doorvervain.specs.Numbers.{Gives, IsNumber, IsShort, IsSizeNumber, short, sized_by, stat_reported, reported_by};
 
 use crate::frozen::FrozenHandle;
-use crate::handle::Handle;
+use crate::handle::VolumeHandle;
 use crate::numbers::{count, kind, sized};
 use std::alloc::Global;
 
@@ -18,19 +18,19 @@ use std::alloc::Global;
 #[unsafe(no_mangle)]
 pub extern "C" fn doorvervain_raw_read(
     alloc: Global,
-    fs: &mut Handle,
+    fs: &mut VolumeHandle,
     path: &[u8],
     offset: u64,
     out: &mut [u8],
     got: &mut usize,
 ) -> u8
-    ensures reply { ReadsAt path.now offset fs.old.volume.live (told_by result got.new) out.old out.new }
-    ensures buffer { Fills (told_by result got.new) out.old out.new }
+    ensures reply { ReadsAt path.now offset fs.old.volume.live (reported_by result got.new) out.old out.new }
+    ensures buffer { Fills (reported_by result got.new) out.old out.new }
     ensures number { IsNumber result }
-    ensures refused { IfErr (told_by result got.new) (λ _. got.new ≡ 0) }
+    ensures refused { IfErr (reported_by result got.new) (λ _. got.new ≡ 0) }
     ensures kept { fs.new.volume ≡ fs.old.volume }
 {
-    count(byte_calls::read(alloc, fs.volume(), path, offset, out), got)
+    count(ffi_calls::read(alloc, fs.volume(), path, offset, out), got)
 }
 
 /// What stands at a path of the live tree: 1 to `kind` for a directory or 2 for a file, its length to `length`, and its moment to
@@ -38,19 +38,19 @@ pub extern "C" fn doorvervain_raw_read(
 #[unsafe(no_mangle)]
 pub extern "C" fn doorvervain_raw_stat(
     alloc: Global,
-    fs: &mut Handle,
+    fs: &mut VolumeHandle,
     path: &[u8],
     kind_of: &mut u8,
     length_of: &mut u64,
     moment_of: &mut u64,
 ) -> u8
-    ensures reply { StatsAt path.now fs.old.volume.live (stat_told result kind_of.new length_of.new moment_of.new) }
+    ensures reply { StatsAt path.now fs.old.volume.live (stat_reported result kind_of.new length_of.new moment_of.new) }
     ensures number { IsNumber result }
-    ensures gives { Gives (stat_told result kind_of.new length_of.new moment_of.new) kind_of.new length_of.new moment_of.new }
+    ensures gives { Gives (stat_reported result kind_of.new length_of.new moment_of.new) kind_of.new length_of.new moment_of.new }
     ensures kept { fs.new.volume ≡ fs.old.volume }
 {
     kind(
-        byte_calls::stat(alloc, fs.volume(), path),
+        ffi_calls::stat(alloc, fs.volume(), path),
         kind_of,
         length_of,
         moment_of,
@@ -63,7 +63,7 @@ pub extern "C" fn doorvervain_raw_stat(
 #[unsafe(no_mangle)]
 pub extern "C" fn doorvervain_raw_readdir(
     alloc: Global,
-    fs: &mut Handle,
+    fs: &mut VolumeHandle,
     path: &[u8],
     out: &mut [u8],
     size: &mut usize,
@@ -75,7 +75,7 @@ pub extern "C" fn doorvervain_raw_readdir(
     ensures untouched { IfErr (sized_by result size.new) (λ _. out.new ≡ out.old) }
     ensures kept { fs.new.volume ≡ fs.old.volume }
 {
-    let listed = byte_calls::readdir(alloc, fs.volume(), path, out);
+    let listed = ffi_calls::readdir(alloc, fs.volume(), path, out);
     sized(listed, out.len(), size)
 }
 
@@ -89,14 +89,14 @@ pub extern "C" fn doorvervain_raw_frozen_read(
     out: &mut [u8],
     got: &mut usize,
 ) -> u8
-    ensures reply { ReadsAt path.now offset tree.old.tree (told_by result got.new) out.old out.new }
-    ensures buffer { Fills (told_by result got.new) out.old out.new }
+    ensures reply { ReadsAt path.now offset tree.old.tree (reported_by result got.new) out.old out.new }
+    ensures buffer { Fills (reported_by result got.new) out.old out.new }
     ensures number { IsNumber result }
-    ensures refused { IfErr (told_by result got.new) (λ _. got.new ≡ 0) }
+    ensures refused { IfErr (reported_by result got.new) (λ _. got.new ≡ 0) }
     ensures kept { tree.new.tree ≡ tree.old.tree }
 {
     count(
-        byte_calls::frozen_read(alloc, tree.tree(), path, offset, out),
+        ffi_calls::frozen_read(alloc, tree.tree(), path, offset, out),
         got,
     )
 }
@@ -112,13 +112,13 @@ pub extern "C" fn doorvervain_raw_frozen_stat(
     length_of: &mut u64,
     moment_of: &mut u64,
 ) -> u8
-    ensures reply { StatsAt path.now tree.old.tree (stat_told result kind_of.new length_of.new moment_of.new) }
+    ensures reply { StatsAt path.now tree.old.tree (stat_reported result kind_of.new length_of.new moment_of.new) }
     ensures number { IsNumber result }
-    ensures gives { Gives (stat_told result kind_of.new length_of.new moment_of.new) kind_of.new length_of.new moment_of.new }
+    ensures gives { Gives (stat_reported result kind_of.new length_of.new moment_of.new) kind_of.new length_of.new moment_of.new }
     ensures kept { tree.new.tree ≡ tree.old.tree }
 {
     kind(
-        byte_calls::frozen_stat(alloc, tree.tree(), path),
+        ffi_calls::frozen_stat(alloc, tree.tree(), path),
         kind_of,
         length_of,
         moment_of,
@@ -143,7 +143,7 @@ pub extern "C" fn doorvervain_raw_frozen_readdir(
     ensures untouched { IfErr (sized_by result size.new) (λ _. out.new ≡ out.old) }
     ensures kept { tree.new.tree ≡ tree.old.tree }
 {
-    let listed = byte_calls::frozen_readdir(alloc, tree.tree(), path, out);
+    let listed = ffi_calls::frozen_readdir(alloc, tree.tree(), path, out);
     sized(listed, out.len(), size)
 }
 
@@ -162,7 +162,7 @@ pub extern "C" fn doorvervain_raw_image(
     ensures refused { IfErr (sized_by result size.new) (λ _. size.new ≡ 0) }
     ensures kept { tree.new.tree ≡ tree.old.tree }
 {
-    let printed = byte_calls::print(alloc, tree.tree(), out);
+    let printed = ffi_calls::print(alloc, tree.tree(), out);
     sized(printed, out.len(), size)
 }
 
@@ -170,7 +170,7 @@ pub extern "C" fn doorvervain_raw_image(
 /// written where the buffer has room for all of them. One with less room is short; one with none only asks for the size.
 #[unsafe(no_mangle)]
 pub extern "C" fn doorvervain_raw_snapshot_name(
-    fs: &mut Handle,
+    fs: &mut VolumeHandle,
     index: usize,
     out: &mut [u8],
     size: &mut usize,
@@ -182,6 +182,6 @@ pub extern "C" fn doorvervain_raw_snapshot_name(
     ensures refused { IfErr (sized_by result size.new) (λ _. size.new ≡ 0) }
     ensures kept { fs.new.volume ≡ fs.old.volume }
 {
-    let told = byte_calls::snapshot_name(fs.volume(), index, out);
-    sized(told, out.len(), size)
+    let reported = ffi_calls::snapshot_name(fs.volume(), index, out);
+    sized(reported, out.len(), size)
 }

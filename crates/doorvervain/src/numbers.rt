@@ -1,7 +1,7 @@
 //! Outcomes as numbers that C takes.
 ghost use Rattle.std.specs.Prelude.{◌≡◌, ◌↔◌, ◌<◌, ℕ, IfErr};
-ghost use Rattle.doorvervain.specs.Holes.{run_told};
-ghost use Rattle.doorvervain.specs.Numbers.{Gives, IsNumber, IsSizeNumber, short, sized_by, stat_told, told, told_by};
+ghost use Rattle.doorvervain.specs.Holes.{run_reported};
+ghost use Rattle.doorvervain.specs.Numbers.{Gives, IsNumber, IsSizeNumber, short, sized_by, stat_reported, reported, reported_by};
 
 use pathkey::Errno;
 use reference::Meta;
@@ -23,7 +23,7 @@ const NEITHER: u8 = 0;
 
 /// The number of an outcome: 0, or that of the refusal.
 pub(crate) fn number(outcome: Result<(), Errno>) -> u8
-    ensures told { told result ≡ outcome }
+    ensures reported { reported result ≡ outcome }
     ensures number { IsNumber result }
 {
     match outcome {
@@ -34,7 +34,7 @@ pub(crate) fn number(outcome: Result<(), Errno>) -> u8
 
 /// The number of an outcome that counts bytes of which the caller knows: 0, or that of the refusal.
 pub(crate) fn uncounted(outcome: Result<u64, Errno>) -> u8
-    ensures told { (given : ℕ) × (told_by result given ≡ outcome) }
+    ensures reported { (given : ℕ) × (reported_by result given ≡ outcome) }
     ensures number { IsNumber result }
 {
     match outcome {
@@ -45,7 +45,7 @@ pub(crate) fn uncounted(outcome: Result<u64, Errno>) -> u8
 
 /// The number of an outcome, and the ends of the run, which are both 0 where it is refused.
 pub(crate) fn run(outcome: Result<(u64, u64), Errno>, begin: &mut u64, end: &mut u64) -> u8
-    ensures told { run_told result begin.new end.new ≡ outcome }
+    ensures reported { run_reported result begin.new end.new ≡ outcome }
     ensures number { IsNumber result }
     ensures refused { IfErr outcome (λ _. (begin.new ≡ 0) × (end.new ≡ 0)) }
 {
@@ -65,7 +65,7 @@ pub(crate) fn run(outcome: Result<(u64, u64), Errno>, begin: &mut u64, end: &mut
 
 /// The number of an outcome, and how many bytes it counts, which are none where it is refused.
 pub(crate) fn count(outcome: Result<usize, Errno>, got: &mut usize) -> u8
-    ensures told { told_by result got.new ≡ outcome }
+    ensures reported { reported_by result got.new ≡ outcome }
     ensures number { IsNumber result }
     ensures refused { IfErr outcome (λ _. got.new ≡ 0) }
 {
@@ -84,7 +84,7 @@ pub(crate) fn count(outcome: Result<usize, Errno>, got: &mut usize) -> u8
 /// The number of an outcome that tells a size, and the size, which is none where it is refused. Where a buffer has room, but for fewer bytes,
 /// it is that of a short buffer.
 pub(crate) fn sized(outcome: Result<usize, Errno>, room: usize, size: &mut usize) -> u8
-    ensures told { sized_by result size.new ≡ outcome }
+    ensures reported { sized_by result size.new ≡ outcome }
     ensures short { (result ≡ short) ↔ ((0 < room) × (room < size.new)) }
     ensures number { IsSizeNumber result }
     ensures refused { IfErr outcome (λ _. size.new ≡ 0) }
@@ -105,7 +105,7 @@ pub(crate) fn kind(
     length: &mut u64,
     moment: &mut u64,
 ) -> u8
-    ensures told { stat_told result kind.new length.new moment.new ≡ outcome }
+    ensures reported { stat_reported result kind.new length.new moment.new ≡ outcome }
     ensures number { IsNumber result }
     ensures gives { Gives outcome kind.new length.new moment.new }
 {

@@ -6,32 +6,32 @@ use std::alloc::Allocator;
 use std::marker::Model;
 
 /// What a box is made of: where its value lies, and what frees it.
-pub(crate) struct Parts<T, A: Allocator> {
+pub(crate) struct RawBox<T, A: Allocator> {
     pub(crate) ptr: *mut T,
     pub(crate) alloc: A,
     pub(crate) ghost value: { T },
 }
 
-impl<T, A: Allocator> Model for Parts<T, A> {
+impl<T, A: Allocator> Model for RawBox<T, A> {
     ghost also_owns = { λ p. box_owns (A.dealloc_token p.alloc) T.row p.ptr p.value };
 }
 
-impl<T, A: Allocator> Parts<T, A> {
+impl<T, A: Allocator> RawBox<T, A> {
     /// What the box is made of.
-    pub(crate) fn of(whole: Box<T, A>) -> Parts<T, A>
+    pub(crate) fn of(whole: Box<T, A>) -> RawBox<T, A>
     where
         T: Drop,
         ensures { result.value ≡ whole.value }
     {
         let (ptr, alloc) = Box::into_raw_with_allocator(whole);
-        Parts { ptr, alloc }
+        RawBox { ptr, alloc }
     }
 
     /// The box that these are the parts of.
     pub(crate) fn into_box(self) -> Box<T, A>
         ensures { result.value ≡ self.value }
     {
-        let Parts { ptr, alloc } = self;
+        let RawBox { ptr, alloc } = self;
         unsafe { Box::from_raw(alloc, ptr) }
     }
 }

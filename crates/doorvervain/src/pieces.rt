@@ -4,21 +4,21 @@ ghost use Rattle.node.specs.Shapes.{is_shape};
 ghost use Rattle.node.specs.declared.shape.Shape.{Shape as TreeShape};
 ghost use Rattle.pathkey.specs.declared.errno.Errno.TheVariants.{EINVAL, ENOMEM};
 ghost use Rattle.images.specs.Taken.{IsFresh, LoadedIn, Took, answer_of};
-ghost use Rattle.byte_calls.specs.Images.{PrintsOn};
-ghost use Rattle.doorvervain.specs.Handed.{AnswerTold, Given, HandsOut, NoImage, NoShape, shape_of};
+ghost use Rattle.ffi_calls.specs.Images.{PrintsOn};
+ghost use Rattle.doorvervain.specs.Handed.{AnswerReported, Given, HandsOut, NoImage, NoShape, shape_of};
 ghost use Rattle.doorvervain.specs.Held.{IsClosed};
-ghost use Rattle.doorvervain.specs.Numbers.{IsNumber, told, told_by};
+ghost use Rattle.doorvervain.specs.Numbers.{IsNumber, reported, reported_by};
 
 use crate::frozen::FrozenHandle;
-use crate::loading::LoadingHandle;
-use crate::loading_place::LoadingPlace;
+use crate::loading::LoaderHandle;
+use crate::loading_place::LoaderOut;
 use crate::numbers::{count, number};
-use crate::parts::Parts;
-use crate::place::Place;
-use crate::printing::PrintingHandle;
-use crate::printing_place::PrintingPlace;
+use crate::parts::RawBox;
+use crate::place::VolumeOut;
+use crate::printing::PrinterHandle;
+use crate::printing_place::PrinterOut;
 use crate::upkeep::{answer, hand_out};
-use images::{LoadFault, Loader, Printing};
+use images::{ImageLoader, ImagePrinter, LoadFault};
 use node::Shape;
 use pathkey::Errno;
 use std::alloc::Global;
@@ -29,39 +29,39 @@ use std::alloc::Global;
 pub extern "C" fn doorvervain_raw_print_begin(
     alloc: Global,
     tree: FrozenHandle,
-    out: &mut PrintingPlace,
+    out: &mut PrinterOut,
 ) -> u8
-    ensures given { IfOk (told result) (λ _. out.new.given ≡ Some (record { tree = tree.tree; done = 0 })) }
-    ensures refused { IfErr (told result) (λ e. e ≡ ENOMEM) }
-    ensures closed { IfErr (told result) (λ _. IsClosed out.new.at out.new.given) }
+    ensures given { IfOk (reported result) (λ _. out.new.given ≡ Some (record { tree = tree.tree; done = 0 })) }
+    ensures refused { IfErr (reported result) (λ e. e ≡ ENOMEM) }
+    ensures closed { IfErr (reported result) (λ _. IsClosed out.new.at out.new.given) }
     ensures number { IsNumber result }
 {
     let tree = Box::into_inner(tree.into_box(alloc));
-    number(hand_out_printing(alloc, byte_calls::print_begin(alloc, tree), out))
+    number(hand_out_printing(alloc, ffi_calls::print_begin(alloc, tree), out))
 }
 
 /// Writes the next bytes of the image to the front of the buffer, and how many they are to `size`: none only at the end of the image, and
 /// where the buffer has no room. They may be fewer than there is room for. With ENOMEM nothing was written, and the same may be asked again.
 #[unsafe(no_mangle)]
-pub extern "C" fn doorvervain_raw_print_piece(
+pub extern "C" fn doorvervain_raw_print_next(
     alloc: Global,
-    printing: &mut PrintingHandle,
+    printing: &mut PrinterHandle,
     out: &mut [u8],
     size: &mut usize,
 ) -> u8
-    ensures piece { PrintsOn printing.old.printing (told_by result size.new) printing.new.printing out.old out.new }
+    ensures piece { PrintsOn printing.old.printing (reported_by result size.new) printing.new.printing out.old out.new }
     ensures number { IsNumber result }
-    ensures refused { IfErr (told_by result size.new) (λ _. size.new ≡ 0) }
+    ensures refused { IfErr (reported_by result size.new) (λ _. size.new ≡ 0) }
 {
     count(
-        byte_calls::print_piece(alloc, printing.printing(), out),
+        ffi_calls::print_piece(alloc, printing.printing(), out),
         size,
     )
 }
 
 /// Ends a printing, and frees it with its tree.
 #[unsafe(no_mangle)]
-pub extern "C" fn doorvervain_raw_print_end(alloc: Global, printing: PrintingHandle) {
+pub extern "C" fn doorvervain_raw_print_end(alloc: Global, printing: PrinterHandle) {
     let _printing = printing.into_box(alloc);
 }
 
@@ -73,12 +73,12 @@ pub extern "C" fn doorvervain_raw_load_begin(
     fanout: u16,
     pending: u16,
     leaf: u16,
-    out: &mut LoadingPlace,
+    out: &mut LoaderOut,
 ) -> u8
-    ensures fresh { IfOk (told result) (λ _. Given (IsFresh (shape_of fanout pending leaf)) out.new.given) }
-    ensures shape { (told result ≡ Err EINVAL) ↔ NoShape fanout pending leaf }
-    ensures refused { IfErr (told result) (λ e. (e ≡ EINVAL) ⊎ (e ≡ ENOMEM)) }
-    ensures closed { IfErr (told result) (λ _. IsClosed out.new.at out.new.given) }
+    ensures fresh { IfOk (reported result) (λ _. Given (IsFresh (shape_of fanout pending leaf)) out.new.given) }
+    ensures shape { (reported result ≡ Err EINVAL) ↔ NoShape fanout pending leaf }
+    ensures refused { IfErr (reported result) (λ e. (e ≡ EINVAL) ⊎ (e ≡ ENOMEM)) }
+    ensures closed { IfErr (reported result) (λ _. IsClosed out.new.at out.new.given) }
     ensures number { IsNumber result }
 {
     let shape = Shape {
@@ -93,35 +93,35 @@ pub extern "C" fn doorvervain_raw_load_begin(
 /// first line with which it is none goes to `line`; else `line` is 0. What was refused stays refused: each later piece is answered the same,
 /// and changes nothing.
 #[unsafe(no_mangle)]
-pub extern "C" fn doorvervain_raw_load_piece(
+pub extern "C" fn doorvervain_raw_load_feed(
     alloc: Global,
-    loading: &mut LoadingHandle,
+    loading: &mut LoaderHandle,
     text: &[u8],
     line: &mut u64,
 ) -> u8
     ensures took { (shape : TreeShape) (before : List ℕ) → Took shape before loading.old.loading → Took shape (before ++ text.now) loading.new.loading }
-    ensures answer { AnswerTold (answer_of loading.new.loading.intake) (told result) line.new }
+    ensures answer { AnswerReported (answer_of loading.new.loading.intake) (reported result) line.new }
     ensures refused { IfErr (answer_of loading.old.loading.intake) (λ _. loading.new.loading ≡ loading.old.loading) }
     ensures number { IsNumber result }
 {
-    number(answer(loading.loading().take(alloc, text), line))
+    number(answer(loading.loading().feed(alloc, text), line))
 }
 
 /// Ends the text and the loading, which it takes, and puts the handle of the volume at `out`, which has the tree whose image the text is,
 /// without snapshots: 0, or what was answered to a piece that was refused, or EINVAL where the text is no image, or ENOMEM. With EINVAL the
 /// number of the first line with which it is none goes to `line`; else `line` is 0. Where it is refused, `out` is closed.
 #[unsafe(no_mangle)]
-pub extern "C" fn doorvervain_raw_load_end(
+pub extern "C" fn doorvervain_raw_load_finish(
     alloc: Global,
-    loading: LoadingHandle,
+    loading: LoaderHandle,
     line: &mut u64,
-    out: &mut Place,
+    out: &mut VolumeOut,
 ) -> u8
-    ensures loaded { (shape : TreeShape) (text : List ℕ) → Took shape text loading.loading → IfOk (told result) (λ _. Given (LoadedIn shape text) out.new.given) }
-    ensures line { IfOk (told result) (λ _. line.new ≡ 0) }
-    ensures no_image { (shape : TreeShape) (text : List ℕ) → Took shape text loading.loading → IfErr (told result) (λ e. NoImage text e line.new) }
-    ensures refused { IfErr (answer_of loading.loading.intake) (λ f. AnswerTold (Err f) (told result) line.new) }
-    ensures closed { IfErr (told result) (λ _. IsClosed out.new.at out.new.given) }
+    ensures loaded { (shape : TreeShape) (text : List ℕ) → Took shape text loading.loading → IfOk (reported result) (λ _. Given (LoadedIn shape text) out.new.given) }
+    ensures line { IfOk (reported result) (λ _. line.new ≡ 0) }
+    ensures no_image { (shape : TreeShape) (text : List ℕ) → Took shape text loading.loading → IfErr (reported result) (λ e. NoImage text e line.new) }
+    ensures refused { IfErr (answer_of loading.loading.intake) (λ f. AnswerReported (Err f) (reported result) line.new) }
+    ensures closed { IfErr (reported result) (λ _. IsClosed out.new.at out.new.given) }
     ensures number { IsNumber result }
 {
     let loader = Box::into_inner(loading.into_box(alloc));
@@ -130,12 +130,12 @@ pub extern "C" fn doorvervain_raw_load_end(
 
 /// Ends a loading, and frees what was loaded.
 #[unsafe(no_mangle)]
-pub extern "C" fn doorvervain_raw_load_drop(alloc: Global, loading: LoadingHandle) {
+pub extern "C" fn doorvervain_raw_load_abort(alloc: Global, loading: LoaderHandle) {
     let _loading = loading.into_box(alloc);
 }
 
 // Begins to load, and puts the handle of the loading at `out`.
-fn begin(alloc: Global, shape: Shape, out: &mut LoadingPlace) -> Result<(), Errno>
+fn begin(alloc: Global, shape: Shape, out: &mut LoaderOut) -> Result<(), Errno>
     ensures fresh { IfOk result (λ _. Given (IsFresh shape) out.new.given) }
     ensures shape { (result ≡ Err EINVAL) ↔ (is_shape shape ≡ false) }
     ensures refused { IfErr result (λ e. (e ≡ EINVAL) ⊎ (e ≡ ENOMEM)) }
@@ -146,12 +146,12 @@ fn begin(alloc: Global, shape: Shape, out: &mut LoadingPlace) -> Result<(), Errn
 }
 
 // A loader that took nothing yet, or why there is none.
-fn new_loader(alloc: Global, shape: Shape) -> Result<Loader, Errno>
+fn new_loader(alloc: Global, shape: Shape) -> Result<ImageLoader, Errno>
     ensures fresh { IfOk result (IsFresh shape) }
     ensures shape { (result ≡ Err EINVAL) ↔ (is_shape shape ≡ false) }
     ensures refused { IfErr result (λ e. (e ≡ EINVAL) ⊎ (e ≡ ENOMEM)) }
 {
-    match Loader::new(alloc, shape) {
+    match ImageLoader::new(alloc, shape) {
         Ok(loader) => Ok(loader),
         Err(LoadFault::Shape) => Err(Errno::EINVAL),
         Err(_) => Err(Errno::ENOMEM),
@@ -159,11 +159,11 @@ fn new_loader(alloc: Global, shape: Shape) -> Result<Loader, Errno>
 }
 
 // Ends a loading, and puts the handle of its volume at `out`.
-fn end(alloc: Global, loader: Loader, line: &mut u64, out: &mut Place) -> Result<(), Errno>
+fn end(alloc: Global, loader: ImageLoader, line: &mut u64, out: &mut VolumeOut) -> Result<(), Errno>
     ensures loaded { (shape : TreeShape) (text : List ℕ) → Took shape text loader → IfOk result (λ _. Given (LoadedIn shape text) out.new.given) }
     ensures line { IfOk result (λ _. line.new ≡ 0) }
     ensures no_image { (shape : TreeShape) (text : List ℕ) → Took shape text loader → IfErr result (λ e. NoImage text e line.new) }
-    ensures refused { IfErr (answer_of loader.intake) (λ f. AnswerTold (Err f) result line.new) }
+    ensures refused { IfErr (answer_of loader.intake) (λ f. AnswerReported (Err f) result line.new) }
     ensures closed { IfErr result (λ _. IsClosed out.new.at out.new.given) }
 {
     let made = answer(loader.end(), line);
@@ -173,8 +173,8 @@ fn end(alloc: Global, loader: Loader, line: &mut u64, out: &mut Place) -> Result
 // Puts a printing that was made on the heap, and its handle at `out`. Where there is none, `out` is closed.
 fn hand_out_printing(
     alloc: Global,
-    made: Result<Printing, Errno>,
-    out: &mut PrintingPlace,
+    made: Result<ImagePrinter, Errno>,
+    out: &mut PrinterOut,
 ) -> Result<(), Errno>
     ensures handed { HandsOut made result out.new.given }
     ensures closed { IfErr result (λ _. IsClosed out.new.at out.new.given) }
@@ -183,15 +183,15 @@ fn hand_out_printing(
     let Ok(whole) = Box::new(alloc, made?) else {
         return Err(Errno::ENOMEM);
     };
-    out.fill(Parts::of(whole));
+    out.fill(RawBox::of(whole));
     Ok(())
 }
 
 // Puts a loader that was made on the heap, and its handle at `out`. Where there is none, `out` is closed.
 fn hand_out_loading(
     alloc: Global,
-    made: Result<Loader, Errno>,
-    out: &mut LoadingPlace,
+    made: Result<ImageLoader, Errno>,
+    out: &mut LoaderOut,
 ) -> Result<(), Errno>
     ensures handed { HandsOut made result out.new.given }
     ensures closed { IfErr result (λ _. IsClosed out.new.at out.new.given) }
@@ -200,6 +200,6 @@ fn hand_out_loading(
     let Ok(whole) = Box::new(alloc, made?) else {
         return Err(Errno::ENOMEM);
     };
-    out.fill(Parts::of(whole));
+    out.fill(RawBox::of(whole));
     Ok(())
 }

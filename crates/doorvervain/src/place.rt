@@ -5,7 +5,7 @@ ghost use Rattle.volume.specs.Volumes.{PVolume};
 ghost use Rattle.volume.specs.contracts.volume.Volume.{the_row as volume_row};
 ghost use Rattle.doorvervain.specs.Held.{IsClosed, given_at};
 
-use crate::parts::Parts;
+use crate::parts::RawBox;
 use std::alloc::Global;
 use std::marker::Model;
 use std::ptr::null_mut;
@@ -13,21 +13,21 @@ use volume::Volume;
 
 /// Room for the handle of a volume. Where a volume was given, it is its handle.
 #[repr(C)]
-pub struct Place {
+pub struct VolumeOut {
     pub(crate) at: *mut u8,
     pub ghost given: { Option PVolume } by { coded_option volume_row.coded },
 }
 
-impl Model for Place {
+impl Model for VolumeOut {
     ghost also_owns = { λ p. given_at volume_row p.at p.given };
 }
 
-impl Place {
+impl VolumeOut {
     /// Puts the handle of a volume here.
-    pub(crate) fn fill(&mut self, parts: Parts<Volume, Global>)
+    pub(crate) fn fill(&mut self, parts: RawBox<Volume, Global>)
         ensures { self.new.given ≡ Some parts.value }
     {
-        let Parts { ptr, alloc: _ } = parts;
+        let RawBox { ptr, alloc: _ } = parts;
         self.at = ptr as *mut u8;
     }
 

@@ -2,32 +2,32 @@
 ghost use Rattle.std.specs.Prelude.{◌≡◌, Some, Option};
 ghost use Rattle.std.specs.Coded.{coded_option};
 ghost use Rattle.images.specs.Printings.{PPrinting};
-ghost use Rattle.images.specs.contracts.printing.Printing.{the_row as printing_row};
+ghost use Rattle.images.specs.contracts.printing.ImagePrinter.{the_row as printing_row};
 ghost use Rattle.doorvervain.specs.Held.{IsClosed, given_at};
 
-use crate::parts::Parts;
-use images::Printing;
+use crate::parts::RawBox;
+use images::ImagePrinter;
 use std::alloc::Global;
 use std::marker::Model;
 use std::ptr::null_mut;
 
 /// Room for the handle of a printing. Where one was given, it is its handle.
 #[repr(C)]
-pub struct PrintingPlace {
+pub struct PrinterOut {
     pub(crate) at: *mut u8,
     pub ghost given: { Option PPrinting } by { coded_option printing_row.coded },
 }
 
-impl Model for PrintingPlace {
+impl Model for PrinterOut {
     ghost also_owns = { λ p. given_at printing_row p.at p.given };
 }
 
-impl PrintingPlace {
+impl PrinterOut {
     /// Puts the handle of a printing here.
-    pub(crate) fn fill(&mut self, parts: Parts<Printing, Global>)
+    pub(crate) fn fill(&mut self, parts: RawBox<ImagePrinter, Global>)
         ensures { self.new.given ≡ Some parts.value }
     {
-        let Parts { ptr, alloc: _ } = parts;
+        let RawBox { ptr, alloc: _ } = parts;
         self.at = ptr as *mut u8;
     }
 

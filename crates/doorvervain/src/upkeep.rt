@@ -6,17 +6,17 @@ ghost use Rattle.node.specs.Shapes.{is_shape};
 ghost use Rattle.reference.specs.Worlds.{World};
 ghost use Rattle.images.specs.Taken.{LoadedIn};
 ghost use Rattle.volume.specs.Volumes.{IsNew, Means};
-ghost use Rattle.byte_calls.specs.Upkeep.{IsIdle, Relieves};
-ghost use Rattle.doorvervain.specs.Handed.{AnswerTold, FaultTold, FindsHanded, Given, HandsOut, NoShape, NotLoaded, shape_of};
+ghost use Rattle.ffi_calls.specs.Upkeep.{IsIdle, Relieves};
+ghost use Rattle.doorvervain.specs.Handed.{AnswerReported, FaultReported, FindsHanded, Given, HandsOut, NoShape, NotLoaded, shape_of};
 ghost use Rattle.doorvervain.specs.Held.{IsClosed};
-ghost use Rattle.doorvervain.specs.Numbers.{IsNumber, told};
+ghost use Rattle.doorvervain.specs.Numbers.{IsNumber, reported};
 
 use crate::frozen::FrozenHandle;
-use crate::frozen_place::FrozenPlace;
-use crate::handle::Handle;
+use crate::frozen_place::FrozenOut;
+use crate::handle::VolumeHandle;
 use crate::numbers::number;
-use crate::parts::Parts;
-use crate::place::Place;
+use crate::parts::RawBox;
+use crate::place::VolumeOut;
 use images::LoadFault;
 use node::Shape;
 use pathkey::Errno;
@@ -31,12 +31,12 @@ pub extern "C" fn doorvervain_raw_open(
     fanout: u16,
     pending: u16,
     leaf: u16,
-    out: &mut Place,
+    out: &mut VolumeOut,
 ) -> u8
-    ensures new { IfOk (told result) (λ _. Given (IsNew (shape_of fanout pending leaf)) out.new.given) }
-    ensures shape { (told result ≡ Err EINVAL) ↔ NoShape fanout pending leaf }
-    ensures refused { IfErr (told result) (λ e. (e ≡ EINVAL) ⊎ (e ≡ ENOMEM)) }
-    ensures closed { IfErr (told result) (λ _. IsClosed out.new.at out.new.given) }
+    ensures new { IfOk (reported result) (λ _. Given (IsNew (shape_of fanout pending leaf)) out.new.given) }
+    ensures shape { (reported result ≡ Err EINVAL) ↔ NoShape fanout pending leaf }
+    ensures refused { IfErr (reported result) (λ e. (e ≡ EINVAL) ⊎ (e ≡ ENOMEM)) }
+    ensures closed { IfErr (reported result) (λ _. IsClosed out.new.at out.new.given) }
     ensures number { IsNumber result }
 {
     let shape = Shape {
@@ -58,13 +58,13 @@ pub extern "C" fn doorvervain_raw_load(
     leaf: u16,
     text: &[u8],
     line: &mut u64,
-    out: &mut Place,
+    out: &mut VolumeOut,
 ) -> u8
-    ensures loaded { IfOk (told result) (λ _. Given (LoadedIn (shape_of fanout pending leaf) text.now) out.new.given) }
-    ensures line { IfOk (told result) (λ _. line.new ≡ 0) }
-    ensures shape { NoShape fanout pending leaf → (told result ≡ Err EINVAL) × (line.new ≡ 0) }
-    ensures refused { IfErr (told result) (λ e. NotLoaded (shape_of fanout pending leaf) text.now e line.new) }
-    ensures closed { IfErr (told result) (λ _. IsClosed out.new.at out.new.given) }
+    ensures loaded { IfOk (reported result) (λ _. Given (LoadedIn (shape_of fanout pending leaf) text.now) out.new.given) }
+    ensures line { IfOk (reported result) (λ _. line.new ≡ 0) }
+    ensures shape { NoShape fanout pending leaf → (reported result ≡ Err EINVAL) × (line.new ≡ 0) }
+    ensures refused { IfErr (reported result) (λ e. NotLoaded (shape_of fanout pending leaf) text.now e line.new) }
+    ensures closed { IfErr (reported result) (λ _. IsClosed out.new.at out.new.given) }
     ensures number { IsNumber result }
 {
     let shape = Shape {
@@ -77,7 +77,7 @@ pub extern "C" fn doorvervain_raw_load(
 
 /// Ends a handle, and frees its volume.
 #[unsafe(no_mangle)]
-pub extern "C" fn doorvervain_raw_close(alloc: Global, fs: Handle) {
+pub extern "C" fn doorvervain_raw_close(alloc: Global, fs: VolumeHandle) {
     let _volume = fs.into_box(alloc);
 }
 
@@ -85,53 +85,53 @@ pub extern "C" fn doorvervain_raw_close(alloc: Global, fs: Handle) {
 #[unsafe(no_mangle)]
 pub extern "C" fn doorvervain_raw_freeze(
     alloc: Global,
-    fs: &mut Handle,
-    out: &mut FrozenPlace,
+    fs: &mut VolumeHandle,
+    out: &mut FrozenOut,
 ) -> u8
-    ensures given { IfOk (told result) (λ _. out.new.given ≡ Some fs.old.volume.live) }
-    ensures refused { IfErr (told result) (λ e. e ≡ ENOMEM) }
-    ensures closed { IfErr (told result) (λ _. IsClosed out.new.at out.new.given) }
+    ensures given { IfOk (reported result) (λ _. out.new.given ≡ Some fs.old.volume.live) }
+    ensures refused { IfErr (reported result) (λ e. e ≡ ENOMEM) }
+    ensures closed { IfErr (reported result) (λ _. IsClosed out.new.at out.new.given) }
     ensures number { IsNumber result }
     ensures kept { fs.new.volume ≡ fs.old.volume }
 {
-    number(hand_out_tree(alloc, byte_calls::freeze(fs.volume()), out))
+    number(hand_out_tree(alloc, ffi_calls::freeze(fs.volume()), out))
 }
 
 /// The tree of a snapshot, whose handle is put at `out`: 0, or why there is none, and then `out` is closed.
 #[unsafe(no_mangle)]
-pub extern "C" fn doorvervain_raw_frozen(
+pub extern "C" fn doorvervain_raw_open_snapshot(
     alloc: Global,
-    fs: &mut Handle,
+    fs: &mut VolumeHandle,
     name: &[u8],
-    out: &mut FrozenPlace,
+    out: &mut FrozenOut,
 ) -> u8
-    ensures named { FindsHanded (snap_parsed name.now) fs.old.volume (told result) out.new.given }
-    ensures closed { IfErr (told result) (λ _. IsClosed out.new.at out.new.given) }
+    ensures named { FindsHanded (snap_parsed name.now) fs.old.volume (reported result) out.new.given }
+    ensures closed { IfErr (reported result) (λ _. IsClosed out.new.at out.new.given) }
     ensures number { IsNumber result }
     ensures kept { fs.new.volume ≡ fs.old.volume }
 {
-    number(hand_out_tree(alloc, byte_calls::frozen(alloc, fs.volume(), name), out))
+    number(hand_out_tree(alloc, ffi_calls::frozen(alloc, fs.volume(), name), out))
 }
 
 /// Ends a handle, and frees its tree.
 #[unsafe(no_mangle)]
-pub extern "C" fn doorvervain_raw_thaw(alloc: Global, tree: FrozenHandle) {
+pub extern "C" fn doorvervain_raw_frozen_close(alloc: Global, tree: FrozenHandle) {
     let _tree = tree.into_box(alloc);
 }
 
 /// Tries at most so many tree steps: how many. The volume means what it meant.
 #[unsafe(no_mangle)]
-pub extern "C" fn doorvervain_raw_relieve(alloc: Global, fs: &mut Handle, steps: u32) -> u32
+pub extern "C" fn doorvervain_raw_compact(alloc: Global, fs: &mut VolumeHandle, steps: u32) -> u32
     ensures few { result ≤ steps }
     ensures steps { Relieves result fs.old.volume fs.new.volume }
     ensures means { (w : World) → Means fs.old.volume w → Means fs.new.volume w }
     ensures rest { result < steps → IsIdle fs.new.volume }
 {
-    byte_calls::relieve(alloc, fs.volume(), steps)
+    ffi_calls::compact(alloc, fs.volume(), steps)
 }
 
 // Makes a volume, and puts its handle at `out`.
-fn open(alloc: Global, shape: Shape, out: &mut Place) -> Result<(), Errno>
+fn open(alloc: Global, shape: Shape, out: &mut VolumeOut) -> Result<(), Errno>
     ensures new { IfOk result (λ _. Given (IsNew shape) out.new.given) }
     ensures shape { (result ≡ Err EINVAL) ↔ (is_shape shape ≡ false) }
     ensures refused { IfErr result (λ e. (e ≡ EINVAL) ⊎ (e ≡ ENOMEM)) }
@@ -147,7 +147,7 @@ fn load(
     shape: Shape,
     text: &[u8],
     line: &mut u64,
-    out: &mut Place,
+    out: &mut VolumeOut,
 ) -> Result<(), Errno>
     ensures loaded { IfOk result (λ _. Given (LoadedIn shape text.now) out.new.given) }
     ensures line { IfOk result (λ _. line.new ≡ 0) }
@@ -166,12 +166,12 @@ fn volume_of(alloc: Global, shape: Shape, text: &[u8], line: &mut u64) -> Result
     ensures shape { is_shape shape ≡ false → (result ≡ Err EINVAL) × (line.new ≡ 0) }
     ensures refused { IfErr result (λ e. NotLoaded shape text.now e line.new) }
 {
-    answer(byte_calls::load(alloc, shape, text), line)
+    answer(ffi_calls::load(alloc, shape, text), line)
 }
 
 /// What a load answered, and 0 as the line; else why not, and the line that tells it.
 pub(crate) fn answer<T>(outcome: Result<T, LoadFault>, line: &mut u64) -> Result<T, Errno>
-    ensures { AnswerTold outcome result line.new }
+    ensures { AnswerReported outcome result line.new }
 {
     match outcome {
         Ok(value) => {
@@ -185,7 +185,7 @@ pub(crate) fn answer<T>(outcome: Result<T, LoadFault>, line: &mut u64) -> Result
 // Why an image was not loaded, and the number of the line with which it is none, or 0. `Read` has no number of its own: no text
 // in memory should come to it.
 fn load_fault(fault: LoadFault, line: &mut u64) -> Errno
-    ensures { FaultTold fault result line.new }
+    ensures { FaultReported fault result line.new }
 {
     *line = 0;
     match fault {
@@ -203,7 +203,7 @@ fn load_fault(fault: LoadFault, line: &mut u64) -> Errno
 pub(crate) fn hand_out(
     alloc: Global,
     made: Result<Volume, Errno>,
-    out: &mut Place,
+    out: &mut VolumeOut,
 ) -> Result<(), Errno>
     ensures handed { HandsOut made result out.new.given }
     ensures closed { IfErr result (λ _. IsClosed out.new.at out.new.given) }
@@ -212,7 +212,7 @@ pub(crate) fn hand_out(
     let Ok(whole) = Box::new(alloc, made?) else {
         return Err(Errno::ENOMEM);
     };
-    out.fill(Parts::of(whole));
+    out.fill(RawBox::of(whole));
     Ok(())
 }
 
@@ -220,7 +220,7 @@ pub(crate) fn hand_out(
 fn hand_out_tree(
     alloc: Global,
     tree: Result<Frozen, Errno>,
-    out: &mut FrozenPlace,
+    out: &mut FrozenOut,
 ) -> Result<(), Errno>
     ensures handed { HandsOut tree result out.new.given }
     ensures closed { IfErr result (λ _. IsClosed out.new.at out.new.given) }
@@ -229,6 +229,6 @@ fn hand_out_tree(
     let Ok(whole) = Box::new(alloc, tree?) else {
         return Err(Errno::ENOMEM);
     };
-    out.fill(Parts::of(whole));
+    out.fill(RawBox::of(whole));
     Ok(())
 }

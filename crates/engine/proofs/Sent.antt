@@ -21,14 +21,14 @@ use Rattle.block_index.specs.contracts.block.Block as block
 use Rattle.node.specs.contracts.node.Node as node
 use Rattle.node.specs.contracts.tree.Tree as tree
 use Rattle.jobs.specs.contracts.marks.Marks as marks
-use Rattle.volume.specs.contracts.live.Live as live
+use Rattle.volume.specs.contracts.live_indexes.LiveIndexes as live
 use Rattle.volume.specs.contracts.volume.Volume as volume
 use denote.RattleType.{RattleType}
-use Rattle.engine.specs.declared.rule.Naming as naming
-use Rattle.engine.specs.contracts.desk.Desk as desk
-use Rattle.engine.specs.contracts.desk.Desk.TheInside as desk_inside
+use Rattle.engine.specs.declared.engine_rule.EngineId as naming
+use Rattle.engine.specs.contracts.locked_state.LockedState as state
+use Rattle.engine.specs.contracts.locked_state.LockedState.TheInside as desk_inside
 use Rattle.std.specs.contracts.option.Option as option
-use Rattle.engine.specs.contracts.hub.Hub as hub
+use Rattle.engine.specs.contracts.engine_shared.EngineShared as shared
 use Rattle.engine.specs.contracts.client.Client as client
 use Rattle.engine.specs.contracts.flusher.Flusher as flusher
 use Rattle.atomic_table.proofs.shared.Seat.TheSendSync as seats
@@ -36,7 +36,7 @@ use Rattle.atomic_table.proofs.owned.Table.TheSendSync as tables
 use Rattle.atomic_table.proofs.badge.Badge.TheSendSync as badges
 use Rattle.std.proofs.sync.Mutex.TheSendSync as mutexes
 use Rattle.std.proofs.option.Option.TheSendSync as options
-use Rattle.volume.specs.contracts.rooted.Rooted as rooted
+use Rattle.volume.specs.contracts.fs_root.FsRoot as rooted
 use Rattle.volume.specs.contracts.snapshots.Snapshots as snapshots
 
 meta_node_send : IsSend (node.the_row meta_update.the_row meta.the_row)
@@ -89,23 +89,23 @@ module _ (J : RattleType) (g : naming.Ghosts J.Denot) where
   desk_inside_send = recorded_send (desk_inside.the_field J g).row _ _ (desk_inside.the_type J g).to_one
       (struct_send (shape (desk_inside.the_type J g)) (volume_send, (search (sendable, crosses) depth 20, (search (seats.the_send, sendable, crosses) depth 20, (search (sendable, crosses) depth 20, tt)))))
 
-  desk_send : IsSend (desk.the_row J g)
+  desk_send : IsSend (state.the_row J g)
   desk_send = view_send (desk_inside.the_row J g) _ _ _ _ desk_inside_send
 
-  kept_send : IsSend (option.the_row (desk.the_row J g))
+  kept_send : IsSend (option.the_row (state.the_row J g))
   kept_send = search (desk_send, options.the_send, sendable, crosses) depth 20
 
-  hub_fields_send : AllSend (shape (hub.the_type J g)).fields
+  hub_fields_send : AllSend (shape (shared.the_type J g)).fields
   hub_fields_send = (search (tables.the_field_send, sendable, crosses) depth 20, (search (kept_send, mutexes.the_send, sendable, crosses) depth 20, tt))
 
-  hub_fields_sync : AllSync (shape (hub.the_type J g)).fields
+  hub_fields_sync : AllSync (shape (shared.the_type J g)).fields
   hub_fields_sync = (search (tables.the_field_sync, sendable, crosses) depth 20, (search (kept_send, mutexes.the_sync, sendable, crosses) depth 20, tt))
 
-  hub_send : IsSend (hub.the_row J g)
-  hub_send = recorded_send (hub.the_field J g).row _ _ (hub.the_type J g).to_one (struct_send (shape (hub.the_type J g)) hub_fields_send)
+  hub_send : IsSend (shared.the_row J g)
+  hub_send = recorded_send (shared.the_field J g).row _ _ (shared.the_type J g).to_one (struct_send (shape (shared.the_type J g)) hub_fields_send)
 
-  hub_sync : IsSync (hub.the_row J g)
-  hub_sync = recorded_sync (hub.the_field J g).row _ _ (hub.the_type J g).to_one (struct_sync (shape (hub.the_type J g)) hub_fields_sync)
+  hub_sync : IsSync (shared.the_row J g)
+  hub_sync = recorded_sync (shared.the_field J g).row _ _ (shared.the_type J g).to_one (struct_sync (shape (shared.the_type J g)) hub_fields_sync)
 
   pub client_send : IsSend (client.the_row J g)
   client_send = search (hub_send, hub_sync, badges.the_send, sendable, crosses) depth 20

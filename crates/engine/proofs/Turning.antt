@@ -24,8 +24,8 @@ use Rattle.engine.proofs.Picking.{whole}
 
 -- ---- what is done to a volume
 
-pub put-in : (done : Done) (old new : PVolume) → AnswersInstalling done WasInstalled (live_of old) (live_of new) → new.live.modified ≡ old.live.modified → new.snapshots ≡ old.snapshots → PutIn done old new
-put-in done old new h root s = record {
+pub install_or_cancel-in : (done : Done) (old new : PVolume) → AnswersInstalling done WasInstalled (live_of old) (live_of new) → new.live.modified ≡ old.live.modified → new.snapshots ≡ old.snapshots → PutIn done old new
+install_or_cancel-in done old new h root s = record {
   stood = λ e. clash (h.stale.1 e);
   placed = h.installed;
   values = h.values;
@@ -36,13 +36,13 @@ put-in done old new h root s = record {
     clash : WasInstalled ≡ WasStale → ⊥
     clash e = (cc)
 
-pub put-stale : (done : Done) (old new : PVolume) → AnswersInstalling done WasStale (live_of old) (live_of new) → new.live.modified ≡ old.live.modified → new.snapshots ≡ old.snapshots → Puts done Stale old new
-put-stale done old new h root s = (h.stale.0 refl, whole old new h.unchanged root s)
+pub install_or_cancel-stale : (done : Done) (old new : PVolume) → AnswersInstalling done WasStale (live_of old) (live_of new) → new.live.modified ≡ old.live.modified → new.snapshots ≡ old.snapshots → Puts done Stale old new
+install_or_cancel-stale done old new h root s = (h.stale.0 refl, whole old new h.unchanged root s)
 
 -- a job whose install is refused memory leaves no mark
-pub put-refused : (done back : Done) (t : ℕ) (old mid new : PVolume) → AnswersInstalling done (NoMemoryFor back) (live_of old) (live_of mid) → mid.live.modified ≡ old.live.modified → mid.snapshots ≡ old.snapshots → t ≡ done_ticket back → Cancels t mid new
+pub install_or_cancel-refused : (done back : Done) (t : ℕ) (old mid new : PVolume) → AnswersInstalling done (NoMemoryFor back) (live_of old) (live_of mid) → mid.live.modified ≡ old.live.modified → mid.snapshots ≡ old.snapshots → t ≡ done_ticket back → Cancels t mid new
     → Cancels (done_ticket done) old new
-put-refused done back t old mid new h root s mine cancels =
+install_or_cancel-refused done back t old mid new h root s mine cancels =
     let same : mid ≡ old = whole old mid h.unchanged root s in
     let ticket : t ≡ done_ticket done = mine ∙ ap done_ticket h.back in
     let other : record mid { marks = without_mark t mid.marks } ≡ record old { marks = without_mark (done_ticket done) old.marks } = λ i. record (same i) { marks = without_mark (ticket i) (same i).marks } in

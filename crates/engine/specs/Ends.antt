@@ -1,6 +1,6 @@
 -- What the end of an engine says.
 use Rattle.std.specs.Prelude.{◌≡◌, List, [], ◌∷◌, ℕ, ◌+◌, ◌%◌, ◌^◌, ◌<◌, ◌≤◌, ◌==◌, if◌then◌else◌, length, slice_index_or}
-use Rattle.volume.specs.declared.rooted.Rooted.{Rooted}
+use Rattle.volume.specs.declared.fs_root.FsRoot.{FsRoot}
 use Rattle.volume.specs.Volumes.{PVolume}
 use Rattle.engine.specs.declared.engine.CloseFault.{CloseFault}
 use Rattle.engine.specs.declared.engine.CloseFault.TheVariants.{Missing, NoMemory}
@@ -53,7 +53,7 @@ made_by_all (k ∷ ks) = own k.client k.seen + made_by_all ks
 
 -- one legal history begins with all that the clients have seen, and has their calls and no others; the tree is the live
 -- one of the world that it leaves
-pub record Ends (o : PVolume) (clients : List Known) (count : ℕ) (tree : Rooted) : Type 0 where
+pub record Ends (o : PVolume) (clients : List Known) (count : ℕ) (tree : FsRoot) : Type 0 where
   pub history : List Entry
   pub legal : LegalFrom o history
   pub agree : AllAgree history clients
@@ -68,7 +68,7 @@ pub record Worked (does : Known → Known → Type 0) (n : ℕ) (clients : List 
 
 -- what is left of an engine over a volume: n clients did the work, each is there once, and the engine ended with what they
 -- then knew
-pub record Served (does : Known → Known → Type 0) (o : PVolume) (n : ℕ) (count : ℕ) (tree : Rooted) : Type 0 where
+pub record Served (does : Known → Known → Type 0) (o : PVolume) (n : ℕ) (count : ℕ) (tree : FsRoot) : Type 0 where
   pub clients : List Known
   pub worked : Worked does n clients
   pub once : EachOnce n clients

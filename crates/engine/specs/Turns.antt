@@ -4,7 +4,7 @@ use Rattle.std.specs.Prelude.{◌≡◌, ◌≢◌, ◌⊎◌, ℕ, None}
 use Rattle.volume.specs.Changes.{Stepped as IsStepped}
 use Rattle.volume.specs.Jobs.{AnswersTaking, Builds, Installs, SameValues, done_ticket, mark_for, ticket_of}
 use Rattle.volume.specs.Marked.{without_mark}
-use Rattle.volume.specs.Told.{busier, pending_in}
+use Rattle.volume.specs.HistoryOf.{busier, pending_in}
 use Rattle.volume.specs.Volumes.{IsVolume, PVolume, live_of}
 use Rattle.volume.specs.declared.event.Index.{Index}
 use Rattle.volume.specs.declared.event.Index.TheVariants.{Meta, Block}

@@ -5,24 +5,24 @@ ghost use Rattle.engine.specs.contracts.client.Client.{the_row as client_row};
 ghost use Rattle.engine.specs.contracts.clients.Clients.{the_row};
 
 use crate::client::Client;
-use crate::rule::Naming;
+use crate::engine_rule::EngineId;
 use std::marker::Model;
 
 /// The clients of an engine, never more than it has. A contract sees what each knows, in their order.
-pub struct Clients<J: Naming> {
+pub struct Clients<J: EngineId> {
     list: Vec<Client<J>>,
     /// How many clients the engine has.
     most: usize,
 }
 
 // Written out, as that of `pathkey::Key`.
-impl<J: Naming> Drop for Clients<J> {
+impl<J: EngineId> Drop for Clients<J> {
     fn drop(self) {
         let Clients { list: _, most: _ } = self;
     }
 }
 
-impl<J: Naming> Model for Clients<J> {
+impl<J: EngineId> Model for Clients<J> {
     ghost use Rattle.std.specs.Prelude.{◌≡◌, ◌≤◌, List, length, vec_capacity};
     ghost use Rattle.engine.specs.Clients.{Known};
 
@@ -33,7 +33,7 @@ impl<J: Naming> Model for Clients<J> {
     ghost invariant = { λ c. (c.most ≡ J.clients) × (length c.list.items ≤ c.most) × (c.most ≤ vec_capacity c.list) };
 }
 
-impl<J: Naming> Clients<J> {
+impl<J: EngineId> Clients<J> {
     /// These clients.
     pub(crate) fn new(list: Vec<Client<J>>, most: usize) -> Clients<J>
         requires most { (most ≡ J.clients) × (length list.items ≤ most) × (most ≤ vec_capacity list) }
@@ -59,7 +59,7 @@ impl<J: Naming> Clients<J> {
 
     /// The clients, for threads that take one each. What the slice is left with stands in their place.
     pub fn as_mut_slice(&mut self) -> &mut [Client<J>]
-        ensures* writes_back { sem 𝓛 (Lends (the_row J.row J.Naming) (Array (client_row J.row J.Naming) 0) self.entry result (λ w. take (length self.old) (w ++ drop (length w) self.old))) }
+        ensures* writes_back { sem 𝓛 (Lends (the_row J.row J.EngineId) (Array (client_row J.row J.EngineId) 0) self.entry result (λ w. take (length self.old) (w ++ drop (length w) self.old))) }
         ensures value { result.now ≡ self.old }
     {
         self.list.as_mut_slice()

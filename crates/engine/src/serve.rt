@@ -5,9 +5,9 @@ ghost use Rattle.engine.specs.Ends.{Worked, Served, GivesVolume};
 
 use crate::client::Client;
 use crate::clients::Clients;
-use crate::engine::{Engine, Report, Room};
+use crate::engine::{Engine, EngineBuilder, Report};
+use crate::engine_rule::EngineId;
 use crate::flusher::Flusher;
-use crate::rule::Naming;
 use std::alloc::Global;
 use std::marker::Brand;
 use std::sync::Wait;
@@ -16,17 +16,23 @@ use std::thread::{Scope, Threads, for_each_mut, scope, scope_env};
 use volume::Volume;
 
 /// What each client of an engine does. All of them share it, so what they answer goes into atomics or locks of it.
-pub trait Work {
+pub trait ClientTask {
     ghost use Rattle.std.specs.Prelude.{⊤};
     ghost use Rattle.engine.specs.Clients.{Known};
     ghost use Rattle.volume.specs.Volumes.{PVolume};
 
-    /// What it does to a client of an engine over this volume: what the client knows before it and after it. `Room::serve`
+    /// What it does to a client of an engine over this volume: what the client knows before it and after it. `EngineBuilder::serve`
     /// promises it of each client. A work that gives none says nothing.
     ghost does: { Self → PVolume → Known → Known → Type 0 } = { λ _ _ _ _. ⊤ };
 
     /// Does it by this client, which has this number and has seen nothing.
-    fn work<J: Naming, R: Wait>(&self, rt: &R, alloc: Global, number: usize, client: &mut Client<J>)
+    fn run<J: EngineId, R: Wait>(
+        &self,
+        rt: &R,
+        alloc: Global,
+        number: usize,
+        client: &mut Client<J>,
+    )
         requires { client.old ≡ newcomer number }
         ensures { does self.now J.opening client.old client.new };
 }
@@ -40,65 +46,65 @@ pub enum ServeFault {
     NotClosed,
 }
 
-impl Room {
+impl EngineBuilder {
     /// Opens an engine with so many clients, of which each does the work once, at once in as many threads as there can be. So
     /// many flushers make turns meanwhile, in threads of their own; one for which there is no thread or no memory is left out.
     /// Then the engine is closed. All threads have ended when it returns.
     ///
     /// Each client did the work once, from when it had seen nothing on. One legal history begins with all that the clients then
     /// have seen, and has just their calls. The report's tree is the live one that it leaves.
-    pub fn serve<W: Work + Sync, R: Threads + Wait + Sync>(
+    pub fn serve<W: ClientTask + Sync, R: Threads + Wait + Sync>(
         self,
         rt: &R,
         alloc: Global,
         clients: usize,
         flushers: u8,
-        work: &W,
+        run: &W,
     ) -> Result<Report, ServeFault>
         requires few { (1 ≤ clients) × (clients ≤ 64) }
-        ensures ends { IfOk result (λ r. Served (W.does work.now self.1) self.1 clients r.calls r.tree) }
-        ensures back { IfErr result (GivesVolume (W.does work.now self.1) self.1 clients) }
+        ensures ends { IfOk result (λ r. Served (W.does run.now self.1) self.1 clients r.calls r.tree) }
+        ensures back { IfErr result (GivesVolume (W.does run.now self.1) self.1 clients) }
     {
-        serve_in::<Brand, W, R>(rt, alloc, self, clients, flushers, work)
+        serve_in::<Brand, W, R>(rt, alloc, self, clients, flushers, run)
     }
 }
 
 /// Opens an engine that has a name, lets its clients work beside flushers, and closes it.
-fn serve_in<J: Naming + Send + Sync, W: Work + Sync, R: Threads + Wait + Sync>(
+fn serve_in<J: EngineId + Send + Sync, W: ClientTask + Sync, R: Threads + Wait + Sync>(
     rt: &R,
     alloc: Global,
-    room: Room,
+    builder: EngineBuilder,
     clients: usize,
     flushers: u8,
-    work: &W,
+    run: &W,
 ) -> Result<Report, ServeFault>
-    requires names { (room.0 ≡ J.table) × (room.1 ≡ J.opening) × (clients ≡ J.clients) }
+    requires names { (builder.0 ≡ J.table) × (builder.1 ≡ J.opening) × (clients ≡ J.clients) }
     requires few { (1 ≤ clients) × (clients ≤ 64) }
-    ensures ends { IfOk result (λ r. Served (W.does work.now room.1) room.1 clients r.calls r.tree) }
-    ensures back { IfErr result (GivesVolume (W.does work.now room.1) room.1 clients) }
+    ensures ends { IfOk result (λ r. Served (W.does run.now builder.1) builder.1 clients r.calls r.tree) }
+    ensures back { IfErr result (GivesVolume (W.does run.now builder.1) builder.1 clients) }
 {
-    match Engine::<J>::open(alloc, room, clients) {
-        Ok((engine, clients)) => work_and_end(rt, alloc, engine, clients, flushers, work),
+    match Engine::<J>::open(alloc, builder, clients) {
+        Ok((engine, clients)) => work_and_end(rt, alloc, engine, clients, flushers, run),
         Err(volume) => Err(ServeFault::NotOpened(volume)),
     }
 }
 
 /// The clients work beside flushers, and then the engine ends.
-fn work_and_end<J: Naming + Send + Sync, W: Work + Sync, R: Threads + Wait + Sync>(
+fn work_and_end<J: EngineId + Send + Sync, W: ClientTask + Sync, R: Threads + Wait + Sync>(
     rt: &R,
     alloc: Global,
     mut engine: Engine<J>,
     clients: Clients<J>,
     flushers: u8,
-    work: &W,
+    run: &W,
 ) -> Result<Report, ServeFault>
     requires all { engine ≡ J.clients }
     requires fresh { clients ≡ fresh J.clients }
-    ensures ends { IfOk result (λ r. Served (W.does work.now J.opening) J.opening J.clients r.calls r.tree) }
-    ensures back { IfErr result (GivesVolume (W.does work.now J.opening) J.opening J.clients) }
+    ensures ends { IfOk result (λ r. Served (W.does run.now J.opening) J.opening J.clients r.calls r.tree) }
+    ensures back { IfErr result (GivesVolume (W.does run.now J.opening) J.opening J.clients) }
 {
-    let staff = hire_all(alloc, &mut engine, flushers);
-    let worked = work_beside(rt, alloc, clients, staff, work);
+    let staff = new_flushers(alloc, &mut engine, flushers);
+    let worked = work_beside(rt, alloc, clients, staff, run);
     match engine.close(rt, worked) {
         Ok(report) => Ok(report),
         // Memory was refused: no client is missing.
@@ -107,7 +113,7 @@ fn work_and_end<J: Naming + Send + Sync, W: Work + Sync, R: Threads + Wait + Syn
 }
 
 /// So many flushers, without those for which there is no memory.
-fn hire_all<J: Naming>(alloc: Global, engine: &mut Engine<J>, count: u8) -> Vec<Flusher<J>>
+fn new_flushers<J: EngineId>(alloc: Global, engine: &mut Engine<J>, count: u8) -> Vec<Flusher<J>>
     ensures { engine.new ≡ engine.old }
 {
     let mut staff = Vec::new(alloc);
@@ -118,7 +124,7 @@ fn hire_all<J: Naming>(alloc: Global, engine: &mut Engine<J>, count: u8) -> Vec<
 }
 
 /// One flusher more, if there is memory for it.
-fn hire_into<J: Naming>(engine: &mut Engine<J>, staff: &mut Vec<Flusher<J>>)
+fn hire_into<J: EngineId>(engine: &mut Engine<J>, staff: &mut Vec<Flusher<J>>)
     ensures { engine.new ≡ engine.old }
 {
     if let Ok(flusher) = engine.flusher() {
@@ -127,15 +133,15 @@ fn hire_into<J: Naming>(engine: &mut Engine<J>, staff: &mut Vec<Flusher<J>>)
 }
 
 /// The clients work, while the flushers make turns.
-fn work_beside<J: Naming + Send + Sync, W: Work + Sync, R: Threads + Wait + Sync>(
+fn work_beside<J: EngineId + Send + Sync, W: ClientTask + Sync, R: Threads + Wait + Sync>(
     rt: &R,
     alloc: Global,
     clients: Clients<J>,
     staff: Vec<Flusher<J>>,
-    work: &W,
+    run: &W,
 ) -> Clients<J>
     requires { clients ≡ fresh J.clients }
-    ensures { Worked (W.does work.now J.opening) J.clients result }
+    ensures { Worked (W.does run.now J.opening) J.clients result }
 {
     let is_done = AtomicBool::new(false);
     scope(
@@ -143,33 +149,33 @@ fn work_beside<J: Naming + Send + Sync, W: Work + Sync, R: Threads + Wait + Sync
         rt,
         |scope|
             requires { clients ≡ fresh J.clients }
-        { work_in(scope, rt, alloc, clients, staff, &is_done, work) },
+        { work_in(scope, rt, alloc, clients, staff, &is_done, run) },
     )
 }
 
 /// The flushers start, the clients work, and then the flushers are told that they are done.
-fn work_in<'s, E, J: Naming + Send + Sync + 's, W: Work + Sync, R: Threads + Wait + Sync>(
+fn work_in<'s, E, J: EngineId + Send + Sync + 's, W: ClientTask + Sync, R: Threads + Wait + Sync>(
     scope: &Scope<'s, E>,
     rt: &'s R,
     alloc: Global,
     mut clients: Clients<J>,
     staff: Vec<Flusher<J>>,
     is_done: &'s AtomicBool,
-    work: &W,
+    run: &W,
 ) -> Clients<J>
     requires { clients ≡ fresh J.clients }
-    ensures { Worked (W.does work.now J.opening) J.clients result }
+    ensures { Worked (W.does run.now J.opening) J.clients result }
 {
     for flusher in staff {
         start(scope, rt, alloc, flusher, is_done);
     }
-    work_all(rt, alloc, clients.as_mut_slice(), work);
+    work_all(rt, alloc, clients.as_mut_slice(), run);
     is_done.store(true, Ordering::SeqCst);
     clients
 }
 
 /// Starts a flusher in a thread of its own, if there is one.
-fn start<'s, E, J: Naming + Send + Sync + 's, R: Wait + Sync>(
+fn start<'s, E, J: EngineId + Send + Sync + 's, R: Wait + Sync>(
     scope: &Scope<'s, E>,
     rt: &'s R,
     alloc: Global,
@@ -180,7 +186,12 @@ fn start<'s, E, J: Naming + Send + Sync + 's, R: Wait + Sync>(
 }
 
 /// Turns until the clients are done.
-fn flush<J: Naming, R: Wait>(rt: &R, alloc: Global, mut flusher: Flusher<J>, is_done: &AtomicBool) {
+fn flush<J: EngineId, R: Wait>(
+    rt: &R,
+    alloc: Global,
+    mut flusher: Flusher<J>,
+    is_done: &AtomicBool,
+) {
     // No work lasts for so many turns.
     for _ in 0..u64::MAX {
         if is_done.load(Ordering::SeqCst) {
@@ -191,14 +202,14 @@ fn flush<J: Naming, R: Wait>(rt: &R, alloc: Global, mut flusher: Flusher<J>, is_
 }
 
 /// The clients work, each in a thread of its own.
-fn work_all<J: Naming + Send + Sync, W: Work + Sync, R: Threads + Wait + Sync>(
+fn work_all<J: EngineId + Send + Sync, W: ClientTask + Sync, R: Threads + Wait + Sync>(
     rt: &R,
     alloc: Global,
     clients: &mut [Client<J>],
-    work: &W,
+    run: &W,
 )
     requires { clients.old ≡ fresh J.clients }
-    ensures { Worked (W.does work.now J.opening) J.clients clients.new }
+    ensures { Worked (W.does run.now J.opening) J.clients clients.new }
 {
     // There is one client at least: the bound stands for the checker.
     let count = clients.len().max(1);
@@ -208,7 +219,7 @@ fn work_all<J: Naming + Send + Sync, W: Work + Sync, R: Threads + Wait + Sync>(
         count,
         &|number: usize, client: &mut Client<J>|
             requires { client.old ≡ newcomer number }
-            ensures { W.does work.entry.now J.opening client.old client.new }
-        { work.work(rt, alloc, number, client) },
+            ensures { W.does run.entry.now J.opening client.old client.new }
+        { run.run(rt, alloc, number, client) },
     );
 }

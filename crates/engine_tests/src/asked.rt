@@ -1,12 +1,12 @@
 //! What is asked of a client, as a table can hold it.
 
-use engine::{Client, Naming, Room};
+use engine::{Client, EngineBuilder, EngineId};
 use node::Shape;
 use pathkey::SnapName;
 use reference::{Call, Reply};
-use samples::{Ask, Told};
 use std::alloc::Global;
 use std::sync::Wait;
+use test_support::{ExpectedReply, SampleCall};
 use volume::Volume;
 
 /// The smallest shape.
@@ -17,35 +17,35 @@ pub const SMALL: Shape = Shape {
 };
 
 /// A room with a new volume.
-pub fn new_room(alloc: Global, shape: Shape) -> Option<Room> {
+pub fn new_room(alloc: Global, shape: Shape) -> Option<EngineBuilder> {
     let volume = Volume::new(alloc, shape).ok()?;
-    Room::new(alloc, volume).ok()
+    EngineBuilder::new(alloc, volume).ok()
 }
 
 /// The reply to a call, and whether it is this one.
-fn replies<J: Naming, R: Wait>(
+fn replies<J: EngineId, R: Wait>(
     rt: &R,
     alloc: Global,
     client: &mut Client<J>,
     call: &Call,
-    told: Told<'_>,
+    told: ExpectedReply<'_>,
 ) -> bool {
     let reply = client.call(rt, alloc, call, 0);
     is(told, &reply)
 }
 
 /// Whether this is the reply.
-pub fn is(told: Told<'_>, reply: &Reply) -> bool {
+pub fn is(told: ExpectedReply<'_>, reply: &Reply) -> bool {
     told.is(reply)
 }
 
 /// Whether a call of the client is answered so.
-pub fn answers<J: Naming, R: Wait>(
+pub fn answers<J: EngineId, R: Wait>(
     rt: &R,
     alloc: Global,
     client: &mut Client<J>,
-    ask: Ask<'_>,
-    told: Told<'_>,
+    ask: SampleCall<'_>,
+    told: ExpectedReply<'_>,
 ) -> bool {
     match call_of(alloc, ask) {
         Some(call) => replies(rt, alloc, client, &call, told),
@@ -54,7 +54,7 @@ pub fn answers<J: Naming, R: Wait>(
 }
 
 /// The call.
-pub fn call_of(alloc: Global, ask: Ask<'_>) -> Option<Call> {
+pub fn call_of(alloc: Global, ask: SampleCall<'_>) -> Option<Call> {
     ask.call(alloc).ok()
 }
 

@@ -4,79 +4,95 @@ ghost use Rattle.std.specs.Prelude.{◌≡◌};
 use crate::asked::answers;
 use crate::depth::{makes_all, turns_until_idle};
 use crate::ends::{Snap, fault_of};
-use engine::{Between, Client, Flusher, Naming, TurnReply};
+use engine::{Between, Client, EngineId, Flusher, TurnReply};
 use pathkey::Errno;
-use samples::{Ask, Told};
 use std::alloc::Global;
 use std::sync::Wait;
+use test_support::{ExpectedReply, SampleCall};
 use volume::{Done, Job};
 
 /// What a client does between the taking and the installing.
 #[derive(Clone, Copy)]
-pub enum Deed {
+pub enum PathCall {
     /// It restores the snapshot, in which the later file is not.
     Restore,
     /// It writes to the later file.
     Write,
 }
 
-impl Deed {
+impl PathCall {
     /// What the turn has to answer.
     fn wanted(self) -> TurnReply {
         match self {
-            Deed::Restore => TurnReply::Stale,
-            Deed::Write => TurnReply::Installed,
+            PathCall::Restore => TurnReply::Stale,
+            PathCall::Write => TurnReply::Installed,
         }
     }
 }
 
 /// Whether it is done.
-fn does<J: Naming, R: Wait>(rt: &R, alloc: Global, client: &mut Client<J>, deed: Deed) -> bool {
+fn does<J: EngineId, R: Wait>(
+    rt: &R,
+    alloc: Global,
+    client: &mut Client<J>,
+    deed: PathCall,
+) -> bool {
     match deed {
-        Deed::Restore => fault_of(rt, alloc, client, Snap::Restore, "s").is_none(),
-        Deed::Write => answers(
+        PathCall::Restore => fault_of(rt, alloc, client, Snap::Restore, "s").is_none(),
+        PathCall::Write => answers(
             rt,
             alloc,
             client,
-            Ask::Write("/z", 0, &[0xaa]),
-            Told::Count(1),
+            SampleCall::Write("/z", 0, &[0xaa]),
+            ExpectedReply::Count(1),
         ),
     }
 }
 
 /// Whether the client then finds of the later file what it has to.
-fn finds<J: Naming, R: Wait>(rt: &R, alloc: Global, client: &mut Client<J>, deed: Deed) -> bool {
+fn finds<J: EngineId, R: Wait>(
+    rt: &R,
+    alloc: Global,
+    client: &mut Client<J>,
+    deed: PathCall,
+) -> bool {
     match deed {
-        Deed::Restore => answers(
+        PathCall::Restore => answers(
             rt,
             alloc,
             client,
-            Ask::Stat("/z"),
-            Told::Fault(Errno::ENOENT),
+            SampleCall::Stat("/z"),
+            ExpectedReply::Fault(Errno::ENOENT),
         ),
-        Deed::Write => {
+        PathCall::Write => {
             answers(
                 rt,
                 alloc,
                 client,
-                Ask::Read("/z", 0, 2),
-                Told::Data(&[0xaa]),
-            ) && answers(rt, alloc, client, Ask::Stat("/z"), Told::File(1))
+                SampleCall::Read("/z", 0, 2),
+                ExpectedReply::Data(&[0xaa]),
+            ) && answers(
+                rt,
+                alloc,
+                client,
+                SampleCall::Stat("/z"),
+                ExpectedReply::File(1),
+            )
         }
     }
 }
 
 /// A client that does something between the taking and the installing.
 #[derive(Drop)]
-struct Meanwhile<'a, J: Naming, R: Wait> {
+struct Meanwhile<'a, J: EngineId, R: Wait> {
     rt: &'a R,
     alloc: Global,
     client: Client<J>,
-    deed: Deed,
+    deed: PathCall,
     is_done: bool,
 }
 
-impl<'a, J: Naming, R: Wait> Between for Meanwhile<'a, J, R> {
+impl<'a, J: EngineId, R: Wait> Between for Meanwhile<'a, J, R> {
     fn between(&mut self) {
         self.is_done = does(self.rt, self.alloc, &mut self.client, self.deed);
     }
@@ -104,7 +120,7 @@ impl Between for Nothing {
 
 /// Many files, nothing waits; then a snapshot, and one file more. It alone waits in the metadata, since its directory has its moment
 /// already.
-pub fn prepares<J: Naming, R: Wait>(
+pub fn prepares<J: EngineId, R: Wait>(
     rt: &R,
     alloc: Global,
     client: &mut Client<J>,
@@ -113,16 +129,22 @@ pub fn prepares<J: Naming, R: Wait>(
     makes_all(rt, alloc, client)
         && turns_until_idle(rt, alloc, flusher).is_some()
         && fault_of(rt, alloc, client, Snap::Keep, "s").is_none()
-        && answers(rt, alloc, client, Ask::Create("/z"), Told::Done)
+        && answers(
+            rt,
+            alloc,
+            client,
+            SampleCall::Create("/z"),
+            ExpectedReply::Done,
+        )
 }
 
 /// A turn between whose taking and installing the client does this: whether turn and client are answered as they have to be.
-pub fn goes_on<J: Naming, R: Wait>(
+pub fn goes_on<J: EngineId, R: Wait>(
     rt: &R,
     alloc: Global,
     mut client: Client<J>,
     mut flusher: Flusher<J>,
-    deed: Deed,
+    deed: PathCall,
 ) -> bool {
     let is_ready = prepares(rt, alloc, &mut client, &mut flusher);
     let mut between = Meanwhile {
@@ -138,7 +160,7 @@ pub fn goes_on<J: Naming, R: Wait>(
 }
 
 /// Whether a turn whose job is given back says so, and the next one takes the slot again.
-pub fn gives_back<J: Naming, R: Wait>(
+pub fn gives_back<J: EngineId, R: Wait>(
     rt: &R,
     alloc: Global,
     mut client: Client<J>,

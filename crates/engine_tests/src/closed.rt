@@ -3,20 +3,20 @@ ghost use Rattle.std.specs.Prelude.{◌≡◌};
 
 use crate::asked::{SMALL, new_room};
 use crate::between::prepares;
-use engine::{Between, Clients, Engine, Flusher, Naming, Room, TurnReply};
+use engine::{Between, Clients, Engine, EngineBuilder, EngineId, Flusher, TurnReply};
 use std::alloc::Global;
 use std::marker::Brand;
 use std::sync::Wait;
 
 /// Closes the engine between the taking and the installing.
 #[derive(Drop)]
-struct Closes<'a, J: Naming, R: Wait> {
+struct Closes<'a, J: EngineId, R: Wait> {
     rt: &'a R,
     whole: Option<(Engine<J>, Clients<J>)>,
     is_ended: bool,
 }
 
-impl<'a, J: Naming, R: Wait> Between for Closes<'a, J, R> {
+impl<'a, J: EngineId, R: Wait> Between for Closes<'a, J, R> {
     fn between(&mut self) {
         if let Some((engine, clients)) = self.whole.take() {
             self.is_ended = engine.close(self.rt, clients).is_ok();
@@ -25,7 +25,7 @@ impl<'a, J: Naming, R: Wait> Between for Closes<'a, J, R> {
 }
 
 /// Whether a job can be taken, once the one client has made its calls.
-fn is_ready<J: Naming, R: Wait>(
+fn is_ready<J: EngineId, R: Wait>(
     rt: &R,
     alloc: Global,
     clients: &mut Clients<J>,
@@ -41,7 +41,7 @@ fn is_ready<J: Naming, R: Wait>(
 }
 
 /// What the turn answers in whose middle the engine ends, and what the next one.
-fn last_turns<J: Naming, R: Wait>(
+fn last_turns<J: EngineId, R: Wait>(
     rt: &R,
     alloc: Global,
     engine: Engine<J>,
@@ -59,7 +59,11 @@ fn last_turns<J: Naming, R: Wait>(
 }
 
 /// What the turn answers in whose middle an engine with one client in this room ends, and what the next one.
-fn ends_in<J: Naming, R: Wait>(rt: &R, alloc: Global, room: Room) -> Option<(TurnReply, TurnReply)>
+fn ends_in<J: EngineId, R: Wait>(
+    rt: &R,
+    alloc: Global,
+    room: EngineBuilder,
+) -> Option<(TurnReply, TurnReply)>
     requires { (room.0 ≡ J.table) × (room.1 ≡ J.opening) × (J.clients ≡ 1) }
 {
     let (mut engine, mut clients) = Engine::<J>::open(alloc, room, 1).ok()?;
@@ -71,7 +75,7 @@ fn ends_in<J: Naming, R: Wait>(rt: &R, alloc: Global, room: Room) -> Option<(Tur
 }
 
 /// An engine in this room.
-fn run<R: Wait>(rt: &R, alloc: Global, room: Room) -> Option<(TurnReply, TurnReply)> {
+fn run<R: Wait>(rt: &R, alloc: Global, room: EngineBuilder) -> Option<(TurnReply, TurnReply)> {
     ends_in::<Brand, R>(rt, alloc, room)
 }
 

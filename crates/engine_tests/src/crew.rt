@@ -1,28 +1,28 @@
 //! An engine with two clients and two flushers.
-use engine::{Client, Clients, Engine, Flusher, Naming, Report};
+use engine::{Client, Clients, Engine, EngineId, Flusher, Report};
 use std::sync::Wait;
 
 /// The two clients of an engine that was opened with two.
-pub fn two_of<J: Naming>(clients: &mut Clients<J>) -> Option<(Client<J>, Client<J>)> {
+pub fn two_of<J: EngineId>(clients: &mut Clients<J>) -> Option<(Client<J>, Client<J>)> {
     let other = clients.pop()?;
     let one = clients.pop()?;
     Some((one, other))
 }
 
 /// The two flushers of an engine.
-pub fn two_flushers<J: Naming>(engine: &mut Engine<J>) -> Option<(Flusher<J>, Flusher<J>)> {
+pub fn two_flushers<J: EngineId>(engine: &mut Engine<J>) -> Option<(Flusher<J>, Flusher<J>)> {
     let one = engine.flusher().ok()?;
     let other = engine.flusher().ok()?;
     Some((one, other))
 }
 
 /// Whether a client is put back.
-fn takes_back<J: Naming>(clients: &mut Clients<J>, client: Client<J>) -> bool {
+fn takes_back<J: EngineId>(clients: &mut Clients<J>, client: Client<J>) -> bool {
     clients.push(client).is_ok()
 }
 
 /// Ends an engine with its two clients.
-pub fn end<J: Naming, R: Wait>(
+pub fn end<J: EngineId, R: Wait>(
     rt: &R,
     engine: Engine<J>,
     mut clients: Clients<J>,

@@ -3,11 +3,11 @@
 ghost use Rattle.std.specs.Prelude.{◌≡◌};
 
 use crate::asked::answers;
-use engine::{Between, Client, Flusher, Naming, TurnReply};
+use engine::{Between, Client, EngineId, Flusher, TurnReply};
 use node::{ShapeReport, StepReply};
-use samples::{Ask, Told, file_name};
 use std::alloc::Global;
 use std::sync::Wait;
+use test_support::{ExpectedReply, SampleCall, file_name};
 use volume::Frozen;
 
 /// How many files there are.
@@ -29,15 +29,21 @@ impl Between for Count {
 }
 
 /// Whether a file is made.
-fn makes<J: Naming, R: Wait>(rt: &R, alloc: Global, client: &mut Client<J>, number: u32) -> bool {
+fn makes<J: EngineId, R: Wait>(rt: &R, alloc: Global, client: &mut Client<J>, number: u32) -> bool {
     match file_name(alloc, number) {
-        Some(text) => answers(rt, alloc, client, Ask::Create(text.as_str()), Told::Done),
+        Some(text) => answers(
+            rt,
+            alloc,
+            client,
+            SampleCall::Create(text.as_str()),
+            ExpectedReply::Done,
+        ),
         None => false,
     }
 }
 
 /// Whether all files are made.
-pub fn makes_all<J: Naming, R: Wait>(rt: &R, alloc: Global, client: &mut Client<J>) -> bool {
+pub fn makes_all<J: EngineId, R: Wait>(rt: &R, alloc: Global, client: &mut Client<J>) -> bool {
     let mut is_right = true;
     for number in 0..FILES {
         is_right &= makes(rt, alloc, client, number);
@@ -54,14 +60,18 @@ fn did(reply: TurnReply) -> bool {
 }
 
 /// What one turn answers; none where it does not call `between` once.
-fn turn<J: Naming, R: Wait>(rt: &R, alloc: Global, flusher: &mut Flusher<J>) -> Option<TurnReply> {
+fn turn<J: EngineId, R: Wait>(
+    rt: &R,
+    alloc: Global,
+    flusher: &mut Flusher<J>,
+) -> Option<TurnReply> {
     let mut count = Count { turns: 0 };
     let reply = flusher.turn(rt, alloc, &mut count);
     (count.turns == 1).then_some(reply)
 }
 
 /// Whether one turn does a step or installs a job.
-fn turn_does<J: Naming, R: Wait>(rt: &R, alloc: Global, flusher: &mut Flusher<J>) -> bool {
+fn turn_does<J: EngineId, R: Wait>(rt: &R, alloc: Global, flusher: &mut Flusher<J>) -> bool {
     match turn(rt, alloc, flusher) {
         Some(reply) => did(reply),
         None => false,
@@ -70,7 +80,7 @@ fn turn_does<J: Naming, R: Wait>(rt: &R, alloc: Global, flusher: &mut Flusher<J>
 
 /// Turns until one is idle: how many did a step or installed a job. None where one of them did neither, or there are more than
 /// there may be.
-pub fn turns_until_idle<J: Naming, R: Wait>(
+pub fn turns_until_idle<J: EngineId, R: Wait>(
     rt: &R,
     alloc: Global,
     flusher: &mut Flusher<J>,
@@ -86,7 +96,7 @@ pub fn turns_until_idle<J: Naming, R: Wait>(
 }
 
 /// Makes files with a turn after each: how many of the turns did a step or installed a job.
-fn turns_beside<J: Naming, R: Wait>(
+fn turns_beside<J: EngineId, R: Wait>(
     rt: &R,
     alloc: Global,
     client: &mut Client<J>,
@@ -112,7 +122,7 @@ fn shapes_of(tree: &Frozen) -> (ShapeReport, ShapeReport) {
 }
 
 /// The shapes of the live trees; none where memory is refused.
-pub fn shapes<J: Naming, R: Wait>(
+pub fn shapes<J: EngineId, R: Wait>(
     rt: &R,
     client: &mut Client<J>,
 ) -> Option<(ShapeReport, ShapeReport)> {
@@ -123,7 +133,7 @@ pub fn shapes<J: Naming, R: Wait>(
 }
 
 /// Whether the metadata has all files, nothing waits there, and it is as deep as it must be.
-fn is_deep<J: Naming, R: Wait>(rt: &R, client: &mut Client<J>) -> bool {
+fn is_deep<J: EngineId, R: Wait>(rt: &R, client: &mut Client<J>) -> bool {
     match shapes(rt, client) {
         Some((meta, _)) => meta.levels >= 4 && meta.entries == 301 && meta.pending == 0,
         None => false,
@@ -132,7 +142,7 @@ fn is_deep<J: Naming, R: Wait>(rt: &R, client: &mut Client<J>) -> bool {
 
 /// Makes many files, and then turns. Each does something until one is idle, and no turn takes more than four messages out of the
 /// root: so there are as many as a quarter of the files.
-pub fn sinks<J: Naming, R: Wait>(
+pub fn sinks<J: EngineId, R: Wait>(
     rt: &R,
     alloc: Global,
     mut client: Client<J>,
@@ -147,7 +157,7 @@ pub fn sinks<J: Naming, R: Wait>(
 
 /// Turns until nothing waits in a new volume, then files with a turn after each, of which each does something; and then turns
 /// until one is idle, each of which does something.
-pub fn sinks_beside<J: Naming, R: Wait>(
+pub fn sinks_beside<J: EngineId, R: Wait>(
     rt: &R,
     alloc: Global,
     mut client: Client<J>,

@@ -3,13 +3,13 @@ ghost use Rattle.std.specs.Prelude.{◌≡◌};
 
 use crate::asked::{SMALL, answers, is, name_of, new_room};
 use crate::crew::{end, two_of};
-use engine::{Client, CloseFault, Engine, Naming, Room};
+use engine::{Client, CloseFault, Engine, EngineBuilder, EngineId};
 use pathkey::{Errno, Path};
-use samples::{Ask, Told};
 use std::alloc::Global;
 use std::marker::Brand;
 use std::sync::Wait;
 use std::test::Fail;
+use test_support::{ExpectedReply, SampleCall};
 
 /// Keeps the live tree, or drops or restores a snapshot; why not, if it does not.
 #[derive(Clone, Copy)]
@@ -20,7 +20,7 @@ pub enum Snap {
 }
 
 /// Why a call on the snapshot of a name is refused; none where it is done.
-pub fn fault_of<J: Naming, R: Wait>(
+pub fn fault_of<J: EngineId, R: Wait>(
     rt: &R,
     alloc: Global,
     client: &mut Client<J>,
@@ -38,13 +38,13 @@ pub fn fault_of<J: Naming, R: Wait>(
 }
 
 /// What the snapshot of a name answers to a stat; the fault where there is none.
-fn stat_in<J: Naming, R: Wait>(
+fn stat_in<J: EngineId, R: Wait>(
     rt: &R,
     alloc: Global,
     client: &mut Client<J>,
     text: &str,
     path: &Path,
-    told: Told<'_>,
+    told: ExpectedReply<'_>,
 ) -> Result<bool, Errno> {
     let Some(name) = name_of(alloc, text) else {
         return Err(Errno::ENOMEM);
@@ -56,16 +56,34 @@ fn stat_in<J: Naming, R: Wait>(
 }
 
 /// Each call of a client once; how many of them were recorded.
-fn each_call<J: Naming, R: Wait>(rt: &R, alloc: Global, client: &mut Client<J>) -> Option<u64> {
+fn each_call<J: EngineId, R: Wait>(rt: &R, alloc: Global, client: &mut Client<J>) -> Option<u64> {
     let path = Path::parse(alloc, b"/a".as_slice()).ok()?;
-    let made = answers(rt, alloc, client, Ask::Mkdir("/a"), Told::Done);
+    let made = answers(
+        rt,
+        alloc,
+        client,
+        SampleCall::Mkdir("/a"),
+        ExpectedReply::Done,
+    );
     let kept = fault_of(rt, alloc, client, Snap::Keep, "s");
     let again = fault_of(rt, alloc, client, Snap::Keep, "s");
-    let gone = answers(rt, alloc, client, Ask::Rmdir("/a"), Told::Done);
-    let past = stat_in(rt, alloc, client, "s", &path, Told::Dir);
-    let none = stat_in(rt, alloc, client, "t", &path, Told::Dir);
+    let gone = answers(
+        rt,
+        alloc,
+        client,
+        SampleCall::Rmdir("/a"),
+        ExpectedReply::Done,
+    );
+    let past = stat_in(rt, alloc, client, "s", &path, ExpectedReply::Dir);
+    let none = stat_in(rt, alloc, client, "t", &path, ExpectedReply::Dir);
     let back = fault_of(rt, alloc, client, Snap::Restore, "s");
-    let there = answers(rt, alloc, client, Ask::Stat("/a"), Told::Dir);
+    let there = answers(
+        rt,
+        alloc,
+        client,
+        SampleCall::Stat("/a"),
+        ExpectedReply::Dir,
+    );
     let dropped = fault_of(rt, alloc, client, Snap::Drop, "s");
     let lost = fault_of(rt, alloc, client, Snap::Drop, "s");
     let is_right = made
@@ -82,7 +100,7 @@ fn each_call<J: Naming, R: Wait>(rt: &R, alloc: Global, client: &mut Client<J>) 
 }
 
 /// Each call of one of two clients, once; then the engine ends.
-fn in_room<J: Naming, R: Wait>(rt: &R, alloc: Global, room: Room) -> Option<u64>
+fn in_room<J: EngineId, R: Wait>(rt: &R, alloc: Global, room: EngineBuilder) -> Option<u64>
     requires { (room.0 ≡ J.table) × (room.1 ≡ J.opening) × (J.clients ≡ 2) }
 {
     let (engine, mut clients) = Engine::<J>::open(alloc, room, 2).ok()?;
@@ -93,7 +111,7 @@ fn in_room<J: Naming, R: Wait>(rt: &R, alloc: Global, room: Room) -> Option<u64>
 }
 
 /// An engine over a new volume.
-fn run<R: Wait>(rt: &R, alloc: Global, room: Room) -> Option<u64> {
+fn run<R: Wait>(rt: &R, alloc: Global, room: EngineBuilder) -> Option<u64> {
     in_room::<Brand, R>(rt, alloc, room)
 }
 
@@ -108,7 +126,7 @@ fn each_call_of_a_client(rt: HostRuntime) -> Result<(), Fail> {
 }
 
 /// Ends an engine of two clients with one of them, which fails, and then with both.
-fn without_one<J: Naming, R: Wait>(rt: &R, alloc: Global, room: Room) -> Option<bool>
+fn without_one<J: EngineId, R: Wait>(rt: &R, alloc: Global, room: EngineBuilder) -> Option<bool>
     requires { (room.0 ≡ J.table) × (room.1 ≡ J.opening) × (J.clients ≡ 2) }
 {
     let (engine, mut clients) = Engine::<J>::open(alloc, room, 2).ok()?;
@@ -122,7 +140,7 @@ fn without_one<J: Naming, R: Wait>(rt: &R, alloc: Global, room: Room) -> Option<
 }
 
 /// An engine over a new volume.
-fn run_without_one<R: Wait>(rt: &R, alloc: Global, room: Room) -> Option<bool> {
+fn run_without_one<R: Wait>(rt: &R, alloc: Global, room: EngineBuilder) -> Option<bool> {
     without_one::<Brand, R>(rt, alloc, room)
 }
 

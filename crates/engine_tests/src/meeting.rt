@@ -3,23 +3,29 @@ ghost use Rattle.std.specs.Prelude.{◌≡◌};
 
 use crate::asked::{SMALL, answers, is, new_room};
 use crate::crew::{end, two_of};
-use engine::{Client, Engine, Naming, Room};
+use engine::{Client, Engine, EngineBuilder, EngineId};
 use pathkey::Path;
-use samples::{Ask, Told};
 use std::alloc::Global;
 use std::marker::Brand;
 use std::sync::Wait;
 use std::test::Fail;
 use std::thread::{Threads, join};
+use test_support::{ExpectedReply, SampleCall};
 use volume::Frozen;
 
 /// How often a client looks for the other's file.
 const LOOKS: u32 = 1_000_000;
 
 /// Asks for a file until it is found.
-fn finds<J: Naming, R: Wait>(rt: &R, alloc: Global, client: &mut Client<J>, text: &str) -> bool {
+fn finds<J: EngineId, R: Wait>(rt: &R, alloc: Global, client: &mut Client<J>, text: &str) -> bool {
     for _ in 0..LOOKS {
-        if answers(rt, alloc, client, Ask::Stat(text), Told::File(0)) {
+        if answers(
+            rt,
+            alloc,
+            client,
+            SampleCall::Stat(text),
+            ExpectedReply::File(0),
+        ) {
             return true;
         }
     }
@@ -29,13 +35,13 @@ fn finds<J: Naming, R: Wait>(rt: &R, alloc: Global, client: &mut Client<J>, text
 /// Whether the file stands in a tree that stands still.
 fn has_file(alloc: Global, tree: &Frozen, text: &str) -> bool {
     match Path::parse(alloc, text.as_bytes()) {
-        Ok(path) => is(Told::File(0), &tree.stat(alloc, &path)),
+        Ok(path) => is(ExpectedReply::File(0), &tree.stat(alloc, &path)),
         Err(_) => false,
     }
 }
 
 /// Whether both files stand in the tree that the client takes.
-fn freezes_both<J: Naming, R: Wait>(rt: &R, alloc: Global, client: &mut Client<J>) -> bool {
+fn freezes_both<J: EngineId, R: Wait>(rt: &R, alloc: Global, client: &mut Client<J>) -> bool {
     match client.freeze(rt) {
         Ok(tree) => has_file(alloc, &tree, "/w1") && has_file(alloc, &tree, "/w2"),
         Err(_) => false,
@@ -43,21 +49,27 @@ fn freezes_both<J: Naming, R: Wait>(rt: &R, alloc: Global, client: &mut Client<J
 }
 
 /// Makes a file, waits for the other's, and then looks at both in a tree that stands still.
-fn meet<J: Naming, R: Wait>(
+fn meet<J: EngineId, R: Wait>(
     rt: &R,
     alloc: Global,
     mut client: Client<J>,
     mine: &str,
     theirs: &str,
 ) -> (Client<J>, bool) {
-    let made = answers(rt, alloc, &mut client, Ask::Create(mine), Told::Done);
+    let made = answers(
+        rt,
+        alloc,
+        &mut client,
+        SampleCall::Create(mine),
+        ExpectedReply::Done,
+    );
     let found = finds(rt, alloc, &mut client, theirs);
     let both = freezes_both(rt, alloc, &mut client);
     (client, made && found && both)
 }
 
 /// Two clients meet, each in a thread of its own.
-fn both_meet<J: Naming + Send + Sync, R: Threads + Wait + Sync>(
+fn both_meet<J: EngineId + Send + Sync, R: Threads + Wait + Sync>(
     rt: &R,
     alloc: Global,
     one: Client<J>,
@@ -71,10 +83,10 @@ fn both_meet<J: Naming + Send + Sync, R: Threads + Wait + Sync>(
 }
 
 /// Whether two clients of an engine meet.
-fn in_room<J: Naming + Send + Sync, R: Threads + Wait + Sync>(
+fn in_room<J: EngineId + Send + Sync, R: Threads + Wait + Sync>(
     rt: &R,
     alloc: Global,
-    room: Room,
+    room: EngineBuilder,
 ) -> Option<bool>
     requires { (room.0 ≡ J.table) × (room.1 ≡ J.opening) × (J.clients ≡ 2) }
 {
@@ -86,7 +98,7 @@ fn in_room<J: Naming + Send + Sync, R: Threads + Wait + Sync>(
 }
 
 /// An engine over a new volume.
-fn run<R: Threads + Wait + Sync>(rt: &R, alloc: Global, room: Room) -> Option<bool> {
+fn run<R: Threads + Wait + Sync>(rt: &R, alloc: Global, room: EngineBuilder) -> Option<bool> {
     in_room::<Brand, R>(rt, alloc, room)
 }
 

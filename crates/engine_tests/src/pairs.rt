@@ -3,13 +3,13 @@ ghost use Rattle.std.specs.Prelude.{◌≡◌};
 
 use crate::asked::{SMALL, answers, new_room};
 use crate::crew::{end, two_flushers, two_of};
-use engine::{Client, Engine, Flusher, Naming, Room};
-use samples::{Ask, Told};
+use engine::{Client, Engine, EngineBuilder, EngineId, Flusher};
 use std::alloc::Global;
 use std::marker::Brand;
 use std::sync::Wait;
 use std::test::Fail;
 use std::thread::{Threads, join};
+use test_support::{ExpectedReply, SampleCall};
 
 /// How many calls a client makes.
 const CALLS: u64 = 1000;
@@ -24,7 +24,7 @@ fn written(alloc: Global) -> Option<Vec<u8>> {
 }
 
 /// Writes a byte for each call but the first and the last, each behind the one before.
-fn write_all<J: Naming, R: Wait>(
+fn write_all<J: EngineId, R: Wait>(
     rt: &R,
     alloc: Global,
     client: &mut Client<J>,
@@ -37,15 +37,15 @@ fn write_all<J: Naming, R: Wait>(
             rt,
             alloc,
             client,
-            Ask::Write(text, k - 2, &byte),
-            Told::Count(1),
+            SampleCall::Write(text, k - 2, &byte),
+            ExpectedReply::Count(1),
         );
     }
     is_right
 }
 
 /// A thousand calls on one file: it is made, written byte by byte, and read.
-fn thousand<J: Naming, R: Wait>(
+fn thousand<J: EngineId, R: Wait>(
     rt: &R,
     alloc: Global,
     mut client: Client<J>,
@@ -54,21 +54,27 @@ fn thousand<J: Naming, R: Wait>(
     let Some(bytes) = written(alloc) else {
         return (client, false);
     };
-    let made = answers(rt, alloc, &mut client, Ask::Create(text), Told::Done);
+    let made = answers(
+        rt,
+        alloc,
+        &mut client,
+        SampleCall::Create(text),
+        ExpectedReply::Done,
+    );
     let wrote = write_all(rt, alloc, &mut client, text);
     let read = answers(
         rt,
         alloc,
         &mut client,
-        Ask::Read(text, 0, CALLS - 2),
-        Told::Data(bytes.as_slice()),
+        SampleCall::Read(text, 0, CALLS - 2),
+        ExpectedReply::Data(bytes.as_slice()),
     );
     let made_all = client.made() == CALLS;
     (client, made && wrote && read && made_all)
 }
 
 /// A thousand calls by each of two clients.
-fn thousands<J: Naming + Send + Sync, R: Threads + Wait + Sync>(
+fn thousands<J: EngineId + Send + Sync, R: Threads + Wait + Sync>(
     rt: &R,
     alloc: Global,
     one: Client<J>,
@@ -82,12 +88,12 @@ fn thousands<J: Naming + Send + Sync, R: Threads + Wait + Sync>(
 }
 
 /// So many turns.
-fn flush<J: Naming, R: Wait>(rt: &R, alloc: Global, mut flusher: Flusher<J>, turns: u32) {
+fn flush<J: EngineId, R: Wait>(rt: &R, alloc: Global, mut flusher: Flusher<J>, turns: u32) {
     flusher.run_flusher(rt, alloc, turns);
 }
 
 /// So many turns by each of two flushers.
-fn flush_both<J: Naming + Send + Sync, R: Threads + Wait + Sync>(
+fn flush_both<J: EngineId + Send + Sync, R: Threads + Wait + Sync>(
     rt: &R,
     alloc: Global,
     one: Flusher<J>,
@@ -103,10 +109,10 @@ fn flush_both<J: Naming + Send + Sync, R: Threads + Wait + Sync>(
 
 /// Two clients and two flushers at once. Whether each client was answered as the only one on its file, and how many calls there
 /// were in all.
-fn at_once<J: Naming + Send + Sync, R: Threads + Wait + Sync>(
+fn at_once<J: EngineId + Send + Sync, R: Threads + Wait + Sync>(
     rt: &R,
     alloc: Global,
-    room: Room,
+    room: EngineBuilder,
 ) -> Option<(bool, u64)>
     requires { (room.0 ≡ J.table) × (room.1 ≡ J.opening) × (J.clients ≡ 2) }
 {
@@ -124,7 +130,11 @@ fn at_once<J: Naming + Send + Sync, R: Threads + Wait + Sync>(
 }
 
 /// An engine over a new volume.
-fn run<R: Threads + Wait + Sync>(rt: &R, alloc: Global, room: Room) -> Option<(bool, u64)> {
+fn run<R: Threads + Wait + Sync>(
+    rt: &R,
+    alloc: Global,
+    room: EngineBuilder,
+) -> Option<(bool, u64)> {
     at_once::<Brand, R>(rt, alloc, room)
 }
 

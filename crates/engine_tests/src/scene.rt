@@ -2,10 +2,10 @@
 ghost use Rattle.std.specs.Prelude.{◌≡◌};
 
 use crate::asked::{SMALL, new_room};
-use crate::between::{Deed, gives_back, goes_on};
+use crate::between::{PathCall, gives_back, goes_on};
 use crate::depth::{sinks, sinks_beside};
 use crate::unlocked::writes_meanwhile;
-use engine::{Client, Engine, Flusher, Naming, Room};
+use engine::{Client, Engine, EngineBuilder, EngineId, Flusher};
 use std::alloc::Global;
 use std::marker::Brand;
 use std::sync::Wait;
@@ -19,7 +19,7 @@ enum Scene {
     /// So many files sink, with a turn after each.
     SinksBeside(u32),
     /// A client does this between the two holds of a turn.
-    GoesOn(Deed),
+    GoesOn(PathCall),
     /// A job is given back.
     GivesBack,
     /// A client writes while a flusher builds.
@@ -27,7 +27,7 @@ enum Scene {
 }
 
 /// Whether it is seen of this client and this flusher.
-fn plays<J: Naming + Send + Sync, R: Threads + Wait + Sync>(
+fn plays<J: EngineId + Send + Sync, R: Threads + Wait + Sync>(
     rt: &R,
     alloc: Global,
     client: Client<J>,
@@ -44,7 +44,7 @@ fn plays<J: Naming + Send + Sync, R: Threads + Wait + Sync>(
 }
 
 /// Whether it is seen of the client and a flusher of this engine.
-fn plays_with<J: Naming + Send + Sync, R: Threads + Wait + Sync>(
+fn plays_with<J: EngineId + Send + Sync, R: Threads + Wait + Sync>(
     rt: &R,
     alloc: Global,
     engine: &mut Engine<J>,
@@ -61,10 +61,10 @@ fn plays_with<J: Naming + Send + Sync, R: Threads + Wait + Sync>(
 }
 
 /// Whether it is seen in an engine of one client.
-fn plays_in<J: Naming + Send + Sync, R: Threads + Wait + Sync>(
+fn plays_in<J: EngineId + Send + Sync, R: Threads + Wait + Sync>(
     rt: &R,
     alloc: Global,
-    room: Room,
+    room: EngineBuilder,
     scene: Scene,
 ) -> bool
     requires { (room.0 ≡ J.table) × (room.1 ≡ J.opening) × (J.clients ≡ 1) }
@@ -78,7 +78,7 @@ fn plays_in<J: Naming + Send + Sync, R: Threads + Wait + Sync>(
 }
 
 /// Whether it is seen in this room.
-fn run<R: Threads + Wait + Sync>(rt: &R, alloc: Global, room: Room, scene: Scene) -> bool {
+fn run<R: Threads + Wait + Sync>(rt: &R, alloc: Global, room: EngineBuilder, scene: Scene) -> bool {
     plays_in::<Brand, R>(rt, alloc, room, scene)
 }
 
@@ -107,12 +107,12 @@ fn each_turn_does_something_while_a_message_waits(rt: HostRuntime) {
 
 #[test]
 fn a_restore_makes_the_job_stale(rt: HostRuntime) {
-    assert!(rt; is_seen(&rt, rt.alloc(), Scene::GoesOn(Deed::Restore)));
+    assert!(rt; is_seen(&rt, rt.alloc(), Scene::GoesOn(PathCall::Restore)));
 }
 
 #[test]
 fn a_write_stays_beside_the_job(rt: HostRuntime) {
-    assert!(rt; is_seen(&rt, rt.alloc(), Scene::GoesOn(Deed::Write)));
+    assert!(rt; is_seen(&rt, rt.alloc(), Scene::GoesOn(PathCall::Write)));
 }
 
 #[test]

@@ -1,11 +1,11 @@
 //! Each file call of a client by its name, once; and what stands then has the moments at which it was changed.
 use crate::asked::{SMALL, new_room};
-use engine::{Client, Errno, Kind, Naming, Path, Room, Work};
-use samples::ask::path;
+use engine::{Client, ClientTask, EngineBuilder, EngineId, Errno, Kind, Path};
 use std::alloc::Global;
 use std::sync::Wait;
 use std::sync::atomic::{AtomicBool, Ordering};
 use std::thread::Threads;
+use test_support::ask::path;
 
 /// A directory, a file in it, and where the file is moved to.
 #[derive(Drop)]
@@ -23,7 +23,7 @@ fn new_places(alloc: Global) -> Result<Places, Errno> {
 }
 
 /// Makes the file and moves it, a moment after the other: how many bytes were written.
-fn changes<J: Naming, R: Wait>(
+fn changes<J: EngineId, R: Wait>(
     rt: &R,
     alloc: Global,
     client: &mut Client<J>,
@@ -38,7 +38,7 @@ fn changes<J: Naming, R: Wait>(
 }
 
 /// Whether the file has these bytes.
-fn reads<J: Naming, R: Wait>(rt: &R, alloc: Global, client: &mut Client<J>, file: &Path) -> bool {
+fn reads<J: EngineId, R: Wait>(rt: &R, alloc: Global, client: &mut Client<J>, file: &Path) -> bool {
     match client.read(rt, alloc, file, 0, 100) {
         Ok(bytes) => bytes.as_slice() == b"\0\0\0wor".as_slice(),
         Err(_) => false,
@@ -46,7 +46,7 @@ fn reads<J: Naming, R: Wait>(rt: &R, alloc: Global, client: &mut Client<J>, file
 }
 
 /// Whether the directory has one entry, which is the moved file.
-fn lists<J: Naming, R: Wait>(rt: &R, alloc: Global, client: &mut Client<J>, home: &Path) -> bool {
+fn lists<J: EngineId, R: Wait>(rt: &R, alloc: Global, client: &mut Client<J>, home: &Path) -> bool {
     match client.readdir(rt, alloc, home) {
         Ok(entries) => match entries.as_slice() {
             [(Kind::File, name)] => name.as_slice() == b"g".as_slice(),
@@ -57,7 +57,7 @@ fn lists<J: Naming, R: Wait>(rt: &R, alloc: Global, client: &mut Client<J>, home
 }
 
 /// Whether the looks tell what was changed.
-fn looks<J: Naming, R: Wait>(
+fn looks<J: EngineId, R: Wait>(
     rt: &R,
     alloc: Global,
     client: &mut Client<J>,
@@ -70,7 +70,7 @@ fn looks<J: Naming, R: Wait>(
 }
 
 /// Whether file and directory are taken out, and are not there any more.
-fn removes<J: Naming, R: Wait>(
+fn removes<J: EngineId, R: Wait>(
     rt: &R,
     alloc: Global,
     client: &mut Client<J>,
@@ -83,7 +83,7 @@ fn removes<J: Naming, R: Wait>(
 }
 
 /// Whether each call is answered as it has to be.
-fn goes<J: Naming, R: Wait>(rt: &R, alloc: Global, client: &mut Client<J>) -> bool {
+fn goes<J: EngineId, R: Wait>(rt: &R, alloc: Global, client: &mut Client<J>) -> bool {
     match new_places(alloc) {
         Ok(places) => {
             changes(rt, alloc, client, &places) == Ok(5)
@@ -100,8 +100,8 @@ struct EachCall {
     is_right: AtomicBool,
 }
 
-impl Work for EachCall {
-    fn work<J: Naming, R: Wait>(
+impl ClientTask for EachCall {
+    fn run<J: EngineId, R: Wait>(
         &self,
         rt: &R,
         alloc: Global,
@@ -114,7 +114,7 @@ impl Work for EachCall {
 }
 
 /// Whether one client makes all of them, 13 calls in all.
-fn is_served<R: Threads + Wait + Sync>(rt: &R, alloc: Global, room: Room) -> bool {
+fn is_served<R: Threads + Wait + Sync>(rt: &R, alloc: Global, room: EngineBuilder) -> bool {
     let work = EachCall {
         is_right: AtomicBool::new(false),
     };

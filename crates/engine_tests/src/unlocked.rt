@@ -3,13 +3,13 @@ ghost use Rattle.std.specs.Prelude.{◌≡◌};
 
 use crate::asked::answers;
 use crate::depth::{FILES, makes_all, shapes, turns_until_idle};
-use engine::{Between, Client, Flusher, Naming, TurnReply};
-use samples::{Ask, Told, file_name};
+use engine::{Between, Client, EngineId, Flusher, TurnReply};
 use std::alloc::Global;
 use std::sync::Wait;
 use std::sync::atomic::{AtomicBool, Ordering};
 use std::thread::{Parker, Threads, join};
 use std::time::Duration;
+use test_support::{ExpectedReply, SampleCall, file_name};
 use volume::{Done, Job};
 
 /// How often a flusher looks for a flag.
@@ -95,7 +95,7 @@ impl<'a, R: Wait> Between for Waits<'a, R> {
 }
 
 /// One turn: whether it installed a job, and saw a write while it built.
-fn builds<J: Naming, R: Wait>(
+fn builds<J: EngineId, R: Wait>(
     rt: &R,
     alloc: Global,
     mut flusher: Flusher<J>,
@@ -112,14 +112,19 @@ fn builds<J: Naming, R: Wait>(
 }
 
 /// Writes once the flusher builds, and reads the bytes back once its turn has ended.
-fn writes<J: Naming, R: Wait>(rt: &R, alloc: Global, mut client: Client<J>, flags: &Flags) -> bool {
+fn writes<J: EngineId, R: Wait>(
+    rt: &R,
+    alloc: Global,
+    mut client: Client<J>,
+    flags: &Flags,
+) -> bool {
     let is_built = sees_build(rt, flags);
     let wrote = answers(
         rt,
         alloc,
         &mut client,
-        Ask::Write("/z", 0, &[0xaa]),
-        Told::Count(1),
+        SampleCall::Write("/z", 0, &[0xaa]),
+        ExpectedReply::Count(1),
     );
     flags.wrote.store(is_built && wrote, Ordering::SeqCst);
     sees_end(rt, flags);
@@ -127,13 +132,13 @@ fn writes<J: Naming, R: Wait>(rt: &R, alloc: Global, mut client: Client<J>, flag
         rt,
         alloc,
         &mut client,
-        Ask::Read("/z", 0, 2),
-        Told::Data(&[0xaa]),
+        SampleCall::Read("/z", 0, 2),
+        ExpectedReply::Data(&[0xaa]),
     )
 }
 
 /// Writes a byte to the file of a number.
-fn fills_one<J: Naming, R: Wait>(
+fn fills_one<J: EngineId, R: Wait>(
     rt: &R,
     alloc: Global,
     client: &mut Client<J>,
@@ -144,15 +149,15 @@ fn fills_one<J: Naming, R: Wait>(
             rt,
             alloc,
             client,
-            Ask::Write(text.as_str(), 0, b"a"),
-            Told::Count(1),
+            SampleCall::Write(text.as_str(), 0, b"a"),
+            ExpectedReply::Count(1),
         ),
         None => false,
     }
 }
 
 /// Makes many files with a byte each, and then turns until nothing waits.
-fn fills<J: Naming, R: Wait>(
+fn fills<J: EngineId, R: Wait>(
     rt: &R,
     alloc: Global,
     client: &mut Client<J>,
@@ -166,19 +171,25 @@ fn fills<J: Naming, R: Wait>(
 }
 
 /// Whether both trees have two inner levels or more, and one file more waits.
-fn is_ready<J: Naming, R: Wait>(rt: &R, alloc: Global, client: &mut Client<J>) -> bool {
+fn is_ready<J: EngineId, R: Wait>(rt: &R, alloc: Global, client: &mut Client<J>) -> bool {
     match shapes(rt, client) {
         Some((meta, block)) => {
             meta.levels >= 2
                 && block.levels >= 2
-                && answers(rt, alloc, client, Ask::Create("/z"), Told::Done)
+                && answers(
+                    rt,
+                    alloc,
+                    client,
+                    SampleCall::Create("/z"),
+                    ExpectedReply::Done,
+                )
         }
         None => false,
     }
 }
 
 /// A turn beside a client: whether a write was answered while it built.
-pub fn writes_meanwhile<J: Naming + Send + Sync, R: Threads + Wait + Sync>(
+pub fn writes_meanwhile<J: EngineId + Send + Sync, R: Threads + Wait + Sync>(
     rt: &R,
     alloc: Global,
     mut client: Client<J>,

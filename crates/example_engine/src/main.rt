@@ -1,7 +1,7 @@
 //! `example_engine`: two clients of an engine, each in a thread of its own, beside a flusher.
 #![tactic(auto)]
 
-use engine::{Client, Naming, Path, Reply, Report, Room, Shape, Volume, Work};
+use engine::{Client, ClientTask, EngineBuilder, EngineId, Path, Reply, Report, Shape, Volume};
 use std::alloc::Global;
 use std::sync::Wait;
 use std::thread::Threads;
@@ -10,8 +10,8 @@ use std::thread::Threads;
 #[derive(Drop)]
 struct Makers;
 
-impl Work for Makers {
-    fn work<J: Naming, R: Wait>(
+impl ClientTask for Makers {
+    fn run<J: EngineId, R: Wait>(
         &self,
         rt: &R,
         alloc: Global,
@@ -30,7 +30,7 @@ impl Work for Makers {
 /// What is left of an engine over a new volume.
 fn served<R: Threads + Wait + Sync>(rt: &R, alloc: Global) -> Option<Report> {
     let volume = Volume::new(alloc, Shape::USUAL).ok()?;
-    let room = Room::new(alloc, volume).ok()?;
+    let room = EngineBuilder::new(alloc, volume).ok()?;
     room.serve(rt, alloc, 2, 1, &Makers).ok()
 }
 

@@ -13,7 +13,7 @@ use Rattle.node.specs.declared.step.StepKind.TheVariants.{FlushInner}
 use Rattle.node.specs.See.{seen_slots}
 use Rattle.node.specs.Pure.{PNode, leaf, inner, PSlots, none, more}
 use Rattle.node.specs.Lawful.{IsLawfulNode, AreLawfulSlots, slot_count, pending, next_lo}
-use Rattle.node.specs.Appended.{parts, HaveTaken}
+use Rattle.node.specs.Appended.{batches_by_slot, HaveTaken}
 use Rattle.node.specs.Site.{joined, slots_from}
 use Rattle.node.specs.Sinks.{Sinks}
 use Rattle.node.specs.StepRows.{piece_count, IsFullBelow, can_flush_inner}
@@ -21,7 +21,7 @@ use Rattle.node.specs.Steps.{Formed, Replies}
 use Rattle.node.proofs.Appending.{value-taken, slot_count-taken, starts_at-taken}
 use Rattle.node.proofs.Sinking.{touch_only-take, touch_only-drop, lawful-sunk, pending-taken, emptied-taken}
 use Rattle.node.proofs.StepDone.{replies_did}
-use Rattle.node.proofs.Splice.{slots-split, slots-set_split, slot_count-take, slots_from-joined}
+use Rattle.node.proofs.Splice.{slots-split_chunk, slots-set_split, slot_count-take, slots_from-joined}
 use Rattle.flush.specs.Sunk.{Sunk, left}
 use Rattle.flush.proofs.Flushable.{seen_from}
 use Rattle.node.proofs.StepPlaces.{slots_from-get}
@@ -29,7 +29,7 @@ use Rattle.node.proofs.StepPlaces.{slots_from-get}
 module _ {U V : Type 0} where
   module _ (means : U → Option V → Option V) where
     -- messages that the child has taken have sunk
-    sinks : (S : Shape) (n h : ℕ) (lo : List ℕ) (e : Option (List ℕ)) (ms : List (Msg U V)) (cs ds : PSlots U V) → HaveTaken means cs (parts None (take n ms) cs) ds → IsLawfulNode S (inner cs) h lo e → Sinks means n e (more lo ms (inner cs) none) (more lo (drop n ms) (inner ds) none)
+    sinks : (S : Shape) (n h : ℕ) (lo : List ℕ) (e : Option (List ℕ)) (ms : List (Msg U V)) (cs ds : PSlots U V) → HaveTaken means cs (batches_by_slot None (take n ms) cs) ds → IsLawfulNode S (inner cs) h lo e → Sinks means n e (more lo ms (inner cs) none) (more lo (drop n ms) (inner ds) none)
     sinks S n h lo e ms none ds t l = absurd l.3
     sinks S n h lo e ms (more lp o c ss) ds t l = record {
       starts = refl;
@@ -38,7 +38,7 @@ module _ {U V : Type 0} where
     }
 
     -- the slot and its child stay lawful
-    lawful_grown : (S : Shape) (n h : ℕ) (lo : List ℕ) (e : Option (List ℕ)) (ms : List (Msg U V)) (cs ds : PSlots U V) → HaveTaken means cs (parts None (take n ms) cs) ds → pending ds ≤ S.pending → AreLawfulSlots S (more lo ms (inner cs) none) h e → AreLawfulSlots S (more lo (drop n ms) (inner ds) none) h e
+    lawful_grown : (S : Shape) (n h : ℕ) (lo : List ℕ) (e : Option (List ℕ)) (ms : List (Msg U V)) (cs ds : PSlots U V) → HaveTaken means cs (batches_by_slot None (take n ms) cs) ds → pending ds ≤ S.pending → AreLawfulSlots S (more lo ms (inner cs) none) h e → AreLawfulSlots S (more lo (drop n ms) (inner ds) none) h e
     lawful_grown S n h lo e ms cs ds t fits l =
         let c = l.2 in
         let grown : AreLawfulSlots S ds (pred h) e = lawful-sunk means S (pred h) lo e (take n ms) cs ds (touch_only-take n lo e ms l.1) t c.4 in
@@ -58,7 +58,7 @@ module _ {U V : Type 0} where
 
   module _ (means : U → Option V → Option V) (shape : Shape) (root : Bool) (i : ℕ) (b a : PSlots U V) (lo : List ℕ) (at_i : slot_count b ≡ i) where
     -- what became of the slot
-    sunk : (n : ℕ) (ms : List (Msg U V)) (cs ds : PSlots U V) → 1 ≤ n → n ≤ length ms → HaveTaken means cs (parts None (take n ms) cs) ds → pending ds ≤ shape.pending → (h : ℕ) (e : Option (List ℕ)) → AreLawfulSlots shape (more lo ms (inner cs) none) h e → Sinks means n e (more lo ms (inner cs) none) (more lo (drop n ms) (inner ds) none) × Formed means FlushInner shape n (more lo ms (inner cs) none) (more lo (drop n ms) (inner ds) none) × AreLawfulSlots shape (more lo (drop n ms) (inner ds) none) h e
+    sunk : (n : ℕ) (ms : List (Msg U V)) (cs ds : PSlots U V) → 1 ≤ n → n ≤ length ms → HaveTaken means cs (batches_by_slot None (take n ms) cs) ds → pending ds ≤ shape.pending → (h : ℕ) (e : Option (List ℕ)) → AreLawfulSlots shape (more lo ms (inner cs) none) h e → Sinks means n e (more lo ms (inner cs) none) (more lo (drop n ms) (inner ds) none) × Formed means FlushInner shape n (more lo ms (inner cs) none) (more lo (drop n ms) (inner ds) none) × AreLawfulSlots shape (more lo (drop n ms) (inner ds) none) h e
     sunk n ms cs ds one has t fits h e l = (
       sinks means shape n (pred h) lo e ms cs ds t l.2,
       record { lo = lo; msgs = ms; below = cs; grown = ds; some = one; has = has; was = refl; is = refl; same_slots = emptied-taken means (take n ms) cs ds t; pieces_grow = pending-taken means (take n ms) cs ds t },
@@ -66,7 +66,7 @@ module _ {U V : Type 0} where
     )
 
     -- what a flush that is done has done to the node
-    did : (n : ℕ) (ms : List (Msg U V)) (cs ds : PSlots U V) → 1 ≤ n → n ≤ length ms → HaveTaken means cs (parts None (take n ms) cs) ds → pending ds ≤ shape.pending → Replies means FlushInner shape root i (Did n) (joined b (more lo ms (inner cs) a)) (joined b (more lo (drop n ms) (inner ds) a))
+    did : (n : ℕ) (ms : List (Msg U V)) (cs ds : PSlots U V) → 1 ≤ n → n ≤ length ms → HaveTaken means cs (batches_by_slot None (take n ms) cs) ds → pending ds ≤ shape.pending → Replies means FlushInner shape root i (Did n) (joined b (more lo ms (inner cs) a)) (joined b (more lo (drop n ms) (inner ds) a))
     did n ms cs ds one has t fits = replies_did means FlushInner shape root i n b (more lo ms (inner cs) none) (more lo (drop n ms) (inner ds) none) a at_i refl tt tt refl (λ z. z) (λ r z. omega (arith, z, length-drop n ms)) (λ h hi l able. sunk n ms cs ds one has t fits h (next_lo hi a) l) (λ z. z)
 
     -- what each reply says of the node
@@ -83,7 +83,7 @@ module _ {U V : Type 0} where
   flushed means shape root i xs s t r h e el ep q =
       let b = seen_slots (take i xs) in
       let a = seen_slots (drop (suc i) xs) in
-      let was : seen_slots xs ≡ joined b (more s.lo s.pending.0 s.child.value a) = slots-split xs i s h ∙ ap (λ (x : Slot U V). joined b (more x.lo x.pending.0 x.child.value a)) (sym e) in
+      let was : seen_slots xs ≡ joined b (more s.lo s.pending.0 s.child.value a) = slots-split_chunk xs i s h ∙ ap (λ (x : Slot U V). joined b (more x.lo x.pending.0 x.child.value a)) (sym e) in
       let is : seen_slots (set xs i t) ≡ joined b (more s.lo (left r s.pending.0) t.child.value a) = slots-set_split xs i t h ∙ (λ j. joined b (more (el j) (ep j) t.child.value a)) in
       let core = replies means shape root i b a s.lo (slot_count-take xs i (omega arith)) r s.pending.0 s.child.value t.child.value q in
       subst (λ z. Replies means FlushInner shape root i r z (seen_slots (set xs i t))) (sym was) (subst (λ z. Replies means FlushInner shape root i r (joined b (more s.lo s.pending.0 s.child.value a)) z) (sym is) core)

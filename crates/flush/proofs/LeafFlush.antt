@@ -40,7 +40,7 @@ use Rattle.node.proofs.Parting.{Parted, parted_pieces, parted_lawful, parted_sin
 use Rattle.node.proofs.Sinking.{touch_only-take, touch_only-drop}
 use Rattle.node.proofs.StepPlaces.{slots_from-get}
 use Rattle.flush.proofs.Flushable.{seen_from}
-use Rattle.node.proofs.Splice.{slots_from-past, slots-split, slots-set_split, slot_count-take, slots_from-joined, slot_count-joined, pending-joined, lawful-split}
+use Rattle.node.proofs.Splice.{slots_from-past, slots-split_chunk, slots-set_split, slot_count-take, slots_from-joined, slot_count-joined, pending-joined, lawful-split_chunk}
 use Rattle.flush.specs.Sunk.{left}
 use Rattle.flush.specs.Leaf.{AddsNone, Absorbed, HasPlace, Filled, AfterOldest, MayGo, KeptOldest, IsHalved}
 
@@ -75,8 +75,8 @@ module _ {U V : Type 0} (means : U → Option V → Option V) where
   adds_none-found m es q (Err i) t p f = (cc)
 
   -- nor does one that takes values away
-  pub adds_none-gone : (m : Msg U V) (es : List (List ℕ × V)) → made_of means m None ≡ None → AddsNone means es m
-  adds_none-gone m es h k n = elim (touches m k) as (λ b. cond b (made_of means m None) None ≡ None) [ true ↦ h | false ↦ refl ]
+  pub adds_none-consumed : (m : Msg U V) (es : List (List ℕ × V)) → made_of means m None ≡ None → AddsNone means es m
+  adds_none-consumed m es h k n = elim (touches m k) as (λ b. cond b (made_of means m None) None ≡ None) [ true ↦ h | false ↦ refl ]
 
   -- a leaf with room for a message stays within the limit
   pub stays_within : (most : ℕ) (m : Msg U V) (es new : List (List ℕ × V)) → Rises [] None es → Applied means (m ∷ []) es new → (length es < most) ⊎ AddsNone means es m → length es ≤ most → length new ≤ most
@@ -99,8 +99,8 @@ module _ {U V : Type 0} (means : U → Option V → Option V) where
   -- a message that is no put does so only where it edits an absent key
   pub no_put : (most : ℕ) (m : Msg U V) (es : List (List ℕ × V)) → Rises [] None es → ((q : List ℕ) (v : V) → m ≡ Put q v → ⊥) → length es ≤ most → Overflows means most es (m ∷ []) → EditsAbsent (more [] (m ∷ []) (leaf es) none)
   no_put most (Put q v) es r f l o = absurd (f q v refl)
-  no_put most (Del q) es r f l o = absurd (room_within most (Del q) es r (inr (adds_none-gone (Del q) es refl)) l o)
-  no_put most (DelRange d) es r f l o = absurd (room_within most (DelRange d) es r (inr (adds_none-gone (DelRange d) es refl)) l o)
+  no_put most (Del q) es r f l o = absurd (room_within most (Del q) es r (inr (adds_none-consumed (Del q) es refl)) l o)
+  no_put most (DelRange d) es r f l o = absurd (room_within most (DelRange d) es r (inr (adds_none-consumed (DelRange d) es refl)) l o)
   no_put most (Edit q u) es r f l o = (elim (lookup es q) as (λ z. lookup es q ≡ z → z ≡ None) [
     | None ↦ λ e. refl
     | Some v ↦ λ e. absurd (room_within most (Edit q u) es r (inr (adds_none-at (Edit q u) es q v (λ k. refl) e)) l o)
@@ -146,12 +146,12 @@ module _ {U V : Type 0} (means : U → Option V → Option V) where
   stays_applied most (m ∷ ms) (inner cs) new a r l = tt
 
   -- as where others may go with it, or it went alone
-  stays_gone : (shape : Shape) (root : Bool) (ss : PSlots U V) (n : ℕ) (ms : List (Msg U V)) (c : PNode U V) (new : List (List ℕ × V)) → IsSearchable c → MayGo means shape root ss n ms c → AfterOldest means n ms c new → Rises [] None new → length new ≤ shape.leaf → StaysWithin shape.leaf ms c
-  stays_gone shape root ss n ms c new u may a r l = ⊎_elim (λ e. stays_applied shape.leaf ms c new (subst (λ z. AfterOldest means z ms c new) e a) r l) (λ p. stays_placed shape.leaf ms c u p.0) may.room
+  stays_consumed : (shape : Shape) (root : Bool) (ss : PSlots U V) (n : ℕ) (ms : List (Msg U V)) (c : PNode U V) (new : List (List ℕ × V)) → IsSearchable c → MayGo means shape root ss n ms c → AfterOldest means n ms c new → Rises [] None new → length new ≤ shape.leaf → StaysWithin shape.leaf ms c
+  stays_consumed shape root ss n ms c new u may a r l = ⊎_elim (λ e. stays_applied shape.leaf ms c new (subst (λ z. AfterOldest means z ms c new) e a) r l) (λ p. stays_placed shape.leaf ms c u p.0) may.room
 
   -- a node, from which no more leave than wait there, has room for one slot more or not
-  pub not_both : (shape : Shape) (root : Bool) (ss : PSlots U V) (gone n : ℕ) → gone ≤ pending ss → CanPart shape root ss gone n → CannotPart shape root ss gone n → ⊥
-  not_both shape root ss gone n some can cannot = ⊎_elim (λ f. omega (arith, f, can.0)) (λ p. omega (arith, p.1, can.1 p.0)) cannot
+  pub not_both : (shape : Shape) (root : Bool) (ss : PSlots U V) (consumed n : ℕ) → consumed ≤ pending ss → CanPart shape root ss consumed n → CannotPart shape root ss consumed n → ⊥
+  not_both shape root ss consumed n some applies cannot = ⊎_elim (λ f. omega (arith, f, applies.0)) (λ p. omega (arith, p.1, applies.1 p.0)) cannot
 
   -- ---- the flush in place
 
@@ -187,7 +187,7 @@ module _ {U V : Type 0} (means : U → Option V → Option V) where
     did_in_place n ms (leaf es) (leaf fs) one has q st = λ h lp hi l able may.
         let old = more lo ms (leaf es) none in
         let all = joined b (joined old a) in
-        let here : AreLawfulSlots shape old h (next_lo hi a) = (lawful-split shape h hi old a (lawful-split shape h hi b (joined old a) l.each).1).0 in
+        let here : AreLawfulSlots shape old h (next_lo hi a) = (lawful-split_chunk shape h hi old a (lawful-split_chunk shape h hi b (joined old a) l.each).1).0 in
         replies_did means FlushLeaf shape root i n b old (more lo (drop n ms) (leaf fs) none) a at_i refl tt tt refl (λ z. z) (λ r z. omega (arith, z, length-drop n ms)) (λ h hi l able. absorbed shape n lo ms es fs one has q.0 q.1 h (next_lo hi a) l) (λ _ f. roomy all ms (leaf es) h (next_lo hi a) st here (subst (LeafHasNoRoom means shape root all) (slots_from-joined i b (joined old a) at_i) f)) h lp hi l able may
 
     -- what each reply of a flush in place says of the node
@@ -201,9 +201,9 @@ module _ {U V : Type 0} (means : U → Option V → Option V) where
 
     -- a slot whose oldest messages may go into its leaf has room
     roomy_cut : (z : PSlots U V) (n : ℕ) (ms : List (Msg U V)) (c : PNode U V) (h : ℕ) (e : Option (List ℕ)) → 1 ≤ pending z → IsSearchable c → MayGo means shape root z n ms c → CanPart shape root z n (range_count (drop n ms)) → AreLawfulSlots shape (more lo ms c none) h e → LeafHasNoRoom means shape root z (more lo ms c a) → ⊥
-    roomy_cut z n [] c h e some u may can l f = f
-    roomy_cut z n (m ∷ ms) (inner cs) h e some u may can l f = f
-    roomy_cut z n (m ∷ ms) (leaf es) h e some u may can l f = ⊎_elim (λ one. not_both shape root z 1 (range_count ms) some (subst (λ k. CanPart shape root z k (range_count (drop k (m ∷ ms)))) one can) f.1) (λ p. roomy z (m ∷ ms) (leaf es) h e (stays_placed shape.leaf (m ∷ ms) (leaf es) u p.0) l f) may.room
+    roomy_cut z n [] c h e some u may applies l f = f
+    roomy_cut z n (m ∷ ms) (inner cs) h e some u may applies l f = f
+    roomy_cut z n (m ∷ ms) (leaf es) h e some u may applies l f = ⊎_elim (λ one. not_both shape root z 1 (range_count ms) some (subst (λ k. CanPart shape root z k (range_count (drop k (m ∷ ms)))) one applies) f.1) (λ p. roomy z (m ∷ ms) (leaf es) h e (stays_placed shape.leaf (m ∷ ms) (leaf es) u p.0) l f) may.room
 
     module _ (n : ℕ) (ms lm rm : List (Msg U V)) (es new front back : List (List ℕ × V)) (pivot : List ℕ) (p : Applied means (take n ms) es new) (d : IsDivided new front back pivot) where
       -- the slot before
@@ -228,7 +228,7 @@ module _ {U V : Type 0} (means : U → Option V → Option V) where
         cut_in_two : Overflows means shape.leaf es (take n ms) → length new ≤ shape.leaf + shape.leaf → (h : ℕ) (e : Option (List ℕ)) → AreLawfulSlots shape old h e → Sinks means n e old two × Formed means FlushLeaf shape n old two × AreLawfulSlots shape two h e
         cut_in_two over few h e l =
             let q = leaf_parted tl tr in
-            let sum : length new ≡ length front + length back = ap length d.parts ∙ length-append front back in
+            let sum : length new ≡ length front + length back = ap length d.batches_by_slot ∙ length-append front back in
             let rise = d.rise lo e (p.rises lo e l.2.2 (touch_only-take n lo e ms l.1)) in (
               parted_sinks means n lo pivot ms lm rm (leaf es) (leaf front) (leaf back) q e,
               record { lo = lo; msgs = ms; entries = es; some = one; has = has; was = refl; leaves = tt; uncut = λ z. absurd (omega arith); cut = λ z. over; pieces_grow = omega (arith, parted_pieces means n lo pivot ms lm rm (leaf es) (leaf front) (leaf back) q) },
@@ -240,7 +240,7 @@ module _ {U V : Type 0} (means : U → Option V → Option V) where
         was_cut u go over room h lp hi l able may =
             let all = joined b (joined old a) in
             let w = pending-joined b (more lo ms (leaf es) a) in
-            let here : AreLawfulSlots shape old h (next_lo hi a) = (lawful-split shape h hi old a (lawful-split shape h hi b (joined old a) l.each).1).0 in
+            let here : AreLawfulSlots shape old h (next_lo hi a) = (lawful-split_chunk shape h hi old a (lawful-split_chunk shape h hi b (joined old a) l.each).1).0 in
             let fits : LeafHasNoRoom means shape root all (slots_from i all) → ⊥ = λ f. roomy_cut all n ms (leaf es) h (next_lo hi a) (omega (arith, w, one, has)) u go room here (subst (LeafHasNoRoom means shape root all) (slots_from-joined i b (joined old a) at_i) f) in
             let count = slot_count-joined b (more lo ms (leaf es) a) in
             let q = leaf_parted tl tr in
@@ -272,7 +272,7 @@ module _ {U V : Type 0} (means : U → Option V → Option V) where
 
     -- the slot between them
     was : seen_slots xs ≡ joined before (more s.lo s.pending.0 s.child.value after)
-    was = slots-split xs i s h ∙ ap (λ (x : Slot U V). joined before (more x.lo x.pending.0 x.child.value after)) (sym at)
+    was = slots-split_chunk xs i s h ∙ ap (λ (x : Slot U V). joined before (more x.lo x.pending.0 x.child.value after)) (sym at)
 
     -- another in its place, which begins where it does
     is : (t : Slot U V) → t.lo ≡ s.lo → seen_slots (set xs i t) ≡ joined before (more s.lo t.pending.0 t.child.value after)
@@ -304,7 +304,7 @@ module _ {U V : Type 0} (means : U → Option V → Option V) where
     pub kept : (n : ℕ) (t : Slot U V) (r : StepReply) (new : List (List ℕ × V)) → KeptOldest n r new s t → IsSearchable s.child.value → MayGo means shape root (seen_slots xs) n s.pending.0 s.child.value → AfterOldest means n s.pending.0 s.child.value new → Rises [] None new → length new ≤ shape.leaf → Replies means FlushLeaf shape root i r (seen_slots xs) (seen_slots (set xs i t))
     kept n t (Did k) new q u go o up l =
         let a = as_absorbed shape.leaf n s.pending.0 s.child.value new o l in
-        let st = stays_gone means shape root (seen_slots xs) n s.pending.0 s.child.value new u go o up l in
+        let st = stays_consumed means shape root (seen_slots xs) n s.pending.0 s.child.value new u go o up l in
         let one = did_in_place means shape root i before after s.lo number n s.pending.0 s.child.value t.child.value go.some a.0 (subst (λ z. Absorbed means shape.leaf (take n s.pending.0) s.child.value z) (sym q.3) a.1) st in
         subst (λ z. Replies means FlushLeaf shape root i (Did z) (seen_slots xs) (seen_slots (set xs i t))) (sym q.0) (placed t (Did n) q.1 q.2 one)
     kept n t NotThere new q u go o up l = absurd q
@@ -325,16 +325,16 @@ module _ {U V : Type 0} (means : U → Option V → Option V) where
         go.room)
 
     -- the leaf cut in two
-    cut : (n : ℕ) (ms : List (Msg U V)) (c : PNode U V) (new : List (List ℕ × V)) (l r : Slot U V) → IsSearchable c → MayGo means shape root (joined before (more s.lo ms c after)) n ms c → AfterOldest means n ms c new → Rises [] None new → shape.leaf < length new → IsHalved means s.lo new (drop n ms) l r → CanPart shape root (joined before (more s.lo ms c after)) n (range_count (drop n ms)) → Replies means FlushLeaf shape root i (Did n) (joined before (more s.lo ms c after)) (joined before (more l.lo l.pending.0 l.child.value (more r.lo r.pending.0 r.child.value after)))
-    cut n ms (inner cs) new l r u go q up many p o = absurd q
-    cut n ms (leaf es) new l r u go q up many p o =
+    split_leaf_slot : (n : ℕ) (ms : List (Msg U V)) (c : PNode U V) (new : List (List ℕ × V)) (l r : Slot U V) → IsSearchable c → MayGo means shape root (joined before (more s.lo ms c after)) n ms c → AfterOldest means n ms c new → Rises [] None new → shape.leaf < length new → IsHalved means s.lo new (drop n ms) l r → CanPart shape root (joined before (more s.lo ms c after)) n (range_count (drop n ms)) → Replies means FlushLeaf shape root i (Did n) (joined before (more s.lo ms c after)) (joined before (more l.lo l.pending.0 l.child.value (more r.lo r.pending.0 r.child.value after)))
+    split_leaf_slot n ms (inner cs) new l r u go q up many p o = absurd q
+    split_leaf_slot n ms (leaf es) new l r u go q up many p o =
         let core = was_cut means shape root i before after s.lo number n ms l.pending.0 r.pending.0 es new p.front p.back r.lo q.1 p.divided p.left_msgs p.right_msgs go.some q.0 u go (too_many means shape.leaf (take n ms) es new q.1 up many) o in
         subst (λ z. Replies means FlushLeaf shape root i (Did n) (joined before (more s.lo ms (leaf es) after)) z) (λ j. joined before (more (sym p.left_lo j) l.pending.0 (sym p.left_is j) (more r.lo r.pending.0 (sym p.right_is j) after))) core
 
     -- likewise for all slots
     pub halved : (n : ℕ) (new : List (List ℕ × V)) (l r : Slot U V) → IsSearchable s.child.value → MayGo means shape root (seen_slots xs) n s.pending.0 s.child.value → AfterOldest means n s.pending.0 s.child.value new → Rises [] None new → shape.leaf < length new → IsHalved means s.lo new (drop n s.pending.0) l r → CanPart shape root (seen_slots xs) n (range_count (drop n s.pending.0)) → Replies means FlushLeaf shape root i (Did n) (seen_slots xs) (seen_slots (insert (set xs i l) (suc i) r))
     halved n new l r u go q up many p o =
-        let core = cut n s.pending.0 s.child.value new l r u (subst (λ z. MayGo means shape root z n s.pending.0 s.child.value) was go) q up many p (subst (λ z. CanPart shape root z n (range_count (drop n s.pending.0))) was o) in
+        let core = split_leaf_slot n s.pending.0 s.child.value new l r u (subst (λ z. MayGo means shape root z n s.pending.0 s.child.value) was go) q up many p (subst (λ z. CanPart shape root z n (range_count (drop n s.pending.0))) was o) in
         subst (λ z. Replies means FlushLeaf shape root i (Did n) z (seen_slots (insert (set xs i l) (suc i) r))) (sym was) (subst (λ z. Replies means FlushLeaf shape root i (Did n) (joined before (more s.lo s.pending.0 s.child.value after)) z) (sym (slots-cut xs i l r h)) core)
 
 -- ---- whether there is room, as the code reads it
@@ -359,7 +359,7 @@ module _ {U V : Type 0} (means : U → Option V → Option V) (shape : Shape) (r
   small : (g : ℕ) (lo : List ℕ) (hi : Option (List ℕ)) → LawfulSlots shape root g lo hi (seen_slots xs) → length es ≤ shape.leaf
   small g lo hi l =
       let all = subst (λ z. AreLawfulSlots shape z g hi) (was means shape root i xs s h at) l.each in
-      let here = (lawful-split shape g hi (seen_slots (take i xs)) (more s.lo s.pending.0 s.child.value (seen_slots (drop (suc i) xs))) all).1.2 in
+      let here = (lawful-split_chunk shape g hi (seen_slots (take i xs)) (more s.lo s.pending.0 s.child.value (seen_slots (drop (suc i) xs))) all).1.2 in
       let mine = subst (λ c. IsLawfulNode shape c (pred g) s.lo (next_lo hi (seen_slots (drop (suc i) xs)))) (sym ec) here in
       mine.1
 
@@ -371,9 +371,9 @@ module _ {U V : Type 0} (means : U → Option V → Option V) (shape : Shape) (r
 
   -- where the node has room for one slot more
   pub may_cut : CanPart shape root (seen_slots xs) 1 (range_count ms) → MayHaveRoom means FlushLeaf shape root i (seen_slots xs)
-  may_cut can full =
+  may_cut applies full =
       let q = subst (λ z. LeafHasNoRoom means shape root (seen_slots xs) z) seen full in
-      absurd (not_both means shape root (seen_slots xs) 1 (range_count ms) one_waits can q.1)
+      absurd (not_both means shape root (seen_slots xs) 1 (range_count ms) one_waits applies q.1)
 
   -- where there is room in neither
   pub cannot : Overflows means shape.leaf es (m ∷ []) → CannotPart shape root (seen_slots xs) 1 (range_count ms) → HasNoRoom means FlushLeaf shape root i (seen_slots xs)

@@ -11,7 +11,7 @@ use Rattle.pathkey.proofs.OrderFacts.{same_true, same_itself}
 use Rattle.pathkey.proofs.KeyOrder.{reaches-refl, from_start, not_reaches_from_before, not_before_from_reaches, reaches-from_before, before_from_not_reaches}
 use Rattle.message.specs.declared.msg.Msg.{Msg}
 use Rattle.message.specs.Ranges.{reaches, before, within}
-use Rattle.message.specs.Effects.{touches, made_of, effect, point}
+use Rattle.message.specs.Effects.{touches, made_of, effect, point_key}
 use Rattle.message.specs.declared.msg.Msg.TheVariants.{Put, Del, DelRange, Edit}
 use Rattle.message.proofs.KeyOrder.{both, within-same}
 use Rattle.node.specs.Lawful.{first_key, Rises, TouchOnly}
@@ -156,14 +156,14 @@ module _ {U V : Type 0} (means : U → Option V → Option V) (m : Msg U V) (k :
 
 module _ {U V : Type 0} where
   -- a message of one key touches that alone
-  pub point_touches : (m : Msg U V) (k : List ℕ) → point m ≡ Some k → (q : List ℕ) → touches m q ≡ same k q
+  pub point_touches : (m : Msg U V) (k : List ℕ) → point_key m ≡ Some k → (q : List ℕ) → touches m q ≡ same k q
   point_touches (Put p v) k e q = let h : p ≡ k = (cc) in ap (λ z. same z q) h
   point_touches (Del p) k e q = let h : p ≡ k = (cc) in ap (λ z. same z q) h
   point_touches (DelRange d) k e q = (cc)
   point_touches (Edit p u) k e q = let h : p ≡ k = (cc) in ap (λ z. same z q) h
 
   -- likewise as the code moves the entries: those up to the key, then that of the key, and then what the message makes of it
-  pub laid_between : (means : U → Option V → Option V) (m : Msg U V) (k : List ℕ) (old mid xs held new ys : List (List ℕ × V)) → point m ≡ Some k → mid ++ ys ≡ old → xs ++ held ≡ mid → Rises [] None old → Rises [] (Some k) xs → HoldsOnly k held → is_below k (first_key None ys) ≡ true → IsLaidBehind means m held xs new → Applied means (m ∷ []) old (new ++ ys)
+  pub laid_between : (means : U → Option V → Option V) (m : Msg U V) (k : List ℕ) (old mid xs held new ys : List (List ℕ × V)) → point_key m ≡ Some k → mid ++ ys ≡ old → xs ++ held ≡ mid → Rises [] None old → Rises [] (Some k) xs → HoldsOnly k held → is_below k (first_key None ys) ≡ true → IsLaidBehind means m held xs new → Applied means (m ∷ []) old (new ++ ys)
   laid_between means m k old mid xs held new ys p all parts r ahead only behind q =
       let was : old ≡ xs ++ (held ++ ys) = sym all ∙ ap (λ zs. zs ++ ys) (sym parts) ∙ append_assoc xs held ys in
       let is : new ++ ys ≡ xs ++ (q.after ++ ys) = ap (λ zs. zs ++ ys) q.all ∙ append_assoc xs q.after ys in

@@ -8,7 +8,7 @@ use Rattle.flush.specs.Heaviest.{Load, flush_into, own_loads, loads, loads_below
 use Rattle.node.specs.Lawful.{next_lo}
 use Rattle.node.specs.Pure.{PNode, leaf, inner, PSlots, none, more}
 use Rattle.node.specs.Site.{slots_from}
-use Rattle.node.specs.Steps.{can, there}
+use Rattle.node.specs.Steps.{applies, there}
 
 -- a number counted from 0 on
 number : (x j : ℕ) → x ≡ 0 + j → x ≡ j
@@ -35,7 +35,7 @@ all-middle P (y ∷ xs) ys x h = all-middle P xs ys x (All-tail P y (xs ++ x ∷
 module _ {U V : Type 0} where
   -- the load's flush can be done at slot j of these, which are numbered from k on
   abbrev IsOwn : List ℕ → ℕ → PSlots U V → Load → Type 0
-  IsOwn at k ss l = 0 < l.count → (j : ℕ) × (l.at ≡ at) × (l.slot ≡ k + j) × ((hi : Option (List ℕ)) → can l.kind hi (slots_from j ss) ≡ true)
+  IsOwn at k ss l = 0 < l.count → (j : ℕ) × (l.at ≡ at) × (l.slot ≡ k + j) × ((hi : Option (List ℕ)) → applies l.kind hi (slots_from j ss) ≡ true)
 
   -- it can be done at its place below or at the node, which is at this place
   abbrev IsAt : List ℕ → PNode U V → Load → Type 0
@@ -46,17 +46,17 @@ module _ {U V : Type 0} where
   IsBelow at k ss l = 0 < l.count → (j : ℕ) × (p : List ℕ) × (l.at ≡ at ++ (k + j) ∷ p) × ((hi : Option (List ℕ)) → there l.kind l.slot (j ∷ p) hi (inner ss) ≡ true)
 
   -- a slot with messages can be flushed
-  can-flush : (lo : List ℕ) (ms : List (Msg U V)) (n : PNode U V) (ss : PSlots U V) (hi : Option (List ℕ)) → 0 < length ms → can (flush_into n) hi (more lo ms n ss) ≡ true
-  can-flush lo [] n ss hi h = absurd (omega arith)
-  can-flush lo (m ∷ ms) (leaf es) ss hi h = refl
-  can-flush lo (m ∷ ms) (inner cs) ss hi h = refl
+  applies-flush : (lo : List ℕ) (ms : List (Msg U V)) (n : PNode U V) (ss : PSlots U V) (hi : Option (List ℕ)) → 0 < length ms → applies (flush_into n) hi (more lo ms n ss) ≡ true
+  applies-flush lo [] n ss hi h = absurd (omega arith)
+  applies-flush lo (m ∷ ms) (leaf es) ss hi h = refl
+  applies-flush lo (m ∷ ms) (inner cs) ss hi h = refl
 
   -- the loads of a node's own slots
   own : (at : List ℕ) (k : ℕ) (ss : PSlots U V) → All (IsOwn at k ss) (own_loads at k ss)
   own at k none = All-nil (IsOwn at k none)
   own at k (more lo ms n ss) =
       let l : Load = record { at = at; slot = k; kind = flush_into n; count = length ms } in
-      let first : IsOwn at k (more lo ms n ss) l = λ h. (0, refl, omega arith, λ hi. can-flush lo ms n ss hi h) in
+      let first : IsOwn at k (more lo ms n ss) l = λ h. (0, refl, omega arith, λ hi. applies-flush lo ms n ss hi h) in
       let later = All-weaker (IsOwn at (k + 1) ss) (IsOwn at k (more lo ms n ss)) (λ m w h. (suc (w h).0, (w h).1, omega (arith, (w h).2), (w h).3)) (own_loads at (k + 1) ss) (own at (k + 1) ss) in
       All-cons (IsOwn at k (more lo ms n ss)) l (own_loads at (k + 1) ss) first later
 
@@ -65,7 +65,7 @@ module _ {U V : Type 0} where
     all : (at : List ℕ) (n : PNode U V) → All (IsAt at n) (loads at n)
     all at (leaf es) = All-nil (IsAt at (leaf es))
     all at (inner ss) =
-        let mine = All-weaker (IsOwn at 0 ss) (IsAt at (inner ss)) (λ l w h. let o = w h in ([], o.1 ∙ sym (append-nil at), λ hi. ap (λ i. can l.kind hi (slots_from i ss)) (number l.slot o.0 o.2) ∙ o.3 hi)) (own_loads at 0 ss) (own at 0 ss) in
+        let mine = All-weaker (IsOwn at 0 ss) (IsAt at (inner ss)) (λ l w h. let o = w h in ([], o.1 ∙ sym (append-nil at), λ hi. ap (λ i. applies l.kind hi (slots_from i ss)) (number l.slot o.0 o.2) ∙ o.3 hi)) (own_loads at 0 ss) (own at 0 ss) in
         let deeper = All-weaker (IsBelow at 0 ss) (IsAt at (inner ss)) (λ l w h. let b = w h in (b.0 ∷ b.1, b.2 ∙ ap (λ i. at ++ i ∷ b.1) (number (0 + b.0) b.0 refl), b.3)) (loads_below at 0 ss) (below at 0 ss) in
         All-append (IsAt at (inner ss)) (own_loads at 0 ss) (loads_below at 0 ss) mine deeper
 

@@ -12,7 +12,7 @@ use Rattle.node.specs.declared.step.StepReply.{StepReply}
 use Rattle.node.specs.declared.step.StepReply.TheVariants.{Did, NotThere, NoRoom, NoMemory}
 use Rattle.node.specs.declared.shape.Shape.{Shape}
 use Rattle.node.specs.Pure.{PNode, PSlots, leaf, inner}
-use Rattle.flush.specs.Sunk.{Sunk, GoneInto}
+use Rattle.flush.specs.Sunk.{Sunk, ConsumedInto}
 use Rattle.flush.specs.Leaf.{AfterOldest, MayGo, Filled, Absorbed}
 
 -- a list that is not empty has a first element
@@ -65,7 +65,7 @@ module _ {U V : Type 0} where
   module _ (means : U → Option V → Option V) (most : ℕ) where
     -- what is done with the oldest few messages is done with the oldest of all
     pub few_sunk : (ms : List (Msg U V)) (n : ℕ) (r : StepReply) (c d : PNode U V) → (0 < length ms → 0 < n) → Sunk means most r (take n ms) c d → Sunk means most r ms c d
-    few_sunk ms n (Did k) c d some q = (q.0, few_long ms n k q.1, subst (λ xs. GoneInto means most xs c d) (take_few ms k n q.1) q.2)
+    few_sunk ms n (Did k) c d some q = (q.0, few_long ms n k q.1, subst (λ xs. ConsumedInto means most xs c d) (take_few ms k n q.1) q.2)
     few_sunk [] zero NotThere c d some q = q
     few_sunk [] (suc n) NotThere c d some q = q
     few_sunk (m ∷ ms) zero NotThere c d some q = absurd (let h : 0 < 0 = some (omega arith) in omega (arith, h))

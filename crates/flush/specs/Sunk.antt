@@ -3,7 +3,7 @@ use Rattle.std.specs.Prelude.{◌≡◌, ℕ, ◌-◌, ◌≤◌, false, List, [
 use Rattle.message.specs.declared.msg.Msg.{Msg}
 use Rattle.node.specs.declared.step.StepReply.{StepReply}
 use Rattle.node.specs.declared.step.StepReply.TheVariants.{Did, NotThere, NoRoom, NoMemory}
-use Rattle.node.specs.Appended.{parts, HaveTaken}
+use Rattle.node.specs.Appended.{batches_by_slot, HaveTaken}
 use Rattle.node.specs.Lawful.{pending}
 use Rattle.node.specs.Pure.{PNode, leaf, inner, PSlots, none, more}
 use Rattle.node.specs.StepRows.{piece_count, can_flush_inner, IsFullBelow}
@@ -16,16 +16,16 @@ left NoRoom ms = ms
 left NoMemory ms = ms
 
 -- how many pieces more a node takes that has room for so many in all; a leaf takes none
-abbrev pub spare : {U V : Type 0} → ℕ → PNode U V → ℕ
-spare most (inner cs) = most - pending cs
-spare most (leaf es) = 0
+abbrev pub free_pieces : {U V : Type 0} → ℕ → PNode U V → ℕ
+free_pieces most (inner cs) = most - pending cs
+free_pieces most (leaf es) = 0
 
 module _ {U V : Type 0} (means : U → Option V → Option V) where
   -- so many of the oldest messages ms went into the slots cs, at most one piece each; the slots became ds, and rest is left
   pub record Moved (n : ℕ) (ms rest : List (Msg U V)) (cs ds : PSlots U V) : Type 0 where
     pub within : n ≤ length ms
     pub left : rest ≡ drop n ms
-    pub taken : HaveTaken means cs (parts None (take n ms) cs) ds
+    pub taken : HaveTaken means cs (batches_by_slot None (take n ms) cs) ds
     pub few : piece_count (take n ms) cs ≤ n
     pub still : n ≡ 0 → ds ≡ cs
 
@@ -36,14 +36,14 @@ module _ {U V : Type 0} (means : U → Option V → Option V) where
   MovedInto n ms rest (leaf es) d = (n ≡ 0) × (rest ≡ ms) × (d ≡ leaf es)
 
   -- the messages went into the slots of the node c, which became d, and d holds at most so many
-  abbrev pub GoneInto : ℕ → List (Msg U V) → PNode U V → PNode U V → Type 0
-  GoneInto most ms (inner cs) (inner ds) = HaveTaken means cs (parts None ms cs) ds × (pending ds ≤ most)
-  GoneInto most ms (inner cs) (leaf es) = ⊥
-  GoneInto most ms (leaf es) d = ⊥
+  abbrev pub ConsumedInto : ℕ → List (Msg U V) → PNode U V → PNode U V → Type 0
+  ConsumedInto most ms (inner cs) (inner ds) = HaveTaken means cs (batches_by_slot None ms cs) ds × (pending ds ≤ most)
+  ConsumedInto most ms (inner cs) (leaf es) = ⊥
+  ConsumedInto most ms (leaf es) d = ⊥
 
   -- what the reply of a flush says of a slot's messages and its child, before and after
   abbrev pub Sunk : ℕ → StepReply → List (Msg U V) → PNode U V → PNode U V → Type 0
-  Sunk most (Did n) ms c d = (1 ≤ n) × (n ≤ length ms) × GoneInto most (take n ms) c d
+  Sunk most (Did n) ms c d = (1 ≤ n) × (n ≤ length ms) × ConsumedInto most (take n ms) c d
   Sunk most NotThere ms c d = (d ≡ c) × (can_flush_inner (more [] ms c none) ≡ false)
   Sunk most NoRoom ms c d = (d ≡ c) × IsFullBelow most (more [] ms c none)
   Sunk most NoMemory ms c d = d ≡ c

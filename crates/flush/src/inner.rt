@@ -3,7 +3,7 @@
 //! Messages for one key are moved into the slots that hold their keys, those of a key in one go where that can be. Range-deletes
 //! at the front of a list are copied, since their pieces need keys of their own.
 ghost use Rattle.std.specs.Prelude.{◌≡◌, ℕ, true, false, ◌+◌, ◌≤◌, ◌<◌, ◌∷◌, [], length, take, map, None, IfOk, OnOk, OnErr};
-ghost use Rattle.node.specs.Appended.{parts, HaveTaken};
+ghost use Rattle.node.specs.Appended.{batches_by_slot, HaveTaken};
 ghost use Rattle.node.specs.Lawful.{pending as pending_of};
 ghost use Rattle.node.specs.Places.{way};
 ghost use Rattle.node.specs.Searchable.{AreRising, IsSearchable};
@@ -13,27 +13,27 @@ ghost use Rattle.node.specs.Site.{slots_from};
 ghost use Rattle.node.specs.Steps.{Answers};
 ghost use Rattle.node.specs.declared.step.StepKind.TheVariants.{FlushInner};
 ghost use Rattle.node.specs.declared.step.StepReply.TheVariants.{Did};
-ghost use Rattle.flush.specs.Sunk.{Moved, MovedInto, Sunk, left, spare};
+ghost use Rattle.flush.specs.Sunk.{Moved, MovedInto, Sunk, left, free_pieces};
 
 use message::{Msg, Update};
 use node::append::append_copies;
-use node::count::{held, pieces_in, pieces_of_oldest};
+use node::count::{pending_len, pieces_in, pieces_of_oldest};
 use node::search::holder;
-use node::{Body, Change, Node, Place, Shape, Slot, StepReply, Tree};
+use node::{Body, Node, Place, Shape, Slot, SlotStep, StepReply, Tree};
 use pathkey::{Key, NoMemory};
 use pending::Pending;
 use std::alloc::Global;
 use std::sync::Arc;
 
 /// How many of the messages, from the oldest on, make with what waits in the slots at most `room` pieces.
-pub fn fitting<U: Update>(slots: &[Slot<U>], msgs: &[Msg<U>], room: usize) -> usize
+pub fn count_fitting<U: Update>(slots: &[Slot<U>], msgs: &[Msg<U>], room: usize) -> usize
     requires { room < 65536 }
     ensures within { result ≤ length msgs.now }
     ensures small { result < 65536 }
     ensures fits { 0 < result → pending_of (seen_slots slots.now) + piece_count (take result msgs.now) (seen_slots slots.now) ≤ room }
     ensures full { result ≡ 0 → 0 < length msgs.now → room < pending_of (seen_slots slots.now) + piece_count (take 1 msgs.now) (seen_slots slots.now) }
 {
-    let waiting = held(slots);
+    let waiting = pending_len(slots);
     if waiting > room as u128 {
         // Not met in a lawful tree: no node below the root holds more than it has room for.
         return 0;
@@ -60,7 +60,7 @@ pub fn append_within<U: Update>(
     room: usize,
 ) -> Result<(), NoMemory>
     requires { pending_of (seen_slots below.old) + piece_count msgs.now (seen_slots below.old) ≤ room }
-    ensures taken { OnOk result (HaveTaken U.means (seen_slots below.old) (parts None msgs.now (seen_slots below.old)) (seen_slots below.new)) }
+    ensures taken { OnOk result (HaveTaken U.means (seen_slots below.old) (batches_by_slot None msgs.now (seen_slots below.old)) (seen_slots below.new)) }
     ensures within { OnOk result (pending_of (seen_slots below.new) ≤ room) }
     ensures err { OnErr result (map see_slot below.new ≡ map see_slot below.old) }
 {
@@ -69,12 +69,17 @@ pub fn append_within<U: Update>(
 
 /// Puts copies of the messages into the slots of the child, as many as it has room for: a node has room for `room`
 /// pieces.
-fn sink<U: Update>(alloc: Global, room: u16, msgs: &[Msg<U>], child: &mut Arc<Node<U>>) -> StepReply
+fn push_to_child<U: Update>(
+    alloc: Global,
+    room: u16,
+    msgs: &[Msg<U>],
+    child: &mut Arc<Node<U>>,
+) -> StepReply
     ensures sunk { Sunk U.means room result msgs.now child.old.value child.new.value }
     ensures small { (n : ℕ) → result ≡ Did n → n < 65536 }
 {
     if msgs.is_empty() {
-        // Not met: `can` has found a message, and an inner node below.
+        // Not met: `applies` has found a message, and an inner node below.
         return StepReply::NotThere;
     }
     let Ok(own) = Arc::make_mut(child) else {
@@ -84,16 +89,16 @@ fn sink<U: Update>(alloc: Global, room: u16, msgs: &[Msg<U>], child: &mut Arc<No
         // Not met, as above.
         return StepReply::NotThere;
     };
-    let count = fitting(below.as_slice(), msgs, room as usize);
+    let count = count_fitting(below.as_slice(), msgs, room as usize);
     if count == 0 {
         // Not met: `has_room` has counted the pieces of the first message.
-        own.weigh();
+        own.update_weight();
         return StepReply::NoRoom;
     }
     let few = &msgs[..count];
     let taken = append_within(alloc, below.as_mut_slice(), few, room as usize);
     // Also where memory was refused, since `body_mut` has forgotten the weight.
-    own.weigh();
+    own.update_weight();
     let Ok(()) = taken else {
         return StepReply::NoMemory;
     };
@@ -109,29 +114,29 @@ pub fn few_oldest<U: Update>(list: &Pending<U>, most: u16) -> usize
 }
 
 /// How many pieces more a child takes where it has room for `room` in all; a leaf takes none.
-pub fn spare<U: Update>(child: &Node<U>, room: u16) -> u16
-    ensures { result ≡ spare room child.now }
+pub fn free_pieces<U: Update>(child: &Node<U>, room: u16) -> u16
+    ensures { result ≡ free_pieces room child.now }
 {
     match child.body() {
         Body::Leaf(_) => 0,
-        Body::Inner(below) => (room as u128).saturating_sub(held(below.as_slice())) as u16,
+        Body::Inner(below) => (room as u128).saturating_sub(pending_len(below.as_slice())) as u16,
     }
 }
 
 /// Puts copies of a slot's oldest messages into its child, as many as the child has room for, and takes them from the slot.
 /// Of the messages behind the first it looks at no more than the list has range-deletes.
-fn sink_copies<U: Update>(alloc: Global, room: u16, slot: &mut Slot<U>) -> StepReply
+fn push_copies<U: Update>(alloc: Global, room: u16, slot: &mut Slot<U>) -> StepReply
     ensures lo { slot.new.lo ≡ slot.old.lo }
     ensures left { slot.new.pending.0 ≡ left result slot.old.pending.0 }
     ensures sunk { Sunk U.means room result slot.old.pending.0 slot.old.child.value slot.new.child.value }
     ensures small { (n : ℕ) → result ≡ Did n → n < 65536 }
 {
     let ranges = slot.pending.range_deletes(0).min(65535) as u16;
-    let few = few_oldest(&slot.pending, spare(&slot.child, room).min(ranges));
+    let few = few_oldest(&slot.pending, free_pieces(&slot.child, room).min(ranges));
     let Ok(msgs) = slot.pending.copy_front(alloc, few) else {
         return StepReply::NoMemory;
     };
-    let reply = sink(alloc, room, msgs.as_slice(), &mut slot.child);
+    let reply = push_to_child(alloc, room, msgs.as_slice(), &mut slot.child);
     if let StepReply::Did(count) = reply {
         slot.pending.drop_front(count as usize);
     }
@@ -158,7 +163,7 @@ fn move_oldest<U: Update>(
         return Ok(0);
     };
     let slot = &mut below[i];
-    list.sink_oldest(&mut slot.pending, most)
+    list.flush_oldest(&mut slot.pending, most)
 }
 
 /// Moves a list's oldest messages into the slots that hold their keys, at most `room`, up to one that stays or finds no
@@ -186,7 +191,7 @@ fn move_points<U: Update>(
 
 /// Moves a list's oldest messages into the slots of a child, at most `room`, as `move_points` does, and
 /// counts them; a leaf takes none.
-fn sink_points<U: Update>(
+fn push_points<U: Update>(
     child: &mut Arc<Node<U>>,
     list: &mut Pending<U>,
     room: usize,
@@ -206,24 +211,24 @@ fn sink_points<U: Update>(
     };
     let moved = move_points(below.as_mut_slice(), list, room);
     // Also where memory was refused, since `body_mut` has forgotten the weight.
-    own.weigh();
+    own.update_weight();
     moved
 }
 
 /// Takes the oldest messages of a slot to its child, as many as the child has room for: copies of the first few, and then
 /// messages for one key.
-fn sink_front<U: Update>(alloc: Global, room: u16, slot: &mut Slot<U>) -> StepReply
+fn push_front<U: Update>(alloc: Global, room: u16, slot: &mut Slot<U>) -> StepReply
     requires { IsSearchable slot.old.child.value }
     ensures lo { slot.new.lo ≡ slot.old.lo }
     ensures left { slot.new.pending.0 ≡ left result slot.old.pending.0 }
     ensures sunk { Sunk U.means room result slot.old.pending.0 slot.old.child.value slot.new.child.value }
 {
-    let reply = sink_copies(alloc, room, slot);
+    let reply = push_copies(alloc, room, slot);
     let StepReply::Did(first) = reply else {
         return reply;
     };
-    let most = spare(&slot.child, room) as usize;
-    match sink_points(&mut slot.child, &mut slot.pending, most) {
+    let most = free_pieces(&slot.child, room) as usize;
+    match push_points(&mut slot.child, &mut slot.pending, most) {
         Ok(count) => StepReply::Did(first + count as u32),
         // The first few have gone down already: the others wait.
         Err(_) => reply,
@@ -231,18 +236,18 @@ fn sink_front<U: Update>(alloc: Global, room: u16, slot: &mut Slot<U>) -> StepRe
 }
 
 /// Takes the oldest messages of a slot to its child, as many as the child has room for.
-fn sink_oldest<U: Update>(alloc: Global, room: u16, slot: &mut Slot<U>) -> StepReply
+fn push_oldest<U: Update>(alloc: Global, room: u16, slot: &mut Slot<U>) -> StepReply
     requires { IsSearchable slot.old.child.value }
     ensures lo { slot.new.lo ≡ slot.old.lo }
     ensures left { slot.new.pending.0 ≡ left result slot.old.pending.0 }
     ensures sunk { Sunk U.means room result slot.old.pending.0 slot.old.child.value slot.new.child.value }
 {
-    let most = spare(&slot.child, room) as usize;
-    let Ok(count) = sink_points(&mut slot.child, &mut slot.pending, most) else {
+    let most = free_pieces(&slot.child, room) as usize;
+    let Ok(count) = push_points(&mut slot.child, &mut slot.pending, most) else {
         return StepReply::NoMemory;
     };
     if count == 0 {
-        return sink_front(alloc, room, slot);
+        return push_front(alloc, room, slot);
     }
     StepReply::Did(count as u32)
 }
@@ -252,7 +257,7 @@ fn takes<U: Update>(slots: &[Slot<U>], list: &Pending<U>, room: u16) -> bool
     ensures yes { result ≡ true → pending_of (seen_slots slots.now) + piece_count (take 1 list.now.0) (seen_slots slots.now) ≤ room }
     ensures no { result ≡ false → room < pending_of (seen_slots slots.now) + piece_count (take 1 list.now.0) (seen_slots slots.now) }
 {
-    held(slots) + pieces_of_oldest(slots, list) as u128 <= room as u128
+    pending_len(slots) + pieces_of_oldest(slots, list) as u128 <= room as u128
 }
 
 /// Whether the slot with number `i` has a message and an inner node below it.
@@ -272,16 +277,16 @@ pub fn is_flushable<U: Update>(slots: &[Slot<U>], i: usize) -> bool
 /// The flush of one slot into an inner node.
 pub struct InnerFlush;
 
-impl<U: Update> Change<U> for InnerFlush {
+impl<U: Update> SlotStep<U> for InnerFlush {
     ghost kind = { FlushInner };
 
-    fn can(&self, slots: &[Slot<U>], i: usize, _hi: Option<&Key>) -> bool {
+    fn applies(&self, slots: &[Slot<U>], i: usize, _hi: Option<&Key>) -> bool {
         is_flushable(slots, i)
     }
 
     fn has_room(&self, shape: Shape, _root: bool, slots: &[Slot<U>], i: usize) -> bool {
         if i >= slots.len() {
-            // Not met, as the next two: `can` has found a message, and an inner node below.
+            // Not met, as the next two: `applies` has found a message, and an inner node below.
             return true;
         }
         let slot = &slots[i];
@@ -303,11 +308,11 @@ impl<U: Update> Change<U> for InnerFlush {
         i: usize,
     ) -> StepReply {
         if i >= slots.len() {
-            // Not met: `can` has found the slot.
+            // Not met: `applies` has found the slot.
             return StepReply::NotThere;
         }
         let slot = &mut slots[i];
-        sink_oldest(alloc, shape.pending, slot)
+        push_oldest(alloc, shape.pending, slot)
     }
 }
 

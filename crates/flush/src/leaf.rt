@@ -22,20 +22,20 @@ ghost use Rattle.flush.specs.Merge.{IsFilled};
 ghost use Rattle.flush.specs.Sunk.{left};
 ghost use Rattle.flush.specs.Leaf.{AddsNone, HasPlace, Filled, AfterOldest, AfterOldestAt, MayGoAt, MayCutAt, KeptOldest, IsHalved};
 
+use crate::apply_pass::apply_sorted;
 use crate::inner::few_oldest;
-use crate::merge::fill_in_one_pass;
 use crate::room::{apply_within, has_room};
 use message::{Msg, Update};
-use node::count::can_part;
-use node::cut::cut_slot;
-use node::leaf::{applied, divide, position};
-use node::{Body, Change, Node, Place, Shape, Slot, StepReply, Tree};
+use node::count::can_split;
+use node::cut::split_slot;
+use node::leaf::{applied, position, split_half};
+use node::{Body, Node, Place, Shape, Slot, SlotStep, StepReply, Tree};
 use pathkey::{Key, NoMemory};
 use std::alloc::Global;
 use std::sync::Arc;
 
 /// So many messages of a slot a flush into a leaf looks at, and copies, at most: as many as a node may hold.
-const LOOKED: u16 = 1024;
+const MAX_EXAMINED: u16 = 1024;
 
 /// Whether a leaf of at least `most` entries has none for the key of a put; `None` is another message.
 ///
@@ -53,7 +53,7 @@ fn is_overfull<U: Update>(entries: &[(Key, U::Value)], put: Option<&Key>, most: 
 
 /// Applies messages to entries one by one, up to one for which there may be no room or that is refused memory, and counts
 /// them.
-fn fill_each<U: Update>(
+fn apply_each<U: Update>(
     alloc: Global,
     entries: &mut Vec<(Key, U::Value)>,
     msgs: &[Msg<U>],
@@ -78,7 +78,7 @@ fn leading_ranges<U: Update>(msgs: &[Msg<U>]) -> usize
 {
     let mut count = 0;
     for msg in msgs {
-        if msg.point().is_some() {
+        if msg.point_key().is_some() {
             return count;
         }
         count += 1;
@@ -88,7 +88,7 @@ fn leading_ranges<U: Update>(msgs: &[Msg<U>]) -> usize
 
 /// Applies messages: the range-deletes at their head one by one, those behind them in one pass, and again one by one
 /// what the pass left over.
-fn fill_all<U: Update>(
+fn apply_all<U: Update>(
     alloc: Global,
     entries: &mut Vec<(Key, U::Value)>,
     msgs: &[Msg<U>],
@@ -98,15 +98,15 @@ fn fill_all<U: Update>(
     ensures { IsFilled U.means most msgs.now result entries.old.items entries.new.items }
 {
     let head = leading_ranges(msgs);
-    let ranges = fill_each(alloc, entries, &msgs[..head], most);
-    let points = fill_in_one_pass(alloc, entries, &msgs[ranges..], most);
+    let ranges = apply_each(alloc, entries, &msgs[..head], most);
+    let points = apply_sorted(alloc, entries, &msgs[ranges..], most);
     let count = ranges + points;
-    count + fill_each(alloc, entries, &msgs[count..], most)
+    count + apply_each(alloc, entries, &msgs[count..], most)
 }
 
 /// Applies messages to entries, the oldest first, up to one for which there may be no room or that is refused memory,
 /// and counts them.
-fn fill<U: Update>(
+fn apply_fitting<U: Update>(
     alloc: Global,
     entries: &mut Vec<(Key, U::Value)>,
     msgs: &[Msg<U>],
@@ -121,7 +121,7 @@ fn fill<U: Update>(
 {
     // No flush brings so many messages: that bound makes the count a `u32`.
     let few = msgs.len().min(4294967295);
-    fill_all(alloc, entries, &msgs[..few], most)
+    apply_all(alloc, entries, &msgs[..few], most)
 }
 
 /// Whether the slot's leaf has room for the oldest message as it is.
@@ -130,20 +130,20 @@ fn takes_oldest<U: Update>(slot: &Slot<U>, most: u16) -> bool
     ensures { result ≡ true → HasPlace U.means most slot.now.pending.0 slot.now.child.value }
 {
     if slot.pending.len() == 0 {
-        // Not met, nor is an inner node: `can` has found a message, and a leaf.
+        // Not met, nor is an inner node: `applies` has found a message, and a leaf.
         return false;
     }
     match slot.child.body() {
         Body::Inner(_) => false,
         Body::Leaf(entries) => {
-            let given = slot.pending.oldest_given();
+            let given = slot.pending.oldest_created_key();
             has_room::<U>(entries.as_slice(), given, most as usize)
         }
     }
 }
 
 /// Applies as many of the messages to the leaf as its room takes, in its place.
-fn absorb<U: Update>(
+fn apply_some<U: Update>(
     alloc: Global,
     most: u16,
     msgs: &[Msg<U>],
@@ -162,8 +162,8 @@ fn absorb<U: Update>(
     let Body::Leaf(entries) = own.body_mut() else {
         return StepReply::NotThere;
     };
-    let count = fill(alloc, entries, msgs, most as usize);
-    own.weigh();
+    let count = apply_fitting(alloc, entries, msgs, most as usize);
+    own.update_weight();
     if count == 0 {
         // There is room for the first message, so it was refused memory.
         return StepReply::NoMemory;
@@ -173,18 +173,18 @@ fn absorb<U: Update>(
 
 /// Applies as many of a slot's oldest messages to its leaf as the leaf's room takes, in its place,
 /// where there is room for the oldest. The slot loses the messages that its leaf has.
-fn absorb_oldest<U: Update>(alloc: Global, most: u16, slot: &mut Slot<U>) -> StepReply
+fn apply_oldest_fitting<U: Update>(alloc: Global, most: u16, slot: &mut Slot<U>) -> StepReply
     requires searchable { IsSearchable slot.old.child.value }
     requires place { HasPlace U.means most slot.old.pending.0 slot.old.child.value }
     ensures lo { slot.new.lo ≡ slot.old.lo }
     ensures left { slot.new.pending.0 ≡ left result slot.old.pending.0 }
     ensures filled { Filled U.means most result slot.old.pending.0 slot.old.child.value slot.new.child.value }
 {
-    let few = few_oldest(&slot.pending, most.saturating_mul(2).min(LOOKED));
+    let few = few_oldest(&slot.pending, most.saturating_mul(2).min(MAX_EXAMINED));
     let Ok(msgs) = slot.pending.copy_front(alloc, few) else {
         return StepReply::NoMemory;
     };
-    let reply = absorb(alloc, most, msgs.as_slice(), &mut slot.child);
+    let reply = apply_some(alloc, most, msgs.as_slice(), &mut slot.child);
     if let StepReply::Did(count) = reply {
         slot.pending.drop_front(count as usize);
     }
@@ -199,7 +199,7 @@ fn up_to_overfull<U: Update>(entries: &[(Key, U::Value)], msgs: &[Msg<U>], most:
     let mut count = 0;
     for msg in msgs {
         count += 1;
-        if !has_room::<U>(entries, msg.given(), most as usize) {
+        if !has_room::<U>(entries, msg.created_key(), most as usize) {
             return count;
         }
     }
@@ -214,7 +214,7 @@ fn oldest_to_cut<U: Update>(alloc: Global, slot: &Slot<U>, most: u16) -> u8
     ensures few { result ≤ most }
 {
     let Body::Leaf(entries) = slot.child.body() else {
-        // Not met: `can` has found a leaf.
+        // Not met: `applies` has found a leaf.
         return 0;
     };
     if entries.len() < most as usize {
@@ -244,7 +244,7 @@ fn count_to_cut<U: Update>(
 {
     let slot = &slots[i];
     let count = oldest_to_cut(alloc, slot, shape.leaf);
-    if count > 0 && can_part(shape, root, slots, count, &slot.pending) {
+    if count > 0 && can_split(shape, root, slots, count, &slot.pending) {
         count
     } else {
         0
@@ -263,7 +263,7 @@ fn after_oldest<U: Update>(
     ensures rising { IfOk result (λ r. MatchOption r ⊤ (λ v. Rises [] None v.items)) }
 {
     if slot.pending.len() == 0 {
-        // Not met, nor is an inner node: `can` has found a message, and a leaf.
+        // Not met, nor is an inner node: `applies` has found a message, and a leaf.
         return Ok(None);
     }
     let oldest = slot.pending.copy_front(alloc, count as usize)?;
@@ -291,29 +291,29 @@ fn keep<U: Update>(
     StepReply::Did(count as u32)
 }
 
-/// Cuts a slot in two over the halves of these entries, without its `gone` oldest messages. On want of memory the slot is as
+/// Cuts a slot in two over the halves of these entries, without its `consumed` oldest messages. On want of memory the slot is as
 /// it was.
-fn cut<U: Update>(
+fn split_leaf_slot<U: Update>(
     alloc: Global,
     slot: &mut Slot<U>,
-    gone: usize,
+    consumed: usize,
     entries: Vec<(Key, U::Value)>,
 ) -> Result<Slot<U>, NoMemory>
     requires two { 2 ≤ length entries.items }
     requires rising { Rises [] None entries.items }
-    requires enough { gone ≤ length slot.old.pending.0 }
-    ensures halves { IfOk result (λ back. IsHalved U.means slot.old.lo entries.items (drop gone slot.old.pending.0) slot.new back) }
+    requires enough { consumed ≤ length slot.old.pending.0 }
+    ensures halves { IfOk result (λ back. IsHalved U.means slot.old.lo entries.items (drop consumed slot.old.pending.0) slot.new back) }
     ensures err { OnErr result (slot.new ≡ slot.old) }
 {
     let mut front = entries;
-    let (pivot, back) = divide(alloc, &mut front)?;
+    let (pivot, back) = split_half(alloc, &mut front)?;
     let left = Arc::new(alloc, Node::of(Body::Leaf(front)))?;
     let right = Arc::new(alloc, Node::of(Body::Leaf(back)))?;
-    cut_slot(alloc, slot, gone, pivot, left, right)
+    split_slot(alloc, slot, consumed, pivot, left, right)
 }
 
 /// Cuts the slot with number `i` in two, over the halves of these entries, which have its `count` oldest messages.
-fn part<U: Update>(
+fn split_leaf<U: Update>(
     alloc: Global,
     shape: Shape,
     root: bool,
@@ -332,7 +332,7 @@ fn part<U: Update>(
     ensures { Replies U.means FlushLeaf shape root i result (seen_slots slots.old.items) (seen_slots slots.new.items) }
 {
     let slot = &slots[i];
-    if !can_part(shape, root, slots.as_slice(), count, &slot.pending) {
+    if !can_split(shape, root, slots.as_slice(), count, &slot.pending) {
         // Met for an update of an absent key alone: only applying it told that it gives a value.
         return StepReply::NoRoom;
     }
@@ -340,7 +340,7 @@ fn part<U: Update>(
         return StepReply::NoMemory;
     }
     let slot = &mut slots[i];
-    let Ok(back) = cut(alloc, slot, count as usize, entries) else {
+    let Ok(back) = split_leaf_slot(alloc, slot, count as usize, entries) else {
         return StepReply::NoMemory;
     };
     let Ok(()) = slots.insert(i + 1, back) else {
@@ -369,23 +369,23 @@ fn apply_oldest<U: Update>(
         return StepReply::NoMemory;
     };
     let Some(entries) = after else {
-        // Not met: `can` has found a message, and a leaf.
+        // Not met: `applies` has found a message, and a leaf.
         return StepReply::NotThere;
     };
     if entries.len() <= shape.leaf as usize {
         // The messages gave the leaf no entry too many after all.
         return keep(alloc, &mut slots[i], count, entries);
     }
-    part(alloc, shape, root, slots, i, count, entries)
+    split_leaf(alloc, shape, root, slots, i, count, entries)
 }
 
 /// The flush of one slot into a leaf.
 pub struct LeafFlush;
 
-impl<U: Update> Change<U> for LeafFlush {
+impl<U: Update> SlotStep<U> for LeafFlush {
     ghost kind = { FlushLeaf };
 
-    fn can(&self, slots: &[Slot<U>], i: usize, _hi: Option<&Key>) -> bool {
+    fn applies(&self, slots: &[Slot<U>], i: usize, _hi: Option<&Key>) -> bool {
         if i >= slots.len() {
             return false;
         }
@@ -398,7 +398,7 @@ impl<U: Update> Change<U> for LeafFlush {
 
     fn has_room(&self, shape: Shape, root: bool, slots: &[Slot<U>], i: usize) -> bool {
         if i >= slots.len() {
-            // Not met, as the next two: `can` has found a message, and a leaf below.
+            // Not met, as the next two: `applies` has found a message, and a leaf below.
             return true;
         }
         let slot = &slots[i];
@@ -410,7 +410,7 @@ impl<U: Update> Change<U> for LeafFlush {
             Body::Leaf(entries) => {
                 let put = slot.pending.oldest_put();
                 !is_overfull::<U>(entries.as_slice(), put, shape.leaf)
-                    || can_part(shape, root, slots, 1, &slot.pending)
+                    || can_split(shape, root, slots, 1, &slot.pending)
             }
         }
     }
@@ -424,7 +424,7 @@ impl<U: Update> Change<U> for LeafFlush {
         i: usize,
     ) -> StepReply {
         if i >= slots.len() {
-            // Not met: `can` has found the slot.
+            // Not met: `applies` has found the slot.
             return StepReply::NotThere;
         }
         if !takes_oldest(&slots[i], shape.leaf) {
@@ -434,7 +434,7 @@ impl<U: Update> Change<U> for LeafFlush {
         if count > 0 {
             return apply_oldest(alloc, shape, root, slots, i, count);
         }
-        absorb_oldest(alloc, shape.leaf, &mut slots[i])
+        apply_oldest_fitting(alloc, shape.leaf, &mut slots[i])
     }
 }
 

@@ -5,10 +5,10 @@
 //! flush that moves most: that of a slot than which no slot has more pending messages.
 #![tactic(auto)]
 
+mod apply_pass;
 pub mod heaviest_slot;
 pub mod inner;
 pub mod leaf;
-mod merge;
 mod room;
 
 pub use heaviest_slot::heaviest;

@@ -42,7 +42,7 @@ pub(crate) fn apply_within<U: Update>(
     ensures few { result ≡ true → length entries.old.items ≤ most → length entries.new.items ≤ most }
     ensures same { result ≡ false → entries.new.items ≡ entries.old.items }
 {
-    if !has_room::<U>(entries.as_slice(), msg.given(), most) {
+    if !has_room::<U>(entries.as_slice(), msg.created_key(), most) {
         return false;
     }
     apply(alloc, entries, msg).is_ok()

@@ -3,7 +3,7 @@ use Rattle.std.proofs.Common.{◌≡◌, ◌≢◌, ⊎_elim, inl, inr, ℕ, zer
 use Rattle.std.proofs.lemmas.List.{take_more, get_or-take, get_or-append_right, get_or-replicate, get_or_append_left, get_or_past, length-replicate}
 use Rattle.std.proofs.lemmas.Bool.{cases_lt}
 use Rattle.std.specs.Prelude.{◌==◌, Any, codes, decimal}
-use Rattle.lines.specs.Texts.{hex_text}
+use Rattle.textio.specs.Texts.{hex_text}
 use Rattle.reference.specs.Image.{block_line, block_lines, trimmed}
 use Rattle.reference.specs.Indexes.{most_blocks}
 use Rattle.reference.proofs.ImageBytes.{keep, trimmed_is}

@@ -13,7 +13,7 @@ use Rattle.message.proofs.NextKey.{by_bool, in_range, not_reaches, reaches-next}
 use Rattle.reference.specs.Tree.{Tree, Dir, File, Entries, nothing, entry, entry_at, named, found, onward, At, Found, Missing, Blocked, moment}
 use Rattle.reference.specs.Image.{Text, Second, block_lines, directory_line, file_line, image, lines, lines_of, path_text}
 use Rattle.reference.specs.Shape.{AllAbove, IsTree, Rising, RisingEntries}
-use Rattle.reference.specs.Looks.{sighted}
+use Rattle.reference.specs.Reads.{sighted}
 use Rattle.reference.specs.Indexes.{meta_of}
 use Rattle.reference.specs.declared.reply.Meta.{Meta}
 use Rattle.reference.specs.declared.reply.Meta.TheVariants.{Dir as DirMeta, File as FileMeta}
@@ -22,10 +22,10 @@ use Rattle.reference.proofs.ShownTrees.{first_at as first_stands, later_at}
 use Rattle.meta_index.proofs.BelowPath.{in_below}
 use Rattle.meta_index.proofs.ChildOrder.{child_before}
 use Rattle.images.specs.Image.{blocks_left, directory_text, entry_lines, entry_text, file_text, image_from, lines_there, text_by, texts_by}
-use Rattle.lines.specs.Texts.{number_line}
+use Rattle.textio.specs.Texts.{number_line}
 use Rattle.images.specs.Spots.{AreFrom}
 use Rattle.volume.specs.Walks.{AreEntries, IsEntry}
-use Rattle.volume.proofs.Walks.{stands}
+use Rattle.volume.proofs.Walks.{assert_invariant}
 
 -- ---- what stands in a directory
 
@@ -192,9 +192,9 @@ pub behind_root : (k : Key) → reaches (next_key k) [] ≡ false
 behind_root k = reaches-next k [] ∙ not_before_from_reaches [] k (from_start k)
 
 -- of what stands somewhere, metadata are told
-pub told_of : (x : Tree) → (v : Meta) × (meta_of (sighted (Found x)) ≡ Some v)
-told_of (Dir date es) = (DirMeta date, refl)
-told_of (File date b) = (FileMeta (length b) date, refl)
+pub reported_of : (x : Tree) → (v : Meta) × (meta_of (sighted (Found x)) ≡ Some v)
+reported_of (Dir date es) = (DirMeta date, refl)
+reported_of (File date b) = (FileMeta (length b) date, refl)
 
 -- no entry has a key from lo up to and without hi
 abbrev NoneBetween : Tree → Key → Option Key → Type 0
@@ -244,15 +244,15 @@ module _ (t : Tree) (lo : Key) (n : ℕ) (e : Path × Meta) (es : List (Path × 
   none_before : NoneBetween t lo (Some (enc e.0))
   none_before p x at = false_from_ne_true (within lo (Some (enc e.0)) (enc p)) (λ h.
       let parts : (reaches lo (enc p) ≡ true) × (before (enc p) (enc e.0) ≡ true) = and_parts _ _ h in
-      let told : (v : Meta) × (meta_of (sighted (Found x)) ≡ Some v) = told_of x in
-      elim (are.complete p told.0 parts.0 (ap (λ (a : At). meta_of (sighted a)) at ∙ told.1)) [
-        | inl c ↦ (let not : before (enc p) (enc e.0) ≡ false = not_before_first p told.0 c in let is : before (enc p) (enc e.0) ≡ true = parts.1 in cc)
+      let reported : (v : Meta) × (meta_of (sighted (Found x)) ≡ Some v) = reported_of x in
+      elim (are.complete p reported.0 parts.0 (ap (λ (a : At). meta_of (sighted a)) at ∙ reported.1)) [
+        | inl c ↦ (let not : before (enc p) (enc e.0) ≡ false = not_before_first p reported.0 c in let is : before (enc p) (enc e.0) ≡ true = parts.1 in cc)
         | inr m ↦ (let not : before (enc p) (enc e.0) ≡ false = not_before (enc e.0) (enc p) (m.1 0 e (omega arith)) in let is : before (enc p) (enc e.0) ≡ true = parts.1 in cc)
       ])
 
   pub first_listed : IsTree t → reaches lo [] ≡ false → image_from lo t ≡ lines_there e.0 (entry_at t e.0) ++ image_from (next_key (enc e.0)) t
   first_listed is low =
-      let at : (x : Tree) × (entry_at t e.0 ≡ Found x) = stands (entry_at t e.0) e.1 head_at.1 in
+      let at : (x : Tree) × (entry_at t e.0 ≡ Found x) = assert_invariant (entry_at t e.0) e.1 head_at.1 in
       first_text t lo (enc e.0) e.0 at.0 is low head_at.0 none_before refl at.1
       ∙ ap (λ (a : At). lines_there e.0 a ++ image_from (next_key (enc e.0)) t) (sym at.1)
 
@@ -277,8 +277,8 @@ module _ (t : Tree) (lo : Key) (n : ℕ) (e : Path × Meta) (es : List (Path × 
 -- where none is listed, and some was asked for, no line is left
 pub none_behind : (t : Tree) (p : Path) (n : ℕ) → IsTree t → AreFrom t (next_key (enc p)) n [] → 0 < n → image_from (next_key (enc p)) t ≡ []
 none_behind t p n is are some = image_end t (next_key (enc p)) is (λ q x at. false_from_ne_true (within (next_key (enc p)) None (enc q)) (λ h.
-    let told : (v : Meta) × (meta_of (sighted (Found x)) ≡ Some v) = told_of x in
-    elim (are.complete q told.0 ((and_parts _ _ h).0) (ap (λ (a : At). meta_of (sighted a)) at ∙ told.1)) [
+    let reported : (v : Meta) × (meta_of (sighted (Found x)) ≡ Some v) = reported_of x in
+    elim (are.complete q reported.0 ((and_parts _ _ h).0) (ap (λ (a : At). meta_of (sighted a)) at ∙ reported.1)) [
       | inl c ↦ (let l = c.1 in omega (arith, l))
       | inr m ↦ omega (arith, m.0, some)
     ]))

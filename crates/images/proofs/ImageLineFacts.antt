@@ -10,15 +10,15 @@ use Rattle.pathkey.specs.Names.{Path, IsPath}
 use Rattle.pathkey.specs.declared.errno.Errno.{Errno}
 use Rattle.pathkey.specs.declared.errno.Errno.TheVariants.{ENOMEM}
 use Rattle.reference.specs.Image.{Text, Version, First, Second, directory_letter, file_letter, moment_text, root_line, two_digits, path_text}
-use Rattle.reference.specs.ImageLines.{Line, DirectoryLine, FileLine, BlockLine, spelled, IsLine, IsBlock, IsTold}
+use Rattle.reference.specs.ImageLines.{Line, DirectoryLine, FileLine, BlockLine, spelled, IsLine, IsBlock, IsReported}
 use Rattle.reference.specs.Shape.{AreBytes}
 use Rattle.reference.proofs.ImageTexts.{Visible, path_visible, decimal_visible}
 use Rattle.reference.proofs.LinesRead.{no_block as no_block_letter}
 use Rattle.reference.proofs.OneImage.{letters_differ}
 use Rattle.images.specs.Image.{directory_text, file_text}
 use Rattle.images.specs.ImageLines.{CutsMoment, Guesses, IsRoot}
-use Rattle.lines.specs.Values.{number_of, path_of}
-use Rattle.lines.proofs.Written.{all_visible, digits_told, number_told, path_read}
+use Rattle.textio.specs.Values.{number_of, path_of}
+use Rattle.textio.proofs.Written.{all_visible, digits_reported, number_reported, path_read}
 use Rattle.images.specs.declared.image_line.ImageLine.TheVariants.{Directory, File, Block}
 
 -- ---- a path in percent form
@@ -40,7 +40,7 @@ path_not_refused word p fault r read is other path ne e = ⊎_elim
     read
 
 pub bytes_read : (b : List ℕ) → AreBytes b → decode_of (flat_map (two_digits 87) b) ≡ Ok b
-bytes_read b h = digits_told b (recursion_from_All (λ x. x < 256) b h)
+bytes_read b h = digits_reported b (recursion_from_All (λ x. x < 256) b h)
 
 pub bytes_spelled : (word : Text) (b bytes : List ℕ) → decode_of word ≡ Ok bytes → IsBlock b → word ≡ flat_map (two_digits 87) b → bytes ≡ b
 bytes_spelled word b bytes read is e = let g : ◌≡◌ {A = Result (List ℕ) FromHexError} (Ok bytes) (Ok b) = sym read ∙ ap decode_of e ∙ bytes_read b is.bytes in cc
@@ -230,20 +230,20 @@ some_block (Some c) b h e = let same : c ≡ b = cc in subst IsBlock same h
 -- ---- the moment that ends a line
 
 -- what was cut off is what was spelled
-pub moment_cut : (v : Version) (words : Text) (cut : Option (Text × ℕ)) → CutsMoment v words cut → (front : Text) (a : ℕ) → cut ≡ Some (front, a) → (last : Text) (at : ℕ) → All (λ b. b ≢ 32) last → IsTold v at
+pub moment_cut : (v : Version) (words : Text) (cut : Option (Text × ℕ)) → CutsMoment v words cut → (front : Text) (a : ℕ) → cut ≡ Some (front, a) → (last : Text) (at : ℕ) → All (λ b. b ≢ 32) last → IsReported v at
     → words ≡ last ++ moment_text v at → (front ≡ last) × (a ≡ at)
-moment_cut v words cut h front a is last at free told e =
-    let same : (front, a) ≡ (last, at) = same_Some {A = Text × ℕ} (front, a) (last, at) (sym is ∙ h.complete last at free told e) in
+moment_cut v words cut h front a is last at free reported e =
+    let same : (front, a) ≡ (last, at) = same_Some {A = Text × ℕ} (front, a) (last, at) (sym is ∙ h.complete last at free reported e) in
     (ap (λ (p : Text × ℕ). p.0) same, ap (λ (p : Text × ℕ). p.1) same)
 
 -- and something was, where something is spelled
-pub no_moment_cut : (v : Version) (words : Text) (cut : Option (Text × ℕ)) → CutsMoment v words cut → cut ≡ None → (last : Text) (at : ℕ) → All (λ b. b ≢ 32) last → IsTold v at → words ≡ last ++ moment_text v at → ⊥
-no_moment_cut v words cut h none last at free told e = let clash : ◌≡◌ {A = Option (Text × ℕ)} None (Some (last, at)) = sym none ∙ h.complete last at free told e in cc
+pub no_moment_cut : (v : Version) (words : Text) (cut : Option (Text × ℕ)) → CutsMoment v words cut → cut ≡ None → (last : Text) (at : ℕ) → All (λ b. b ≢ 32) last → IsReported v at → words ≡ last ++ moment_text v at → ⊥
+no_moment_cut v words cut h none last at free reported e = let clash : ◌≡◌ {A = Option (Text × ℕ)} None (Some (last, at)) = sym none ∙ h.complete last at free reported e in cc
 
-pub moment_told : (v : Version) (words : Text) (cut : Option (Text × ℕ)) → CutsMoment v words cut → (front : Text) (a : ℕ) → cut ≡ Some (front, a) → IsTold v a
-moment_told v words cut h front a is = go (subst (λ (o : Option (Text × ℕ)). IfSome o (λ c. IsTold v c.1)) is h.valid)
+pub moment_reported : (v : Version) (words : Text) (cut : Option (Text × ℕ)) → CutsMoment v words cut → (front : Text) (a : ℕ) → cut ≡ Some (front, a) → IsReported v a
+moment_reported v words cut h front a is = go (subst (λ (o : Option (Text × ℕ)). IfSome o (λ c. IsReported v c.1)) is h.valid)
   where
-    go : IfSome (Some (front, a)) (λ (c : Text × ℕ). IsTold v c.1) → IsTold v a
+    go : IfSome (Some (front, a)) (λ (c : Text × ℕ). IsReported v c.1) → IsReported v a
     go t = t
 
 -- ---- lines as they are written
@@ -258,19 +258,19 @@ file_spelled v p n at =
 
 -- ---- the line of a root
 
-pub root_read : (line : Text) (read : Option (Version × ℕ)) → IsRoot line read → (v : Version) (a : ℕ) → read ≡ Some (v, a) → IsTold v a × (line ≡ root_line v a)
+pub root_read : (line : Text) (read : Option (Version × ℕ)) → IsRoot line read → (v : Version) (a : ℕ) → read ≡ Some (v, a) → IsReported v a × (line ≡ root_line v a)
 root_read line read h v a is = go (subst (IsRoot line) is h)
   where
-    go : IsRoot line (Some (v, a)) → IsTold v a × (line ≡ root_line v a)
+    go : IsRoot line (Some (v, a)) → IsReported v a × (line ≡ root_line v a)
     go t = t
 
-pub root_unread : (line : Text) (read : Option (Version × ℕ)) → IsRoot line read → read ≡ None → (v : Version) (at : ℕ) → IsTold v at → line ≢ root_line v at
+pub root_unread : (line : Text) (read : Option (Version × ℕ)) → IsRoot line read → read ≡ None → (v : Version) (at : ℕ) → IsReported v at → line ≢ root_line v at
 root_unread line read h none = subst (IsRoot line) none h
 
 -- no line of version 1, nor one of version 2 without a number behind its words
-pub no_root : (line rest : Text) → line ≢ codes "d /" → rest ≡ drop (length (codes "D / ")) line → ((n : ℕ) → n < 2 ^ 64 → rest ≢ decimal n) → (v : Version) (at : ℕ) → IsTold v at → line ≢ root_line v at
-no_root line rest other is none First at told e = other e
-no_root line rest other is none Second at told e = none at told (is ∙ ap (drop (length (codes "D / "))) e)
+pub no_root : (line rest : Text) → line ≢ codes "d /" → rest ≡ drop (length (codes "D / ")) line → ((n : ℕ) → n < 2 ^ 64 → rest ≢ decimal n) → (v : Version) (at : ℕ) → IsReported v at → line ≢ root_line v at
+no_root line rest other is none First at reported e = other e
+no_root line rest other is none Second at reported e = none at reported (is ∙ ap (drop (length (codes "D / "))) e)
 
 -- ---- how a moment is cut off
 
@@ -278,37 +278,37 @@ no_root line rest other is none Second at told e = none at told (is ∙ ap (drop
 pub cuts_nothing : (words : Text) → CutsMoment First words (Some (words, 0))
 cuts_nothing words = record {
   valid = refl;
-  complete = λ front at free told e.
+  complete = λ front at free reported e.
       let same : words ≡ front = e ∙ append-nil front in
-      ap (λ (w : Text). Some (w, 0)) same ∙ ap (λ (n : ℕ). Some (front, n)) (sym told);
+      ap (λ (w : Text). Some (w, 0)) same ∙ ap (λ (n : ℕ). Some (front, n)) (sym reported);
 }
 
 -- version 2 has a space before it
 pub cuts_no_space : (words : Text) → All (λ b. b ≢ 32) words → CutsMoment Second words None
-cuts_no_space words h = record { valid = tt; complete = λ front at free told e. absurd (never_ends words front at h e) }
+cuts_no_space words h = record { valid = tt; complete = λ front at free reported e. absurd (never_ends words front at h e) }
 
 -- and a number behind that
 pub cuts_no_number : (words front back : Text) → IsCut words front back → number_of back ≡ None → CutsMoment Second words None
 cuts_no_number words front back h none = record {
   valid = tt;
-  complete = λ last at free told e.
+  complete = λ last at free reported e.
       let parts = moment_words words front back last at h free e in
-      let clash : ◌≡◌ {A = Option ℕ} None (Some at) = sym none ∙ number_told back at told parts.1 in absurd (cc);
+      let clash : ◌≡◌ {A = Option ℕ} None (Some at) = sym none ∙ number_reported back at reported parts.1 in absurd (cc);
 }
 
 pub cuts_last : (words front back : Text) (n : ℕ) → IsCut words front back → number_of back ≡ Some n → n < 2 ^ 64 → CutsMoment Second words (Some (front, n))
 cuts_last words front back n h number few = record {
   valid = few;
-  complete = λ last at free told e.
+  complete = λ last at free reported e.
       let parts = moment_words words front back last at h free e in
-      let same : n ≡ at = same_Some n at (sym number ∙ number_told back at told parts.1) in
+      let same : n ≡ at = same_Some n at (sym number ∙ number_reported back at reported parts.1) in
       ap (λ (w : Text). Some (w, n)) parts.0 ∙ ap (λ (k : ℕ). Some (last, k)) same;
 }
 
 -- the length and the moment that end the line of a file
-pub len_spelled : (v : Version) (numbers number : Text) (cut : Option (Text × ℕ)) → CutsMoment v numbers cut → (a : ℕ) → cut ≡ Some (number, a) → (n at : ℕ) → n ≤ 2 ^ 40 → IsTold v at → numbers ≡ decimal n ++ moment_text v at
+pub len_spelled : (v : Version) (numbers number : Text) (cut : Option (Text × ℕ)) → CutsMoment v numbers cut → (a : ℕ) → cut ≡ Some (number, a) → (n at : ℕ) → n ≤ 2 ^ 40 → IsReported v at → numbers ≡ decimal n ++ moment_text v at
     → (number_of number ≡ Some n) × (a ≡ at)
-len_spelled v numbers number cut h a is n at few told e =
+len_spelled v numbers number cut h a is n at few reported e =
     let small : n < 2 ^ 64 = omega arith in
-    let parts = moment_cut v numbers cut h number a is (decimal n) at (decimal_free n small) told e in
-    (number_told number n small parts.0, parts.1)
+    let parts = moment_cut v numbers cut h number a is (decimal n) at (decimal_free n small) reported e in
+    (number_reported number n small parts.0, parts.1)

@@ -12,8 +12,8 @@ use Rattle.pathkey.specs.declared.errno.Errno.{Errno}
 use Rattle.pathkey.specs.declared.errno.Errno.TheVariants.{ENOMEM}
 use Rattle.reference.specs.Calls.{Outcome, bytes_of, changed, does, parent_fault, path_fault, first_fault, greatest_file, is_empty}
 use Rattle.reference.specs.Image.{Text, Version, root_line}
-use Rattle.reference.specs.ImageLines.{Line, BlockLine, Lines, spelled, image_of_lines, last_path, last_len, next_block, IsNewEntry, IsBlock, IsLine, IsTold, MayFollow, IsSomeImage, IsBadAt, tree_of_lines}
-use Rattle.reference.specs.Looks.{Bytes, Directory, Seen, Sight, sight, sight_after, sighted}
+use Rattle.reference.specs.ImageLines.{Line, BlockLine, Lines, spelled, image_of_lines, last_path, last_len, next_block, IsNewEntry, IsBlock, IsLine, IsReported, MayFollow, IsSomeImage, IsBadAt, tree_of_lines}
+use Rattle.reference.specs.Reads.{Bytes, Directory, Seen, Sight, sight, sight_after, sighted}
 use Rattle.reference.specs.Plant.{planted, planted_unless, fresh_entry, modified_of, with_plant, faults_of_plant, is_too_long}
 use Rattle.reference.specs.Tree.{Tree, Dir, File, nothing, At, Found, Missing, Blocked, entry_at, moment, moment_there, over, with_entry}
 use Rattle.reference.specs.Worlds.{World, Snapped, Ask, Replied, Fits, outcome}
@@ -43,12 +43,12 @@ use Rattle.volume.specs.Volumes.{PVolume, IsNew, Means}
 use Rattle.images.specs.Image.{version_of}
 use Rattle.images.specs.ImageLines.{Spells, line_of}
 use Rattle.images.specs.Loads.{AreSoFar, Begun, Counts, FitsAt, alone, text_of, text_so_far, with_line, count_so_far, IsLoading, LoadsNext, LoadsRoot, LoadsLine, MayNotFollow, RefusesLine, HasRead, LoadsEnd, RefusesEnd, Loaded, entry_line, form_of, len_of, new_form}
-use Rattle.lines.proofs.HeldFacts.{holds_nothing}
-use Rattle.lines.specs.Held.{Holds, IsFree}
+use Rattle.textio.proofs.HeldFacts.{holds_nothing}
+use Rattle.textio.specs.Held.{Holds, IsFree}
 use Rattle.images.specs.declared.image_line.ImageLine.{ImageLine}
 use Rattle.images.specs.declared.load.LoadFault.{LoadFault}
 use Rattle.images.specs.declared.load.LoadFault.TheVariants.{Bad}
-use Rattle.images.specs.declared.load.Loading.{Loading}
+use Rattle.images.specs.declared.load.LoadState.{LoadState}
 use Rattle.images.specs.declared.version.ImageVersion.{ImageVersion}
 
 pub no_feed : (xs : Text) → IsFree xs → NoFeed xs
@@ -58,11 +58,11 @@ no_feed (x ∷ xs) h = (h.0, no_feed xs h.1)
 -- ---- entries
 
 -- what was planted may follow
-may_follow : (b : Begun) (p : Path) (m : Meta) → Made b.version b.root b.lines → IsTold b.version (modified_of m) → IsPath p → by_bytes (enc (last_path b.lines)) (enc p) ≡ Less → MayPlant (tree_of_lines b.root b.lines) p m → MayFollow b.version (entry_line p m) b.lines
-may_follow b p (DirMeta at) is told path rises h = (record { path = path; rises = rises; parent = is.has (parent p) (parent_directory (tree_of_lines b.root b.lines) p h.some h.parent_there) }, told)
-may_follow b p (FileMeta n at) is told path rises h =
+may_follow : (b : Begun) (p : Path) (m : Meta) → Made b.version b.root b.lines → IsReported b.version (modified_of m) → IsPath p → by_bytes (enc (last_path b.lines)) (enc p) ≡ Less → MayPlant (tree_of_lines b.root b.lines) p m → MayFollow b.version (entry_line p m) b.lines
+may_follow b p (DirMeta at) is reported path rises h = (record { path = path; rises = rises; parent = is.has (parent p) (parent_directory (tree_of_lines b.root b.lines) p h.some h.parent_there) }, reported)
+may_follow b p (FileMeta n at) is reported path rises h =
     let few : n ≤ greatest_file = ltb-false greatest_file n h.short in
-    (record { path = path; rises = rises; parent = is.has (parent p) (parent_directory (tree_of_lines b.root b.lines) p h.some h.parent_there) }, few, told)
+    (record { path = path; rises = rises; parent = is.has (parent p) (parent_directory (tree_of_lines b.root b.lines) p h.some h.parent_there) }, few, reported)
 
 -- and what may follow can be planted
 new_entry : (b : Begun) (p : Path) (m : Meta) → MayFollow b.version (entry_line p m) b.lines → IsNewEntry p b.lines
@@ -119,9 +119,9 @@ fresh_moment : (m : Meta) → moment (fresh_entry m) ≡ modified_of m
 fresh_moment (DirMeta at) = refl
 fresh_moment (FileMeta n at) = refl
 
-pub entry_done : (old : Loading) (v : PVolume) (p : Path) (m : Meta) (number : ℕ) → number ≡ old.lines + 1 → p ≢ [] → IsTold (version_of old.version) (modified_of m) → IsPath p → by_bytes (enc old.last) (enc p) ≡ Less → Plants p m (Ok tt) old.volume v
+pub entry_done : (old : LoadState) (v : PVolume) (p : Path) (m : Meta) (number : ℕ) → number ≡ old.lines + 1 → p ≢ [] → IsReported (version_of old.version) (modified_of m) → IsPath p → by_bytes (enc old.last) (enc p) ≡ Less → Plants p m (Ok tt) old.volume v
     → LoadsNext (entry_line p m) old (record { volume = v; version = old.version; lines = number; last = p; modified = modified_of m; len = len_of m; next = 0 })
-entry_done old v p m number count some told path rises h = λ b is.
+entry_done old v p m number count some reported path rises h = λ b is.
     let t : Tree = tree_of_lines b.root b.lines in
     let lines : Made b.version b.root b.lines = made b.version b.root b.lines is.are.0 is.are.1 in
     let answer : ◌≡◌ {A = Snapped} (Ok tt) (planted t p m).1 = ⊎_elim (λ (e : Ok tt ≡ (planted t p m).1). e) (λ (e : ◌≡◌ {A = Snapped} (Ok tt) (Err ENOMEM)). absurd (cc)) (h.answer (alone t) is.means) in
@@ -134,7 +134,7 @@ entry_done old v p m number count some told path rises h = λ b is.
     let at : moment_there (entry_at (with_entry t p (fresh_entry m)) p) ≡ modified_of m = moment_put t p (fresh_entry m) some may.parent_there ∙ fresh_moment m in
     let there : moment_there (entry_at new_tree p) ≡ modified_of m = subst (λ (u : Tree). moment_there (entry_at u p) ≡ modified_of m) (made_of_entry b p m) at in
     record {
-      are = (is.are.0, (may_follow b p m lines (subst (λ (w : Version). IsTold w (modified_of m)) is.version told) path above may, is.are.1));
+      are = (is.are.0, (may_follow b p m lines (subst (λ (w : Version). IsReported w (modified_of m)) is.version reported) path above may, is.are.1));
       means = subst (λ (u : Tree). Means v (alone u)) planted_is (h.means (alone t) is.means);
       version = is.version;
       count = let c : old.lines ≡ length b.lines + 1 = is.count in let d : length (entry_line p m ∷ b.lines) ≡ length b.lines + 1 = omega arith in omega arith;
@@ -144,7 +144,7 @@ entry_done old v p m number count some told path rises h = λ b is.
       next = last.2;
     }
 
-pub entry_refused : (old : Loading) (v : PVolume) (p : Path) (m : Meta) (fault : Errno) → fault ≢ ENOMEM → Plants p m (Err fault) old.volume v → MayNotFollow (entry_line p m) old
+pub entry_refused : (old : LoadState) (v : PVolume) (p : Path) (m : Meta) (fault : Errno) → fault ≢ ENOMEM → Plants p m (Err fault) old.volume v → MayNotFollow (entry_line p m) old
 entry_refused old v p m fault other h = λ b is follows.
     let t : Tree = tree_of_lines b.root b.lines in
     let none : first_fault (faults_of_plant t p m) ≡ None = no_fault_to_plant t p m (can_plant b p m is.are follows) in
@@ -154,18 +154,18 @@ entry_refused old v p m fault other h = λ b is follows.
     (λ (e : ◌≡◌ {A = Snapped} (Err fault) (Err ENOMEM)). other (cc))
     (h.answer (alone t) is.means)
 
-pub order_refused : (old : Loading) (p : Path) (m : Meta) → by_bytes (enc old.last) (enc p) ≢ Less → MayNotFollow (entry_line p m) old
+pub order_refused : (old : LoadState) (p : Path) (m : Meta) → by_bytes (enc old.last) (enc p) ≢ Less → MayNotFollow (entry_line p m) old
 order_refused old p m below = λ b is follows. below (subst (λ (q : Path). by_bytes (enc q) (enc p) ≡ Less) (sym is.last) (new_entry b p m follows).rises)
 
 -- ---- the root
 
-pub root_done : (old : Loading) (v : PVolume) (version : ImageVersion) (root number : ℕ) (line : Text) → number ≡ old.lines + 1 → IsTold (version_of version) root → line ≡ root_line (version_of version) root
+pub root_done : (old : LoadState) (v : PVolume) (version : ImageVersion) (root number : ℕ) (line : Text) → number ≡ old.lines + 1 → IsReported (version_of version) root → line ≡ root_line (version_of version) root
     → Plants [] (DirMeta root) (Ok tt) old.volume v → LoadsRoot line old (record { volume = v; version = version; lines = number; last = old.last; modified = root; len = old.len; next = old.next })
-root_done old v version root number line count told line_is h = λ is.
+root_done old v version root number line count reported line_is h = λ is.
     let t : Tree = Dir 0 nothing in (
       record { version = version_of version; root = root; lines = [] },
       record {
-        are = (told, tt);
+        are = (reported, tt);
         means = h.means (alone t) is.means;
         version = refl;
         count = let c : old.lines ≡ 0 = is.count in omega arith;
@@ -192,7 +192,7 @@ written_is at t p off b n some = written_cases (λ (o : Outcome). Count n ≡ o.
     (λ e f. absurd (let g : is_empty b ≡ false = some_bytes b some in cc))
     (λ a d e g f. refl)
 
-pub block_done : (old : Loading) (v : PVolume) (i : ℕ) (bytes : List ℕ) (len number n : ℕ) → number ≡ old.lines + 1 → IsBlock bytes → old.len ≡ Some len → old.next ≤ i → 4096 * i + length bytes ≤ len
+pub block_done : (old : LoadState) (v : PVolume) (i : ℕ) (bytes : List ℕ) (len number n : ℕ) → number ≡ old.lines + 1 → IsBlock bytes → old.len ≡ Some len → old.next ≤ i → 4096 * i + length bytes ≤ len
     → Called (Write old.last (4096 * i) bytes) old.modified (Count n) old.volume v → LoadsNext (BlockLine i bytes) old (record { volume = v; version = old.version; lines = number; last = old.last; modified = old.modified; len = old.len; next = i + 1 })
 block_done old v i bytes len number n count block file rises inside h = λ b is.
     let ls : Lines = b.lines in
@@ -201,14 +201,14 @@ block_done old v i bytes len number n count block file rises inside h = λ b is.
     let at : ℕ = old.modified in
     let w : World = alone t in
     let both : Fits w (Ask (Write p (4096 * i) bytes) at) (Replied (Count n)) × Means v (outcome w (Ask (Write p (4096 * i) bytes) at)).0 = h.leads w is.means in
-    let told : Count n ≡ (does at t (Write p (4096 * i) bytes)).1 = ⊎_elim
+    let reported : Count n ≡ (does at t (Write p (4096 * i) bytes)).1 = ⊎_elim
     (λ (e : Replied (Count n) ≡ Replied (does at t (Write p (4096 * i) bytes)).1). cc)
     (λ (e : Replied (Count n) ≡ Replied (Fault ENOMEM)). absurd (cc))
     both.0
     in
     let laid : (q : Path) (d : ℕ) → Tree = λ q d. with_entry t q (File d (over (bytes_of (entry_at t q)) (4096 * i) bytes)) in
     let tree_is : (does at t (Write p (4096 * i) bytes)).0 ≡ tree_of_lines b.root (BlockLine i bytes ∷ ls) =
-    written_is at t p (4096 * i) bytes n block.some told ∙ ap (λ (q : Path). laid q at) is.last ∙ ap (λ (d : ℕ). laid (last_path ls) d) (sym is.moment) in
+    written_is at t p (4096 * i) bytes n block.some reported ∙ ap (λ (q : Path). laid q at) is.last ∙ ap (λ (d : ℕ). laid (last_path ls) d) (sym is.moment) in
     let lines : Made b.version b.root ls = made b.version b.root ls is.are.0 is.are.1 in
     let there : LastFile b.version b.root ls len = lines.file len (sym is.len ∙ file) in
     let here : At = entry_at t (last_path ls) in
@@ -225,19 +225,19 @@ block_done old v i bytes len number n count block file rises inside h = λ b is.
     }
 
 -- the same, where the place is known to fit
-pub block_at : (old : Loading) (v : PVolume) (i j off : ℕ) (b : List ℕ) (number : ℕ) → j ≡ i → number ≡ old.lines + 1 → IsBlock b → FitsAt i (length b) old off → Counts (Write old.last off b) old.modified old.volume v
+pub block_at : (old : LoadState) (v : PVolume) (i j off : ℕ) (b : List ℕ) (number : ℕ) → j ≡ i → number ≡ old.lines + 1 → IsBlock b → FitsAt i (length b) old off → Counts (Write old.last off b) old.modified old.volume v
     → LoadsNext (BlockLine i b) old (record { volume = v; version = old.version; lines = number; last = old.last; modified = old.modified; len = old.len; next = j + 1 })
 block_at old v i j off b number same count block fits counts =
-    let told : Called (Write old.last (4096 * i) b) old.modified (Count counts.0) old.volume v = subst (λ (o : ℕ). Called (Write old.last o b) old.modified (Count counts.0) old.volume v) fits.at counts.1 in
+    let reported : Called (Write old.last (4096 * i) b) old.modified (Count counts.0) old.volume v = subst (λ (o : ℕ). Called (Write old.last o b) old.modified (Count counts.0) old.volume v) fits.at counts.1 in
     let inside : off + length b ≤ fits.file = fits.inside in
     let at : off ≡ 4096 * i = fits.at in
     subst (λ (k : ℕ). LoadsNext (BlockLine i b) old (record { volume = v; version = old.version; lines = number; last = old.last; modified = old.modified; len = old.len; next = k + 1 })) (sym same)
-    (block_done old v i b fits.file number counts.0 count block fits.is_file fits.behind (omega arith) told)
+    (block_done old v i b fits.file number counts.0 count block fits.is_file fits.behind (omega arith) reported)
 
-pub no_file_refused : (old : Loading) (i : ℕ) (b : List ℕ) → old.len ≡ None → MayNotFollow (BlockLine i b) old
+pub no_file_refused : (old : LoadState) (i : ℕ) (b : List ℕ) → old.len ≡ None → MayNotFollow (BlockLine i b) old
 no_file_refused old i b none = λ s is follows. let clash : ◌≡◌ {A = Option ℕ} None (Some follows.len) = sym none ∙ is.len ∙ follows.file in cc
 
-pub block_refused : (old : Loading) (i : ℕ) (b : List ℕ) (len : ℕ) → old.len ≡ Some len → (i < old.next) ⊎ (len < 4096 * i + length b) → MayNotFollow (BlockLine i b) old
+pub block_refused : (old : LoadState) (i : ℕ) (b : List ℕ) (len : ℕ) → old.len ≡ Some len → (i < old.next) ⊎ (len < 4096 * i + length b) → MayNotFollow (BlockLine i b) old
 block_refused old i b len file bad = λ s is follows.
     let same : len ≡ follows.len = same_Some len follows.len (sym file ∙ is.len ∙ follows.file) in
     let rises : next_block s.lines ≤ i = follows.rises in
@@ -248,26 +248,26 @@ block_refused old i b len file bad = λ s is follows.
 -- ---- lines
 
 -- a line that is none that may follow
-refused_by : (line : Text) (old : Loading) → (IsLoading None old → IsFirst line → ⊥) → ((b : Begun) → IsLoading (Some b) old → IsNext b.version b.lines line → ⊥) → RefusesLine line old
+refused_by : (line : Text) (old : LoadState) → (IsLoading None old → IsFirst line → ⊥) → ((b : Begun) → IsLoading (Some b) old → IsNext b.version b.lines line → ⊥) → RefusesLine line old
 refused_by line old first later None is free h = first is (first_line line (no_feed line free) h)
 refused_by line old first later (Some b) is free h = later b is (next_line b.version b.root b.lines line is.are.0 is.are.1 (no_feed line free) h)
 
-pub long_refused : (line : Text) (old : Loading) → 65536 < length line → RefusesLine line old
+pub long_refused : (line : Text) (old : LoadState) → 65536 < length line → RefusesLine line old
 long_refused line old long = refused_by line old
-    (λ is h. let l : length line ≡ length (root_line h.version h.root) = ap length h.is in let s : length (root_line h.version h.root) ≤ 65536 = root_length h.version h.root h.told in omega arith)
+    (λ is h. let l : length line ≡ length (root_line h.version h.root) = ap length h.is in let s : length (root_line h.version h.root) ≤ 65536 = root_length h.version h.root h.reported in omega arith)
     (λ b is h. let l : length line ≡ length (spelled b.version h.next) = ap length h.is in let s : length (spelled b.version h.next) ≤ 65536 = line_length b.version h.next (line_from_follows b.version h.next b.lines is.are.1 h.follows) in omega arith)
 
-pub root_refused : (line : Text) (old : Loading) → old.lines ≡ 0 → ((v : Version) (at : ℕ) → IsTold v at → line ≢ root_line v at) → RefusesLine line old
-root_refused line old none other = refused_by line old (λ is h. other h.version h.root h.told h.is) (λ b is h. let c : old.lines ≡ length b.lines + 1 = is.count in omega arith)
+pub root_refused : (line : Text) (old : LoadState) → old.lines ≡ 0 → ((v : Version) (at : ℕ) → IsReported v at → line ≢ root_line v at) → RefusesLine line old
+root_refused line old none other = refused_by line old (λ is h. other h.version h.root h.reported h.is) (λ b is h. let c : old.lines ≡ length b.lines + 1 = is.count in omega arith)
 
-pub unspelled_refused : (line : Text) (old : Loading) → old.lines ≢ 0 → ((l : Line) → IsLine (version_of old.version) l → line ≢ spelled (version_of old.version) l) → RefusesLine line old
+pub unspelled_refused : (line : Text) (old : LoadState) → old.lines ≢ 0 → ((l : Line) → IsLine (version_of old.version) l → line ≢ spelled (version_of old.version) l) → RefusesLine line old
 unspelled_refused line old some none = refused_by line old
     (λ is h. some is.count)
     (λ b is h.
     let never : (l : Line) → IsLine b.version l → line ≢ spelled b.version l = subst (λ (v : Version). (l : Line) → IsLine v l → line ≢ spelled v l) is.version none in
     never h.next (line_from_follows b.version h.next b.lines is.are.1 h.follows) h.is)
 
-pub next_refused : (line : Text) (l : Line) (old : Loading) → old.lines ≢ 0 → IsLine (version_of old.version) l → line ≡ spelled (version_of old.version) l → MayNotFollow l old → RefusesLine line old
+pub next_refused : (line : Text) (l : Line) (old : LoadState) → old.lines ≢ 0 → IsLine (version_of old.version) l → line ≡ spelled (version_of old.version) l → MayNotFollow l old → RefusesLine line old
 next_refused line l old some valid e never = refused_by line old
     (λ is f. some is.count)
     (λ b is h.
@@ -276,37 +276,37 @@ next_refused line l old some valid e never = refused_by line old
     let same : h.next ≡ l = line_injective b.version h.next l (line_from_follows b.version h.next b.lines is.are.1 h.follows) valid_here (sym h.is ∙ here) in
     never b is (subst (λ (k : Line). MayFollow b.version k b.lines) same h.follows))
 
-pub next_loaded : (line : Text) (l : Line) (old new : Loading) → old.lines ≢ 0 → line ≡ spelled (version_of old.version) l → LoadsNext l old new → LoadsLine line old new
+pub next_loaded : (line : Text) (l : Line) (old new : LoadState) → old.lines ≢ 0 → line ≡ spelled (version_of old.version) l → LoadsNext l old new → LoadsLine line old new
 next_loaded line l old new some e loads None is = absurd (some is.count)
 next_loaded line l old new some e loads (Some b) is = (with_line l b, loads b is, ap (λ (t : Text). text_of b ++ (t ++ 10 ∷ [])) (sym (e ∙ ap (λ (v : Version). spelled v l) is.version)))
 
 -- what was read of a line: none, or a line that may follow or not
-pub read_refused : (line : Text) (told : Option ImageLine) (old : Loading) → old.lines ≢ 0 → Spells (version_of old.version) line told → IfSome told (λ l. MayNotFollow (line_of l) old) → RefusesLine line old
+pub read_refused : (line : Text) (reported : Option ImageLine) (old : LoadState) → old.lines ≢ 0 → Spells (version_of old.version) line reported → IfSome reported (λ l. MayNotFollow (line_of l) old) → RefusesLine line old
 read_refused line None old some spells never = unspelled_refused line old some spells
 read_refused line (Some l) old some spells never = next_refused line (line_of l) old some spells.0 spells.1 never
 
-pub read_loaded : (line : Text) (told : Option ImageLine) (old new : Loading) → old.lines ≢ 0 → Spells (version_of old.version) line told → MatchOption told ⊥ (λ l. LoadsNext (line_of l) old new) → LoadsLine line old new
+pub read_loaded : (line : Text) (reported : Option ImageLine) (old new : LoadState) → old.lines ≢ 0 → Spells (version_of old.version) line reported → MatchOption reported ⊥ (λ l. LoadsNext (line_of l) old new) → LoadsLine line old new
 read_loaded line None old new some spells loads = absurd loads
 read_loaded line (Some l) old new some spells loads = next_loaded line (line_of l) old new some spells.1 loads
 
-pub read_valid : (v : Version) (line : Text) (told : Option ImageLine) → Spells v line told → IfSome told (λ l. IsLine v (line_of l))
+pub read_valid : (v : Version) (line : Text) (reported : Option ImageLine) → Spells v line reported → IfSome reported (λ l. IsLine v (line_of l))
 read_valid v line None spells = tt
 read_valid v line (Some l) spells = spells.0
 
 -- the first line begins an image
-pub root_loaded : (line : Text) (old new : Loading) → old.lines ≡ 0 → LoadsRoot line old new → LoadsLine line old new
+pub root_loaded : (line : Text) (old new : LoadState) → old.lines ≡ 0 → LoadsRoot line old new → LoadsLine line old new
 root_loaded line old new none loads None is =
-    let (b, loading, no_lines, line_is) = loads is in
-    (b, loading, ap (image_of_lines b.version b.root) no_lines ∙ ap (λ (t : Text). t ++ 10 ∷ []) (sym line_is))
+    let (b, load_state, no_lines, line_is) = loads is in
+    (b, load_state, ap (image_of_lines b.version b.root) no_lines ∙ ap (λ (t : Text). t ++ 10 ∷ []) (sym line_is))
 root_loaded line old new none loads (Some b) is = absurd (let c : old.lines ≡ length b.lines + 1 = is.count in omega arith)
 
 -- ---- texts piece by piece
 
 -- nothing was read yet
-pub nothing_read : (l : Loading) → Means l.volume (alone (Dir 0 nothing)) → l.lines ≡ 0 → l.last ≡ [] → l.modified ≡ 0 → l.len ≡ None → l.next ≡ 0 → HasRead [] [] l
+pub nothing_read : (l : LoadState) → Means l.volume (alone (Dir 0 nothing)) → l.lines ≡ 0 → l.last ≡ [] → l.modified ≡ 0 → l.len ≡ None → l.next ≡ 0 → HasRead [] [] l
 nothing_read l means lines last moment len at = record {
   so_far = None;
-  loading = record { are = tt; means = means; version = tt; count = lines; last = last; moment = sym moment; len = len; next = at };
+  load_state = record { are = tt; means = means; version = tt; count = lines; last = last; moment = sym moment; len = len; next = at };
   left = [];
   cut = refl;
   holds = holds_nothing;
@@ -320,20 +320,20 @@ line_is left items h short = ⊎_elim
     (cases_lt 65536 (length left))
 
 -- a line feed ends a line that was loaded
-pub line_read : (text items : Text) (old new : Loading) → length items ≤ 65536 → LoadsLine items old new → HasRead text items old → HasRead (text ++ 10 ∷ []) [] new
+pub line_read : (text items : Text) (old new : LoadState) → length items ≤ 65536 → LoadsLine items old new → HasRead text items old → HasRead (text ++ 10 ∷ []) [] new
 line_read text items old new short loads h =
     let is : items ≡ h.left = line_is h.left items h.holds short in
-    let done : (b : Begun) × IsLoading (Some b) new × (text_of b ≡ text_so_far h.so_far ++ (items ++ 10 ∷ [])) = loads h.so_far h.loading in
+    let done : (b : Begun) × IsLoading (Some b) new × (text_of b ≡ text_so_far h.so_far ++ (items ++ 10 ∷ [])) = loads h.so_far h.load_state in
     record {
       so_far = Some done.0;
-      loading = done.1;
+      load_state = done.1;
       left = [];
       cut = ap (λ (t : Text). t ++ 10 ∷ []) h.cut ∙ append_assoc (text_so_far h.so_far) h.left (10 ∷ []) ∙ ap (λ (t : Text). text_so_far h.so_far ++ (t ++ 10 ∷ [])) (sym is) ∙ sym done.2 ∙ sym (append-nil (text_of done.0));
       holds = holds_nothing;
     }
 
 -- a line that was refused is refused by what was held of it
-refused_left : (left items : Text) (l : Loading) → Holds left items → RefusesLine items l → RefusesLine left l
+refused_left : (left items : Text) (l : LoadState) → Holds left items → RefusesLine items l → RefusesLine left l
 refused_left left items l h refuses = ⊎_elim
     (λ (s : 65536 < length left). long_refused left l s)
     (λ (s : length left ≤ 65536). subst (λ (t : Text). RefusesLine t l) (h.short s) refuses)
@@ -344,17 +344,17 @@ bad_at None left rest n are free count bad = subst (λ (k : ℕ). IsBadAt k (lef
 bad_at (Some b) left rest n are free count bad = bad_line b.version b.root b.lines n left rest are.0 are.1 free (omega arith) bad
 
 -- and it makes the text no image
-pub line_bad : (text items rest : Text) (n : ℕ) (l : Loading) → n ≡ l.lines + 1 → RefusesLine items l → HasRead text items l → IsBadAt n (text ++ 10 ∷ rest)
+pub line_bad : (text items rest : Text) (n : ℕ) (l : LoadState) → n ≡ l.lines + 1 → RefusesLine items l → HasRead text items l → IsBadAt n (text ++ 10 ∷ rest)
 line_bad text items rest n l count refuses h =
     let free : NoFeed h.left = no_feed h.left h.holds.free in
-    let lines : l.lines ≡ count_so_far h.so_far = h.loading.count in
+    let lines : l.lines ≡ count_so_far h.so_far = h.load_state.count in
     subst (IsBadAt n) (sym (append_assoc (text_so_far h.so_far) h.left (10 ∷ rest)) ∙ ap (λ (t : Text). t ++ 10 ∷ rest) (sym h.cut))
-    (bad_at h.so_far h.left rest n h.loading.are free (omega arith) (λ is. refused_left h.left items l h.holds refuses h.so_far h.loading h.holds.free is))
+    (bad_at h.so_far h.left rest n h.load_state.are free (omega arith) (λ is. refused_left h.left items l h.holds refuses h.so_far h.load_state h.holds.free is))
 
 -- ---- at the end of a text
 
-pub ended : (items : Text) (l : Loading) → length items ≡ 0 → l.lines ≢ 0 → LoadsEnd items l
-ended items l none some text h = go h.so_far h.loading h.left h.cut (left_none h.left items h.holds none)
+pub ended : (items : Text) (l : LoadState) → length items ≡ 0 → l.lines ≢ 0 → LoadsEnd items l
+ended items l none some text h = go h.so_far h.load_state h.left h.cut (left_none h.left items h.holds none)
   where
     left_none : (left items : Text) → Holds left items → length items ≡ 0 → left ≡ []
     left_none left [] holds e = sym (line_is left [] holds (omega arith))
@@ -364,8 +364,8 @@ ended items l none some text h = go h.so_far h.loading h.left h.cut (left_none h
     go None is left cut e = absurd (some is.count)
     go (Some b) is left cut e = (b, is, cut ∙ ap (λ (t : Text). text_of b ++ t) e ∙ append-nil (text_of b))
 
-pub end_refused : (items : Text) (n : ℕ) (l : Loading) → n ≡ l.lines + 1 → (0 < length items) ⊎ (l.lines ≡ 0) → RefusesEnd items n l
-end_refused items n l count bad text h = subst (IsBadAt n) (sym h.cut) (go h.so_far h.loading h.left (no_feed h.left h.holds.free) some)
+pub end_refused : (items : Text) (n : ℕ) (l : LoadState) → n ≡ l.lines + 1 → (0 < length items) ⊎ (l.lines ≡ 0) → RefusesEnd items n l
+end_refused items n l count bad text h = subst (IsBadAt n) (sym h.cut) (go h.so_far h.load_state h.left (no_feed h.left h.holds.free) some)
   where
     some : (0 < length h.left) ⊎ (l.lines ≡ 0)
     some = ⊎_elim
@@ -383,11 +383,11 @@ end_refused items n l count bad text h = subst (IsBadAt n) (sym h.cut) (go h.so_
     go (Some s) is (x ∷ left) free b = let c : l.lines ≡ length s.lines + 1 = is.count in bad_end s.version s.root s.lines n x left is.are.0 is.are.1 free (omega arith)
 
 -- what was loaded means the tree of the image
-pub loaded : (text : Text) (l : Loading) → (b : Begun) × IsLoading (Some b) l × (text ≡ text_of b) → IsSomeImage text × Loaded text l.volume
+pub loaded : (text : Text) (l : LoadState) → (b : Begun) × IsLoading (Some b) l × (text ≡ text_of b) → IsSomeImage text × Loaded text l.volume
 loaded text l (b, is, text_is) =
     let m = lines_law b.version b.root b.lines is.are.0 is.are.1 in (
-      (b.version, record { root = b.root; told = is.are.0; lines = b.lines; are = is.are.1; is = text_is }),
-      record { version = b.version; tree = tree_of_lines b.root b.lines; is_tree = m.0; image_is = m.1 ∙ sym text_is; told = m.2; means = is.means },
+      (b.version, record { root = b.root; reported = is.are.0; lines = b.lines; are = is.are.1; is = text_is }),
+      record { version = b.version; tree = tree_of_lines b.root b.lines; is_tree = m.0; image_is = m.1 ∙ sym text_is; reported = m.2; means = is.means },
     )
 
 pub bad_number : (number n : ℕ) → ◌≡◌ {A = Result (Unit {0}) LoadFault} (Err (Bad number)) (Err (Bad n)) → number ≡ n

@@ -5,15 +5,15 @@ use Rattle.pathkey.specs.Keys.{Key, enc, next_key}
 use Rattle.pathkey.specs.Names.{Path}
 use Rattle.reference.specs.Image.{Text, block_line, trimmed}
 use Rattle.reference.specs.Indexes.{meta_of}
-use Rattle.reference.specs.Looks.{sighted}
+use Rattle.reference.specs.Reads.{sighted}
 use Rattle.reference.specs.Shape.{IsTree}
 use Rattle.reference.specs.Tree.{Tree, Dir, File, At, Found, Missing, Blocked, entry_at}
 use Rattle.reference.specs.declared.reply.Meta.{Meta}
 use Rattle.reference.specs.declared.reply.Meta.TheVariants.{Dir as DirMeta, File as FileMeta}
 use Rattle.images.specs.Image.{blocks_left, entry_text, image_from}
 use Rattle.images.specs.Spots.{AreFrom, EndsBy, IsAhead, IsAt, IsNext, IsNextAt, IsPassed, Passes, left_at, size_of}
-use Rattle.images.specs.declared.ahead.Ahead.{Ahead}
-use Rattle.images.specs.declared.spot.Spot.{Spot}
+use Rattle.images.specs.declared.ahead.EntryReadahead.{EntryReadahead}
+use Rattle.images.specs.declared.spot.PrintPosition.{PrintPosition}
 use Rattle.images.proofs.ImageBlocks.{block_passed, blocks_passed}
 use Rattle.images.proofs.ImageEntries.{behind_first, behind_root, entry_starts, first_listed, head_at, none_behind, others}
 use Rattle.images.proofs.WholeLines.{block_ends, ends_after, entry_ends}
@@ -21,11 +21,11 @@ use Rattle.volume.proofs.Walks.{past_bytes}
 use Rattle.volume.specs.Walks.{AreBlocksAt, AreEntries, IsEntry}
 
 -- no line
-pub passes_nothing : (t : Tree) (s : Spot) (had : Text) → IsAt t s → Passes t s had s had
+pub passes_nothing : (t : Tree) (s : PrintPosition) (had : Text) → IsAt t s → Passes t s had s had
 passes_nothing t s had at = record { lines = []; added = sym (append-nil had); left = refl; whole = inl refl; at = at }
 
 -- lines behind others
-pub passes_then : (t : Tree) (a b c : Spot) (x y z : Text) → Passes t a x b y → Passes t b y c z → Passes t a x c z
+pub passes_then : (t : Tree) (a b c : PrintPosition) (x y z : Text) → Passes t a x b y → Passes t b y c z → Passes t a x c z
 passes_then t a b c x y z f g = record {
   lines = f.lines ++ g.lines;
   added = g.added ∙ ap (λ (l : Text). l ++ g.lines) f.added ∙ append_assoc x f.lines g.lines;
@@ -35,7 +35,7 @@ passes_then t a b c x y z f g = record {
 }
 
 -- the line of a block
-pub passes_block : (t : Tree) (s : Spot) (number : ℕ) (block had has : List ℕ) → IsAt t s → AreBlocksAt (entry_at t s.last) s.from 1 ((number, block) ∷ [])
+pub passes_block : (t : Tree) (s : PrintPosition) (number : ℕ) (block had has : List ℕ) → IsAt t s → AreBlocksAt (entry_at t s.last) s.from 1 ((number, block) ∷ [])
     → has ≡ had ++ block_line number (trimmed block) → Passes t s had (record { last = s.last; from = number + 1 }) has
 passes_block t s number block had has at are put =
     let line : Text = block_line number (trimmed block) in
@@ -49,7 +49,7 @@ passes_block t s number block had has at are put =
     }
 
 -- the line of the entry that comes next
-pub passes_entry : (t : Tree) (s : Spot) (e : Path × Meta) (had has : Text) → IsPassed t s → IsNextAt t s.last e → has ≡ had ++ entry_text e.0 e.1 → Passes t s had (record { last = e.0; from = 0 }) has
+pub passes_entry : (t : Tree) (s : PrintPosition) (e : Path × Meta) (had has : Text) → IsPassed t s → IsNextAt t s.last e → has ≡ had ++ entry_text e.0 e.1 → Passes t s had (record { last = e.0; from = 0 }) has
 passes_entry t s e had has passed next put = record {
   lines = entry_text e.0 e.1;
   added = put;
@@ -93,7 +93,7 @@ nothing_from t lo = record {
 }
 
 -- nothing
-pub ahead_nothing : (t : Tree) (last : Path) (a : Ahead) → a.entries.items ≡ [] → a.all ≡ false → IsAhead t last a
+pub ahead_nothing : (t : Tree) (last : Path) (a : EntryReadahead) → a.entries.items ≡ [] → a.all ≡ false → IsAhead t last a
 ahead_nothing t last a none not = record {
   count = 0;
   are = subst (AreFrom t (next_key (enc last)) 0) (sym none) (nothing_from t (next_key (enc last)));
@@ -101,7 +101,7 @@ ahead_nothing t last a none not = record {
 }
 
 -- a piece that begins with the entry itself, without that
-pub ahead_piece : (t : Tree) (last : Path) (m : Meta) (n : ℕ) (es : List (Path × Meta)) (a : Ahead) → IsTree t → IsEntry t last m → 0 < n → AreEntries t last n es → a.entries.items ≡ drop 1 es → (a.all ≡ true → length es < n) → IsAhead t last a
+pub ahead_piece : (t : Tree) (last : Path) (m : Meta) (n : ℕ) (es : List (Path × Meta)) (a : EntryReadahead) → IsTree t → IsEntry t last m → 0 < n → AreEntries t last n es → a.entries.items ≡ drop 1 es → (a.all ≡ true → length es < n) → IsAhead t last a
 ahead_piece t last m n es a is there some are rest all =
     let behind = behind_first t last m n es is are there some in
     record {
@@ -111,7 +111,7 @@ ahead_piece t last m n es a is there some are rest all =
     }
 
 -- where no other is left, none comes next
-next_none : (t : Tree) (last : Path) (old new : Ahead) → IsTree t → IsAhead t last old → old.entries.items ≡ [] → old.all ≡ true → new.entries.items ≡ [] → new.all ≡ old.all → IsNext t last None new
+next_none : (t : Tree) (last : Path) (old new : EntryReadahead) → IsTree t → IsAhead t last old → old.entries.items ≡ [] → old.all ≡ true → new.entries.items ≡ [] → new.all ≡ old.all → IsNext t last None new
 next_none t last old new is ahead none all rest same =
     let few = ahead.all all in
     let l : length old.entries.items ≡ 0 = ap length none in (
@@ -124,7 +124,7 @@ next_none t last old new is ahead none all rest same =
     )
 
 -- and else the first
-next_some : (t : Tree) (last : Path) (old new : Ahead) (e : Path × Meta) → IsTree t → IsAhead t last old → old.entries.items ≡ e ∷ new.entries.items → new.all ≡ old.all → IsNext t last (Some e) new
+next_some : (t : Tree) (last : Path) (old new : EntryReadahead) (e : Path × Meta) → IsTree t → IsAhead t last old → old.entries.items ≡ e ∷ new.entries.items → new.all ≡ old.all → IsNext t last (Some e) new
 next_some t last old new e is ahead split same =
     let lo = next_key (enc last) in
     let es : List (Path × Meta) = new.entries.items in
@@ -150,7 +150,7 @@ no_first [] e = refl
 no_first (x ∷ xs) e = absurd (let l : length (x ∷ xs) ≡ length xs = ap length e in omega (arith, l))
 
 -- what comes next, of what was taken
-pub next_is : (t : Tree) (last : Path) (old new : Ahead) (e : Option (Path × Meta)) → IsTree t → IsAhead t last old → (old.entries.items ≡ [] → old.all ≡ true) → old.entries.items ≡ option_to_list e ++ new.entries.items
+pub next_is : (t : Tree) (last : Path) (old new : EntryReadahead) (e : Option (Path × Meta)) → IsTree t → IsAhead t last old → (old.entries.items ≡ [] → old.all ≡ true) → old.entries.items ≡ option_to_list e ++ new.entries.items
     → new.entries.items ≡ drop 1 old.entries.items → new.all ≡ old.all → IsNext t last e new
 next_is t last old new None is ahead all split rest same =
     let empty : old.entries.items ≡ [] = no_first old.entries.items (split ∙ rest) in
@@ -160,13 +160,13 @@ next_is t last old new (Some e) is ahead all split rest same = next_some t last 
 -- ---- from entry to entry
 
 -- lines up to a place were added, those of its entry are passed unless the text has enough bytes, and these entries come behind it
-pub record Prints (t : Tree) (old : Spot) (had : Text) (new : Spot) (has : Text) (a : Ahead) : Type 0 where
+pub record Prints (t : Tree) (old : PrintPosition) (had : Text) (new : PrintPosition) (has : Text) (a : EntryReadahead) : Type 0 where
   pub passes : Passes t old had new has
   pub passed : length has < 65536 → IsPassed t new
   pub ahead : IsAhead t new.last a
 
 -- the next entry, and lines of its blocks
-pub prints_on : (t : Tree) (a s new : Spot) (x y z : Text) (old ahead : Ahead) (e : Path × Meta) → Prints t a x s y old → length y < 65536 → IsNext t s.last (Some e) ahead
+pub prints_on : (t : Tree) (a s new : PrintPosition) (x y z : Text) (old ahead : EntryReadahead) (e : Path × Meta) → Prints t a x s y old → length y < 65536 → IsNext t s.last (Some e) ahead
     → (IsPassed t s → IsNextAt t s.last e → Passes t s y new z) → (IsNextAt t s.last e → length z < 65536 → IsPassed t new) → new.last ≡ e.0 → Prints t a x new z ahead
 prints_on t a s new x y z old ahead e so_far short next passes passed last = record {
   passes = passes_then t a s new x y z so_far.passes (passes (so_far.passed short) next.0);
@@ -175,5 +175,5 @@ prints_on t a s new x y z old ahead e so_far short next passes passed last = rec
 }
 
 -- where none comes next, no line is left
-pub prints_end : (t : Tree) (a s : Spot) (x y : Text) (old ahead : Ahead) → Prints t a x s y old → IsNext t s.last None ahead → length y < 65536 → left_at t s ≡ []
+pub prints_end : (t : Tree) (a s : PrintPosition) (x y : Text) (old ahead : EntryReadahead) → Prints t a x s y old → IsNext t s.last None ahead → length y < 65536 → left_at t s ≡ []
 prints_end t a s x y old ahead so_far next short = ap (λ (l : Text). l ++ image_from (next_key (enc s.last)) t) (so_far.passed short) ∙ next.0

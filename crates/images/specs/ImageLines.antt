@@ -1,7 +1,7 @@
 -- The lines of an image as they are read.
 use Rattle.std.specs.Prelude.{◌≡◌, ◌≢◌, ℕ, ◌++◌, All, Option, Some, IfSome, MatchOption, option_map}
 use Rattle.reference.specs.Image.{Text, Version, moment_text, root_line}
-use Rattle.reference.specs.ImageLines.{Line, DirectoryLine, FileLine, BlockLine, spelled, IsLine, IsTold}
+use Rattle.reference.specs.ImageLines.{Line, DirectoryLine, FileLine, BlockLine, spelled, IsLine, IsReported}
 use Rattle.images.specs.declared.image_line.ImageLine.{ImageLine}
 use Rattle.images.specs.declared.image_line.ImageLine.TheVariants.{Directory, File, Block}
 
@@ -22,9 +22,9 @@ Spells v text read = MatchOption read ((l : Line) → IsLine v l → text ≢ sp
 
 -- the words of a line up to a moment, and the moment: where the version tells one it is the last word
 pub record CutsMoment (v : Version) (words : Text) (cut : Option (Text × ℕ)) : Type 0 where
-  pub valid : IfSome cut (λ c. IsTold v c.1)
-  pub complete : (front : Text) (at : ℕ) → All (λ b. b ≢ 32) front → IsTold v at → words ≡ front ++ moment_text v at → cut ≡ Some (front, at)
+  pub valid : IfSome cut (λ c. IsReported v c.1)
+  pub complete : (front : Text) (at : ℕ) → All (λ b. b ≢ 32) front → IsReported v at → words ≡ front ++ moment_text v at → cut ≡ Some (front, at)
 
 -- the version and the moment that the line of a root tells, or none where it is none
 abbrev pub IsRoot : Text → Option (Version × ℕ) → Type 0
-IsRoot line read = MatchOption read ((v : Version) (at : ℕ) → IsTold v at → line ≢ root_line v at) (λ r. IsTold r.0 r.1 × (line ≡ root_line r.0 r.1))
+IsRoot line read = MatchOption read ((v : Version) (at : ℕ) → IsReported v at → line ≢ root_line v at) (λ r. IsReported r.0 r.1 × (line ≡ root_line r.0 r.1))

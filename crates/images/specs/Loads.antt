@@ -3,7 +3,7 @@ use Rattle.std.specs.Prelude.{◌≡◌, ◌≢◌, ◌+◌, ◌*◌, ◌≤◌,
 use Rattle.std.specs.FinMap as finite
 use Rattle.std.specs.Io.KnownBytes.{Consumes, IsAtEnd}
 use Rattle.reference.specs.Image.{Text, Version, image, root_line}
-use Rattle.reference.specs.ImageLines.{Line, DirectoryLine, FileLine, Lines, AllTold, AreLines, IsBadAt, IsSomeImage, IsTold, MayFollow, image_of_lines, last_len, last_path, next_block, tree_of_lines}
+use Rattle.reference.specs.ImageLines.{Line, DirectoryLine, FileLine, Lines, AllReported, AreLines, IsBadAt, IsSomeImage, IsReported, MayFollow, image_of_lines, last_len, last_path, next_block, tree_of_lines}
 use Rattle.reference.specs.Shape.{IsTree}
 use Rattle.reference.specs.Tree.{Path, Tree, Dir, nothing, entry_at, moment_there}
 use Rattle.reference.specs.declared.call.Call.{Call}
@@ -12,8 +12,8 @@ use Rattle.reference.specs.declared.reply.Meta.TheVariants.{Dir as DirMeta, File
 use Rattle.reference.specs.declared.reply.Reply.TheVariants.{Count}
 use Rattle.reference.specs.Worlds.{World}
 use Rattle.images.specs.Image.{version_of}
-use Rattle.lines.specs.Held.{Holds, IsFree}
-use Rattle.images.specs.declared.load.Loading.{Loading}
+use Rattle.textio.specs.Held.{Holds, IsFree}
+use Rattle.images.specs.declared.load.LoadState.{LoadState}
 use Rattle.node.specs.declared.shape.Shape.{Shape}
 use Rattle.volume.specs.Changes.{Called}
 use Rattle.volume.specs.Marked.{PMarks, no_marks}
@@ -61,7 +61,7 @@ lines_so_far (Some b) = b.lines
 -- each line may follow those before it, and the root has a moment that the version may tell
 abbrev pub AreSoFar : Option Begun → Type 0
 AreSoFar None = ⊤
-AreSoFar (Some b) = IsTold b.version b.root × AreLines b.version b.lines
+AreSoFar (Some b) = IsReported b.version b.root × AreLines b.version b.lines
 
 abbrev pub tree_so_far : Option Begun → Tree
 tree_so_far None = Dir 0 nothing
@@ -72,7 +72,7 @@ count_so_far None = 0
 count_so_far (Some b) = length b.lines + 1
 
 -- these lines were loaded, and what is kept of them decides which line may follow
-pub record IsLoading (s : Option Begun) (l : Loading) : Type 0 where
+pub record IsLoading (s : Option Begun) (l : LoadState) : Type 0 where
   pub are : AreSoFar s
   pub means : Means l.volume (alone (tree_so_far s))
   pub version : IfSome s (λ b. version_of l.version ≡ b.version)
@@ -85,15 +85,15 @@ pub record IsLoading (s : Option Begun) (l : Loading) : Type 0 where
 -- ---- one line more
 
 -- the root's line was loaded
-abbrev pub LoadsRoot : Text → Loading → Loading → Type 0
+abbrev pub LoadsRoot : Text → LoadState → LoadState → Type 0
 LoadsRoot line old new = IsLoading None old → (b : Begun) × IsLoading (Some b) new × (b.lines ≡ []) × (line ≡ root_line b.version b.root)
 
 -- a line that may follow was loaded
-abbrev pub LoadsNext : Line → Loading → Loading → Type 0
+abbrev pub LoadsNext : Line → LoadState → LoadState → Type 0
 LoadsNext l old new = (b : Begun) → IsLoading (Some b) old → IsLoading (Some (with_line l b)) new
 
 -- a block of this number and of so many bytes lies at this place within the last file, behind the blocks before it
-pub record FitsAt (i len : ℕ) (l : Loading) (offset : ℕ) : Type 0 where
+pub record FitsAt (i len : ℕ) (l : LoadState) (offset : ℕ) : Type 0 where
   pub file : ℕ
   pub is_file : l.len ≡ Some file
   pub behind : l.next ≤ i
@@ -106,18 +106,18 @@ Counts call at old new = (n : ℕ) × Called call at (Count n) old new
 
 -- the line is that of no root
 abbrev pub IsNoRoot : Text → Type 0
-IsNoRoot line = (v : Version) (at : ℕ) → IsTold v at → line ≢ root_line v at
+IsNoRoot line = (v : Version) (at : ℕ) → IsReported v at → line ≢ root_line v at
 
 -- the line may not follow
-abbrev pub MayNotFollow : Line → Loading → Type 0
+abbrev pub MayNotFollow : Line → LoadState → Type 0
 MayNotFollow l old = (b : Begun) → IsLoading (Some b) old → MayFollow b.version l b.lines → ⊥
 
 -- a line was loaded
-abbrev pub LoadsLine : Text → Loading → Loading → Type 0
+abbrev pub LoadsLine : Text → LoadState → LoadState → Type 0
 LoadsLine line old new = (s : Option Begun) → IsLoading s old → (b : Begun) × IsLoading (Some b) new × (text_of b ≡ text_so_far s ++ (line ++ 10 ∷ []))
 
 -- a line does not leave an image
-abbrev pub RefusesLine : Text → Loading → Type 0
+abbrev pub RefusesLine : Text → LoadState → Type 0
 RefusesLine line old = (s : Option Begun) → IsLoading s old → IsFree line → IsSomeImage (text_so_far s ++ (line ++ 10 ∷ [])) → ⊥
 
 -- the line of an entry
@@ -133,31 +133,31 @@ len_of (FileMeta n at) = Some n
 -- ---- texts piece by piece
 
 -- of this text the whole lines were loaded, and what follows the last of them is held
-pub record HasRead (text items : Text) (l : Loading) : Type 0 where
+pub record HasRead (text items : Text) (l : LoadState) : Type 0 where
   pub so_far : Option Begun
-  pub loading : IsLoading so_far l
+  pub load_state : IsLoading so_far l
   pub left : Text
   pub cut : text ≡ text_so_far so_far ++ left
   pub holds : Holds left items
 
 -- a piece more was read
-abbrev pub LoadsPiece : Text → Text → Text → Loading → Loading → Type 0
+abbrev pub LoadsPiece : Text → Text → Text → LoadState → LoadState → Type 0
 LoadsPiece items piece items' old new = (text : Text) → HasRead text items old → HasRead (text ++ piece) items' new
 
 -- within the piece there is a line that does not leave an image, and n counts it
-abbrev pub RefusesPiece : Text → Text → ℕ → Loading → Type 0
+abbrev pub RefusesPiece : Text → Text → ℕ → LoadState → Type 0
 RefusesPiece items piece n old = (text rest : Text) → HasRead text items old → IsBadAt n (text ++ (piece ++ rest))
 
 -- at the end of the text: it is an image
-abbrev pub LoadsEnd : Text → Loading → Type 0
+abbrev pub LoadsEnd : Text → LoadState → Type 0
 LoadsEnd items l = (text : Text) → HasRead text items l → (b : Begun) × IsLoading (Some b) l × (text ≡ text_of b)
 
 -- or it is none, from the line that n counts
-abbrev pub RefusesEnd : Text → ℕ → Loading → Type 0
+abbrev pub RefusesEnd : Text → ℕ → LoadState → Type 0
 RefusesEnd items n l = (text : Text) → HasRead text items l → IsBadAt n text
 
 -- so far the reader gave a text, of which this was loaded and held
-abbrev pub ReadsSoFar : Option (List ℕ) → Option (List ℕ) → Text → Loading → Type 0
+abbrev pub ReadsSoFar : Option (List ℕ) → Option (List ℕ) → Text → LoadState → Type 0
 ReadsSoFar had has items l = (text : Text) × Consumes had has text × HasRead text items l
 
 -- the whole lines of a text are the first of an image, or there is none yet
@@ -177,7 +177,7 @@ pub record Loaded (text : Text) (v : PVolume) : Type 0 where
   pub tree : Tree
   pub is_tree : IsTree tree
   pub image_is : image version tree ≡ text
-  pub told : AllTold version tree
+  pub reported : AllReported version tree
   pub means : Means v (alone tree)
 
 -- the reader is at its end, and what it gave is an image, whose tree the volume means

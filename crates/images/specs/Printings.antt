@@ -4,19 +4,19 @@ use Rattle.std.specs.Coded.{Coded, code_by, coded×, coded_ℕ}
 use Rattle.reference.specs.Image.{Text, Second, image}
 use Rattle.reference.specs.Tree.{Tree}
 use Rattle.images.specs.Spots.{IsAhead, IsAt, left_at}
-use Rattle.images.specs.declared.ready.Ready.{Ready}
+use Rattle.images.specs.declared.ready.PrintedLines.{PrintedLines}
 use Rattle.volume.specs.Codes.{coded_rooted}
 use Rattle.volume.specs.Volumes.{MeanRooted}
-use Rattle.volume.specs.declared.rooted.Rooted.{Rooted}
+use Rattle.volume.specs.declared.fs_root.FsRoot.{FsRoot}
 
 -- a tree whose image is printed, and how many bytes of it were handed out
 pub record PPrinting : Type 0 where
-  pub tree : Rooted
+  pub tree : FsRoot
   pub done : ℕ
 
 -- it is stored as the pair of both
 abbrev pub printing_code : Coded PPrinting
-printing_code = code_by (Rooted × ℕ) (coded× coded_rooted coded_ℕ) (λ p. (p.tree, p.done)) (λ q. record { tree = q.0; done = q.1 }) (λ _. refl)
+printing_code = code_by (FsRoot × ℕ) (coded× coded_rooted coded_ℕ) (λ p. (p.tree, p.done)) (λ q. record { tree = q.0; done = q.1 }) (λ _. refl)
 
 -- the bytes of a text behind the first `done` come next: n of them stand at the front of the buffer, and the rest of it is as it was; there
 -- is none only where the text is at its end or the buffer has no room
@@ -32,11 +32,11 @@ pub record HandsOver (text : Text) (done n : ℕ) (old new : List ℕ) : Type 0 
 -- ---- within a printing
 
 -- what is ready to be handed out
-abbrev pub ready_text : Ready → Text
+abbrev pub ready_text : PrintedLines → Text
 ready_text r = drop r.used r.text.items
 
 -- what was handed out of the image of a tree, what is ready, and what is left behind that are all of it; entries behind were taken ahead
-pub record IsReadyFor (t : Tree) (r : Ready) : Type 0 where
+pub record IsReadyFor (t : Tree) (r : PrintedLines) : Type 0 where
   pub front : Text
   pub count : length front ≡ r.done
   pub split : image Second t ≡ front ++ (ready_text r ++ left_at t r.spot)
@@ -44,12 +44,12 @@ pub record IsReadyFor (t : Tree) (r : Ready) : Type 0 where
   pub ahead : IsAhead t r.spot.last r.ahead
 
 -- the same of each tree that is meant, and no more was handed out of the text than it has
-pub record IsReady (i : Rooted) (r : Ready) : Type 0 where
+pub record IsReady (i : FsRoot) (r : PrintedLines) : Type 0 where
   pub fits : r.used ≤ length r.text.items
   pub for_tree : (t : Tree) → MeanRooted i t → IsReadyFor t r
 
 -- so many bytes of what was ready stand at the front of a buffer
-pub record HandsOut (n : ℕ) (r : Ready) (old new : List ℕ) : Type 0 where
+pub record HandsOut (n : ℕ) (r : PrintedLines) (old new : List ℕ) : Type 0 where
   pub fits : n ≤ length old
   pub ready : n ≤ length (ready_text r)
   pub front : take n new ≡ take n (ready_text r)

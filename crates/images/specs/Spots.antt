@@ -7,24 +7,24 @@ use Rattle.reference.specs.Tree.{Path, Tree, entry_at}
 use Rattle.reference.specs.declared.reply.Meta.{Meta}
 use Rattle.reference.specs.declared.reply.Meta.TheVariants.{Dir as DirMeta, File as FileMeta}
 use Rattle.images.specs.Image.{EndsLine, blocks_left, entry_text, image_from}
-use Rattle.images.specs.declared.ahead.Ahead.{Ahead}
-use Rattle.images.specs.declared.spot.Spot.{Spot}
+use Rattle.images.specs.declared.ahead.EntryReadahead.{EntryReadahead}
+use Rattle.images.specs.declared.spot.PrintPosition.{PrintPosition}
 use Rattle.volume.specs.Walks.{IsEntry}
 
 -- the lines behind a place
-abbrev pub left_at : Tree → Spot → Text
+abbrev pub left_at : Tree → PrintPosition → Text
 left_at t s = blocks_left (entry_at t s.last) s.from ++ image_from (next_key (enc s.last)) t
 
 -- an entry of the tree stands before it
-abbrev pub IsAt : Tree → Spot → Type 0
+abbrev pub IsAt : Tree → PrintPosition → Type 0
 IsAt t s = (m : Meta) × IsEntry t s.last m
 
 -- all lines of that entry do
-abbrev pub IsPassed : Tree → Spot → Type 0
+abbrev pub IsPassed : Tree → PrintPosition → Type 0
 IsPassed t s = blocks_left (entry_at t s.last) s.from ≡ []
 
 -- the lines between two places were added to a text
-pub record Passes (t : Tree) (old : Spot) (had : Text) (new : Spot) (has : Text) : Type 0 where
+pub record Passes (t : Tree) (old : PrintPosition) (had : Text) (new : PrintPosition) (has : Text) : Type 0 where
   pub lines : Text
   pub added : has ≡ had ++ lines
   pub left : left_at t old ≡ lines ++ left_at t new
@@ -42,7 +42,7 @@ pub record AreFrom (t : Tree) (lo : Key) (n : ℕ) (es : List (Path × Meta)) : 
   pub complete : (p : Path) (m : Meta) → reaches lo (enc p) ≡ true → IsEntry t p m → Contains es (p, m) ⊎ ((length es ≡ n) × All (λ e. before (enc e.0) (enc p) ≡ true) es)
 
 -- entries that were taken ahead: the first behind the one at a path, and where `all` says so, no other is left
-pub record IsAhead (t : Tree) (last : Path) (a : Ahead) : Type 0 where
+pub record IsAhead (t : Tree) (last : Path) (a : EntryReadahead) : Type 0 where
   pub count : ℕ
   pub are : AreFrom t (next_key (enc last)) count a.entries.items
   pub all : a.all ≡ true → length a.entries.items < count
@@ -53,7 +53,7 @@ pub record IsNextAt (t : Tree) (last : Path) (e : Path × Meta) : Type 0 where
   pub left : image_from (next_key (enc last)) t ≡ entry_text e.0 e.1 ++ left_at t (record { last = e.0; from = 0 })
 
 -- the entry that comes next, with those ahead behind it; none only where no line comes next
-abbrev pub IsNext : Tree → Path → Option (Path × Meta) → Ahead → Type 0
+abbrev pub IsNext : Tree → Path → Option (Path × Meta) → EntryReadahead → Type 0
 IsNext t last None a = (image_from (next_key (enc last)) t ≡ []) × IsAhead t last a
 IsNext t last (Some e) a = IsNextAt t last e × IsAhead t e.0 a
 

@@ -6,30 +6,30 @@ use Rattle.reference.specs.ImageLines.{IsBadAt}
 use Rattle.images.specs.Loads.{HasRead, Loaded, form_of, new_form}
 use Rattle.images.specs.declared.load.LoadFault.{LoadFault}
 use Rattle.images.specs.declared.load.LoadFault.TheVariants.{Memory, Bad}
-use Rattle.images.specs.declared.loader.Loader.{Loader}
-use Rattle.images.specs.declared.loader.Intake.{Intake}
-use Rattle.images.specs.declared.loader.Intake.TheVariants.{Open, Starved, Spoiled}
+use Rattle.images.specs.declared.loader.ImageLoader.{ImageLoader}
+use Rattle.images.specs.declared.loader.FeedOutcome.{FeedOutcome}
+use Rattle.images.specs.declared.loader.FeedOutcome.TheVariants.{Open, Starved, Spoiled}
 use Rattle.node.specs.declared.shape.Shape.{Shape}
 use Rattle.volume.specs.Volumes.{PVolume}
 
 -- what is answered to the last piece, and to each one behind a refusal
-abbrev pub answer_of : Intake → Result (Unit {0}) LoadFault
+abbrev pub answer_of : FeedOutcome → Result (Unit {0}) LoadFault
 answer_of Open = Ok tt
 answer_of Starved = Err Memory
 answer_of (Spoiled n) = Err (Bad n)
 
 -- the text was taken, into trees of the shape; or memory was refused on the way; or it is no image from the line of a number on,
 -- whatever follows
-abbrev pub TookBy : Intake → Shape → Text → Loader → Type 0
-TookBy Open shape text l = HasRead text l.held.items l.loading × (form_of l.loading.volume ≡ new_form shape)
+abbrev pub TookBy : FeedOutcome → Shape → Text → ImageLoader → Type 0
+TookBy Open shape text l = HasRead text l.held.items l.load_state × (form_of l.load_state.volume ≡ new_form shape)
 TookBy Starved shape text l = ⊤
 TookBy (Spoiled n) shape text l = (rest : Text) → IsBadAt n (text ++ rest)
 
-abbrev pub Took : Shape → Text → Loader → Type 0
+abbrev pub Took : Shape → Text → ImageLoader → Type 0
 Took shape text l = TookBy l.intake shape text l
 
 -- nothing was taken yet, and nothing refused
-abbrev pub IsFresh : Shape → Loader → Type 0
+abbrev pub IsFresh : Shape → ImageLoader → Type 0
 IsFresh shape l = (l.intake ≡ Open) × Took shape [] l
 
 -- the volume means the tree whose image the text is, in trees of the shape and without marks
@@ -37,9 +37,9 @@ abbrev pub LoadedIn : Shape → Text → PVolume → Type 0
 LoadedIn shape text v = Loaded text v × (form_of v ≡ new_form shape)
 
 -- the reader gave a text, which was taken
-abbrev pub TakesSoFar : Shape → Option (List ℕ) → Option (List ℕ) → Loader → Type 0
+abbrev pub TakesSoFar : Shape → Option (List ℕ) → Option (List ℕ) → ImageLoader → Type 0
 TakesSoFar shape had has l = (text : Text) × Consumes had has text × (l.intake ≡ Open) × Took shape text l
 
 -- and it is at its end
-abbrev pub TakesAll : Shape → Option (List ℕ) → Option (List ℕ) → Loader → Type 0
+abbrev pub TakesAll : Shape → Option (List ℕ) → Option (List ℕ) → ImageLoader → Type 0
 TakesAll shape had has l = TakesSoFar shape had has l × IsAtEnd has

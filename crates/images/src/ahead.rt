@@ -18,19 +18,19 @@ const PIECE: usize = 256;
 
 /// The entries behind one that is told, as far as they were taken.
 #[derive(Drop)]
-pub(crate) struct Ahead {
+pub(crate) struct EntryReadahead {
     /// They stand in key order, each with its path.
     pub(crate) entries: VecDeque<(Path, Meta)>,
     /// Whether no other entry is left.
     pub(crate) all: bool,
 }
 
-impl Ahead {
+impl EntryReadahead {
     /// None was taken.
-    pub(crate) fn new(alloc: Global) -> Ahead
+    pub(crate) fn new(alloc: Global) -> EntryReadahead
         ensures { (t : Tree) (last : Path) → IsAhead t last result }
     {
-        Ahead {
+        EntryReadahead {
             entries: VecDeque::new(alloc),
             all: false,
         }

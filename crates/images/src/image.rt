@@ -6,17 +6,17 @@ ghost use Rattle.reference.specs.Tree.{Tree};
 ghost use Rattle.images.specs.Image.{AppendsLines, directory_text, file_text, version_of};
 ghost use Rattle.images.specs.Spots.{IsAhead};
 ghost use Rattle.images.specs.declared.image.ImageFault.TheVariants as fault;
-ghost use Rattle.lines.specs.Parts.{AppendsPart};
+ghost use Rattle.textio.specs.Parts.{AppendsPart};
 ghost use Rattle.volume.specs.Volumes.{MeanRooted};
 
-use crate::ahead::Ahead;
-use crate::spot::{ENOUGH, Spot};
+use crate::ahead::EntryReadahead;
+use crate::spot::{ENOUGH, PrintPosition};
 use crate::version::{ImageVersion, directory_word, file_word};
-use lines::output::{WriteFailed, put};
-use lines::text::{put_hex, put_number, put_number_line, put_path};
 use pathkey::{NoMemory, Path};
 use std::alloc::Global;
 use std::io::Write;
+use textio::output::{WriteFailed, put};
+use textio::text::{put_hex, put_number, put_number_line, put_path};
 use thiserror::Error;
 use volume::{BlockWalk, Frozen};
 
@@ -61,22 +61,22 @@ pub fn print_image<W: Write>(
     ensures memory { (t : Tree) → MeanRooted frozen.now t → result ≡ Err ImageFault.Memory → AppendsLines (W.contents writer.old) (W.contents writer.new) (image Second t) }
 {
     let mut text = Vec::new(alloc);
-    let mut spot = Spot::behind_root(alloc);
-    let mut ahead = Ahead::new(alloc);
-    let told = print_all(alloc, frozen, &mut spot, &mut ahead, &mut text, writer);
+    let mut spot = PrintPosition::behind_root(alloc);
+    let mut ahead = EntryReadahead::new(alloc);
+    let reported = print_all(alloc, frozen, &mut spot, &mut ahead, &mut text, writer);
     // Let go by calls, so that the proof costs less.
     drop(ahead);
     drop(spot);
     drop(text);
-    told
+    reported
 }
 
 /// Writes the image of a tree, or a beginning of it, with a place behind the root, where nothing was taken ahead, and a text to print into.
 fn print_all<W: Write>(
     alloc: Global,
     frozen: &Frozen,
-    spot: &mut Spot,
-    ahead: &mut Ahead,
+    spot: &mut PrintPosition,
+    ahead: &mut EntryReadahead,
     text: &mut Vec<u8>,
     writer: &mut W,
 ) -> Result<(), ImageFault>

@@ -2,7 +2,7 @@
 ghost use Rattle.std.specs.Prelude.{◌≡◌, ◌≢◌, ◌↔◌, true, ◌++◌, ◌∷◌, ◌^◌, ◌<◌, ◌≤◌, [], Some, IfOk, IfSome, MatchOption, option_map};
 ghost use Rattle.pathkey.specs.Names.{IsPath, Path as Names};
 ghost use Rattle.reference.specs.Image.{Second, directory_letter, file_letter, moment_text, path_text, two_digits};
-ghost use Rattle.reference.specs.ImageLines.{IsBlock, IsLine, IsTold, spelled};
+ghost use Rattle.reference.specs.ImageLines.{IsBlock, IsLine, IsReported, spelled};
 ghost use Rattle.std.specs.Prelude.{List, ℕ, decimal, flat_map};
 ghost use Rattle.images.specs.Image.{version_of};
 ghost use Rattle.images.specs.ImageLines.{CutsMoment, Guesses, IsRoot, Spells, line_of};
@@ -13,12 +13,12 @@ use block_index::block::BLOCK;
 use bytes::Bytes;
 use hex::FromHexError;
 use itoa::Buffer;
-use lines::output::WriteFailed;
-use lines::values::{read_number, read_path};
-use lines::words::cut_space;
 use pathkey::{Errno, NoMemory, Path};
 use reference::GREATEST_FILE;
 use std::alloc::Global;
+use textio::output::WriteFailed;
+use textio::values::{read_number, read_path};
+use textio::words::split_space;
 
 /// A line of an image below the root's.
 #[derive(Drop)]
@@ -42,7 +42,7 @@ pub fn read_image_line(
 ) -> Result<Option<ImageLine>, NoMemory>
     ensures { IfOk result (Spells (version_of version) text.now) }
 {
-    let Some(line) = guess_line(alloc, version, text)? else {
+    let Some(line) = parse_unchecked_line(alloc, version, text)? else {
         return Ok(None);
     };
     let written = write_line(alloc, version, &line, text.len())?;
@@ -92,21 +92,21 @@ fn put_line(text: &mut Vec<u8>, version: ImageVersion, line: &ImageLine) -> Resu
 }
 
 /// The line that a text seems to spell: it is the one that it spells in the version, if it spells one.
-fn guess_line(
+fn parse_unchecked_line(
     alloc: Global,
     version: ImageVersion,
     text: &[u8],
 ) -> Result<Option<ImageLine>, NoMemory>
     ensures { IfOk result (Guesses (version_of version) text.now) }
 {
-    let Some((kind, rest)) = cut_space(text) else {
+    let Some((kind, rest)) = split_space(text) else {
         return Ok(None);
     };
     if kind == directory_letter(version) {
-        return guess_directory(alloc, version, rest);
+        return parse_unchecked_directory(alloc, version, rest);
     }
     if kind == file_letter(version) {
-        return guess_file(alloc, version, rest);
+        return parse_unchecked_file(alloc, version, rest);
     }
     if kind == b"b".as_slice() {
         return guess_block(alloc, version, rest);
@@ -115,7 +115,7 @@ fn guess_line(
 }
 
 /// The line of a directory, from its path and its moment.
-fn guess_directory(
+fn parse_unchecked_directory(
     alloc: Global,
     version: ImageVersion,
     words: &[u8],
@@ -132,14 +132,14 @@ fn guess_directory(
 }
 
 /// The line of a file, from its path, its length and its moment.
-fn guess_file(
+fn parse_unchecked_file(
     alloc: Global,
     version: ImageVersion,
     words: &[u8],
 ) -> Result<Option<ImageLine>, NoMemory>
     ensures { IfOk result (Guesses (version_of version) (file_letter (version_of version) ∷ 32 ∷ words.now)) }
 {
-    let Some((word, numbers)) = cut_space(words) else {
+    let Some((word, numbers)) = split_space(words) else {
         return Ok(None);
     };
     let Some((len, at)) = cut_len(version, numbers) else {
@@ -153,8 +153,8 @@ fn guess_file(
 
 /// The length and the moment that end the line of a file.
 fn cut_len(version: ImageVersion, numbers: &[u8]) -> Option<(u64, u64)>
-    ensures valid { IfSome result (λ r. (r.0 ≤ 2 ^ 40) × IsTold (version_of version) r.1) }
-    ensures complete { (n at : ℕ) → n ≤ 2 ^ 40 → IsTold (version_of version) at → numbers.now ≡ decimal n ++ moment_text (version_of version) at → result ≡ Some (n, at) }
+    ensures valid { IfSome result (λ r. (r.0 ≤ 2 ^ 40) × IsReported (version_of version) r.1) }
+    ensures complete { (n at : ℕ) → n ≤ 2 ^ 40 → IsReported (version_of version) at → numbers.now ≡ decimal n ++ moment_text (version_of version) at → result ≡ Some (n, at) }
 {
     let Some((number, at)) = cut_moment(version, numbers) else {
         return None;
@@ -182,7 +182,7 @@ fn cut_moment(version: ImageVersion, words: &[u8]) -> Option<(&[u8], u64)>
 fn cut_last(words: &[u8]) -> Option<(&[u8], u64)>
     ensures { CutsMoment Second words.now (option_map (λ r. (r.0.now, r.1)) result) }
 {
-    let Some((front, number)) = cut_space(words) else {
+    let Some((front, number)) = split_space(words) else {
         return None;
     };
     let Some(at) = read_number(number) else {
@@ -237,7 +237,7 @@ fn guess_block(
 ) -> Result<Option<ImageLine>, NoMemory>
     ensures { IfOk result (Guesses (version_of version) (98 ∷ 32 ∷ words.now)) }
 {
-    let Some((number, hex)) = cut_space(words) else {
+    let Some((number, hex)) = split_space(words) else {
         return Ok(None);
     };
     let Some(number) = read_number(number) else {

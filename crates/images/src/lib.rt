@@ -16,6 +16,6 @@ pub mod version;
 
 pub use image::{ImageFault, print_image};
 pub use load::{LoadFault, load_image, load_text};
-pub use loader::Loader;
-pub use printing::Printing;
+pub use loader::ImageLoader;
+pub use printing::ImagePrinter;
 pub use version::ImageVersion;

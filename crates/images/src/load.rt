@@ -12,7 +12,7 @@ ghost use Rattle.reference.specs.Plant.{modified_of};
 ghost use Rattle.reference.specs.declared.reply.Meta.{Meta as MetaValue};
 ghost use Rattle.volume.specs.Plants.{Plants};
 ghost use Rattle.reference.specs.declared.call.Call.TheVariants.{Write};
-ghost use Rattle.reference.specs.ImageLines.{IsBadAt, IsBlock, IsLine, IsTold, Line};
+ghost use Rattle.reference.specs.ImageLines.{IsBadAt, IsBlock, IsLine, IsReported, Line};
 ghost use Rattle.reference.specs.ImageLines.{BlockLine, DirectoryLine, FileLine};
 ghost use Rattle.images.specs.Image.{version_of};
 ghost use Rattle.images.specs.ImageLines.{line_of};
@@ -20,19 +20,19 @@ ghost use Rattle.images.specs.Loads.{Counts, FitsAt, HasBegun, IsBadIn, IsNoRoot
 ghost use Rattle.images.specs.Taken.{IsFresh, LoadedIn, TakesAll};
 
 use crate::image_line::{ImageLine, read_image_line, read_root};
-use crate::loader::Loader;
+use crate::loader::ImageLoader;
 use crate::version::ImageVersion;
 use block_index::block::BLOCK;
 use bytes::Bytes;
-use lines::held::{LONGEST_LINE, PIECE, hold};
-use lines::input::read_some;
-use lines::words::cut_line;
 use node::Shape;
 use pathkey::{Errno, NoMemory, Path};
 use reference::Meta;
 use std::alloc::Global;
 use std::cmp::Ordering;
 use std::io::Read;
+use textio::input::read_some;
+use textio::line_buffer::{LONGEST_LINE, READ_SIZE, push_limited};
+use textio::words::split_line;
 use thiserror::Error;
 use volume::Volume;
 
@@ -63,7 +63,7 @@ pub fn load_image<R: Read>(alloc: Global, shape: Shape, reader: &mut R) -> Resul
     ensures shape { (result ≡ Err LoadFault.Shape) ↔ (is_shape shape ≡ false) }
     ensures read { result ≡ Err LoadFault.Read → HasBegun (R.remaining reader.old) (R.remaining reader.new) }
 {
-    match Loader::new(alloc, shape) {
+    match ImageLoader::new(alloc, shape) {
         Ok(loader) => load_pieces(alloc, loader, reader),
         Err(fault) => Err(fault),
     }
@@ -78,20 +78,20 @@ pub fn load_text(alloc: Global, shape: Shape, text: &[u8]) -> Result<Volume, Loa
     ensures shape { (result ≡ Err LoadFault.Shape) ↔ (is_shape shape ≡ false) }
     ensures read { result ≢ Err LoadFault.Read }
 {
-    match Loader::new(alloc, shape) {
+    match ImageLoader::new(alloc, shape) {
         Ok(loader) => load_whole(alloc, loader, text),
         Err(fault) => Err(fault),
     }
 }
 
 /// The volume of a text, by a loader that took nothing yet.
-fn load_whole(alloc: Global, mut loader: Loader, text: &[u8]) -> Result<Volume, LoadFault>
+fn load_whole(alloc: Global, mut loader: ImageLoader, text: &[u8]) -> Result<Volume, LoadFault>
     ensures loaded { (s : TreeShape) → IsFresh s loader → IfOk result (LoadedIn s text.now) }
     ensures bad { (s : TreeShape) (n : ℕ) → IsFresh s loader → result ≡ Err (LoadFault.Bad n) → IsBadAt n text.now }
     ensures shape { result ≢ Err LoadFault.Shape }
     ensures read { result ≢ Err LoadFault.Read }
 {
-    if let Err(fault) = loader.take(alloc, text) {
+    if let Err(fault) = loader.feed(alloc, text) {
         // Let go by a call, so that the proof costs less.
         drop(loader);
         return Err(fault);
@@ -102,7 +102,7 @@ fn load_whole(alloc: Global, mut loader: Loader, text: &[u8]) -> Result<Volume, 
 /// The volume of what a reader gives, by a loader that took nothing yet.
 fn load_pieces<R: Read>(
     alloc: Global,
-    mut loader: Loader,
+    mut loader: ImageLoader,
     reader: &mut R,
 ) -> Result<Volume, LoadFault>
     ensures loaded { (s : TreeShape) → IsFresh s loader → IfOk result (λ v. LoadsAll (R.remaining reader.old) (R.remaining reader.new) v × (form_of v ≡ new_form s)) }
@@ -111,7 +111,7 @@ fn load_pieces<R: Read>(
     ensures read { (s : TreeShape) → IsFresh s loader → result ≡ Err LoadFault.Read → HasBegun (R.remaining reader.old) (R.remaining reader.new) }
 {
     // What is not handed on is let go by calls, so that the proof costs less.
-    let Ok(mut piece) = Vec::from_elem(alloc, 0u8, PIECE) else {
+    let Ok(mut piece) = Vec::from_elem(alloc, 0u8, READ_SIZE) else {
         drop(loader);
         return Err(LoadFault::Memory);
     };
@@ -127,7 +127,7 @@ fn load_pieces<R: Read>(
 /// Reads and takes piece after piece, in the given buffer, until the reader is at its end.
 fn take_all<R: Read>(
     alloc: Global,
-    loader: &mut Loader,
+    loader: &mut ImageLoader,
     reader: &mut R,
     piece: &mut [u8],
 ) -> Result<(), LoadFault>
@@ -145,7 +145,7 @@ fn take_all<R: Read>(
         if n == 0 {
             return Ok(());
         }
-        if let Err(fault) = loader.take(alloc, &piece[..n]) {
+        if let Err(fault) = loader.feed(alloc, &piece[..n]) {
             return Err(fault);
         }
     }
@@ -154,7 +154,7 @@ fn take_all<R: Read>(
 
 /// A volume that is loaded line by line, and what decides which line may follow.
 #[derive(Drop)]
-pub struct Loading {
+pub struct LoadState {
     /// The tree of the lines so far.
     pub volume: Volume,
     /// The version of the image, once its first line was loaded.
@@ -171,13 +171,13 @@ pub struct Loading {
     pub next: u64,
 }
 
-impl Loading {
+impl LoadState {
     /// Nothing is loaded into a volume that is new.
-    pub fn new(alloc: Global, volume: Volume) -> Loading
+    pub fn new(alloc: Global, volume: Volume) -> LoadState
         ensures volume { result.volume ≡ volume }
         ensures nothing { (result.lines ≡ 0) × (result.last ≡ []) × (result.modified ≡ 0) × (result.len ≡ None) × (result.next ≡ 0) }
     {
-        Loading {
+        LoadState {
             volume,
             version: ImageVersion::Second,
             lines: 0,
@@ -204,13 +204,13 @@ impl Loading {
         ensures read { result ≢ Err LoadFault.Read }
     {
         let mut rest = piece;
-        while let Some((end, after)) = cut_line(rest) {
+        while let Some((end, after)) = split_line(rest) {
             if let Err(fault) = self.end_line(alloc, held, end) {
                 return Err(fault);
             }
             rest = after;
         }
-        hold(held, rest);
+        push_limited(held, rest);
         Ok(())
     }
 
@@ -229,7 +229,7 @@ impl Loading {
         if held.is_empty() {
             return self.take_line(alloc, end, number);
         }
-        hold(held, end);
+        push_limited(held, end);
         if let Err(fault) = self.take_line(alloc, held.as_slice(), number) {
             return Err(fault);
         }
@@ -295,19 +295,19 @@ impl Loading {
     fn take_read(
         &mut self,
         alloc: Global,
-        told: Option<ImageLine>,
+        reported: Option<ImageLine>,
         number: u64,
     ) -> Result<(), LoadFault>
-        requires line { IfSome told (λ l. IsLine (version_of self.old.version) (line_of l)) }
+        requires line { IfSome reported (λ l. IsLine (version_of self.old.version) (line_of l)) }
         requires number { number ≡ self.old.lines + 1 }
-        ensures ok { OnOk result (MatchOption told ⊥ (λ l. LoadsNext (line_of l) self.old self.new)) }
+        ensures ok { OnOk result (MatchOption reported ⊥ (λ l. LoadsNext (line_of l) self.old self.new)) }
         ensures form { OnOk result (form_of self.new.volume ≡ form_of self.old.volume) }
-        ensures bad { (n : ℕ) → result ≡ Err (LoadFault.Bad n) → (n ≡ number) × IfSome told (λ l. MayNotFollow (line_of l) self.old) }
-        ensures none { told ≡ None → result ≡ Err (LoadFault.Bad number) }
+        ensures bad { (n : ℕ) → result ≡ Err (LoadFault.Bad n) → (n ≡ number) × IfSome reported (λ l. MayNotFollow (line_of l) self.old) }
+        ensures none { reported ≡ None → result ≡ Err (LoadFault.Bad number) }
         ensures shape { result ≢ Err LoadFault.Shape }
         ensures read { result ≢ Err LoadFault.Read }
     {
-        match told {
+        match reported {
             Some(line) => self.take_next(alloc, line, number),
             None => Err(LoadFault::Bad(number)),
         }
@@ -366,7 +366,7 @@ impl Loading {
     ) -> Result<(), LoadFault>
         requires number { number ≡ self.old.lines + 1 }
         requires path { path ≢ [] }
-        requires told { IsTold (version_of self.old.version) (modified_of meta) }
+        requires reported { IsReported (version_of self.old.version) (modified_of meta) }
         ensures ok { OnOk result (LoadsNext (entry_line path meta) self.old self.new) }
         ensures form { OnOk result (form_of self.new.volume ≡ form_of self.old.volume) }
         ensures bad { (n : ℕ) → result ≡ Err (LoadFault.Bad n) → (n ≡ number) × MayNotFollow (entry_line path meta) self.old }

@@ -1,15 +1,15 @@
 //! A volume that is loaded of an image piece by piece.
 ghost use Rattle.std.specs.Prelude.{◌<◌, vec_capacity};
 
-use crate::load::{LoadFault, Loading};
-use lines::held::LONGEST_LINE;
+use crate::load::{LoadFault, LoadState};
 use node::Shape;
 use std::alloc::Global;
+use textio::line_buffer::LONGEST_LINE;
 use volume::Volume;
 
 /// What became of the pieces so far.
 #[derive(Clone, Copy, Debug, PartialEq, Eq)]
-pub enum Intake {
+pub enum FeedOutcome {
     /// All were taken.
     Open,
     /// Memory was refused.
@@ -22,14 +22,14 @@ pub enum Intake {
 ///
 /// What was refused stays refused: each later piece and the end are answered the same.
 #[derive(Drop)]
-pub struct Loader {
-    pub(crate) loading: Loading,
+pub struct ImageLoader {
+    pub(crate) load_state: LoadState,
     pub(crate) held: Vec<u8>,
-    pub(crate) intake: Intake,
+    pub(crate) intake: FeedOutcome,
     ghost room: { 65536 < vec_capacity held },
 }
 
-impl Loader {
+impl ImageLoader {
     ghost use Rattle.std.specs.Prelude.{◌≡◌, ◌≢◌, ◌↔◌, ◌⊎◌, ◌++◌, ℕ, List, Err, IfErr, IfOk, OnOk, false};
     ghost use Rattle.node.specs.Shapes.{is_shape};
     ghost use Rattle.node.specs.declared.shape.Shape.{Shape as TreeShape};
@@ -41,7 +41,7 @@ impl Loader {
 
     /// A loader that took nothing yet, for a new volume in trees of this shape. It fails where the shape is not ok, and where memory
     /// is refused.
-    pub fn new(alloc: Global, shape: Shape) -> Result<Loader, LoadFault>
+    pub fn new(alloc: Global, shape: Shape) -> Result<ImageLoader, LoadFault>
         ensures fresh { IfOk result (IsFresh shape) }
         ensures shape { (result ≡ Err LoadFault.Shape) ↔ (is_shape shape ≡ false) }
         ensures refused { IfErr result (λ e. (e ≡ LoadFault.Shape) ⊎ (e ≡ LoadFault.Memory)) }
@@ -50,14 +50,14 @@ impl Loader {
             return Err(LoadFault::Shape);
         }
         match Volume::new(alloc, shape) {
-            Ok(volume) => Loader::over(alloc, volume),
+            Ok(volume) => ImageLoader::over(alloc, volume),
             // The shape is ok, so memory was refused.
             Err(_refused) => Err(LoadFault::Memory),
         }
     }
 
     // A loader that took nothing yet, for a volume that is new.
-    fn over(alloc: Global, volume: Volume) -> Result<Loader, LoadFault>
+    fn over(alloc: Global, volume: Volume) -> Result<ImageLoader, LoadFault>
         requires { Means volume (alone (Dir 0 nothing)) }
         ensures fresh { (shape : TreeShape) → form_of volume ≡ new_form shape → IfOk result (IsFresh shape) }
         ensures refused { IfErr result (λ e. e ≡ LoadFault.Memory) }
@@ -67,16 +67,16 @@ impl Loader {
             drop(volume);
             return Err(LoadFault::Memory);
         };
-        Ok(Loader {
-            loading: Loading::new(alloc, volume),
+        Ok(ImageLoader {
+            load_state: LoadState::new(alloc, volume),
             held,
-            intake: Intake::Open,
+            intake: FeedOutcome::Open,
         })
     }
 
     /// Takes the next piece of the text. It fails where memory is refused, and where the text is no image whatever follows: `Bad` has the
     /// number of the first line with which it is none. Behind a refusal it changes nothing.
-    pub fn take(&mut self, alloc: Global, piece: &[u8]) -> Result<(), LoadFault>
+    pub fn feed(&mut self, alloc: Global, piece: &[u8]) -> Result<(), LoadFault>
         ensures took { (shape : TreeShape) (text : List ℕ) → Took shape text self.old → Took shape (text ++ piece.now) self.new }
         ensures answer { result ≡ answer_of self.new.intake }
         ensures refused { IfErr (answer_of self.old.intake) (λ _. self.new ≡ self.old) }
@@ -84,8 +84,8 @@ impl Loader {
         if let Err(fault) = self.answer() {
             return Err(fault);
         }
-        let taken = self.loading.take_piece(alloc, &mut self.held, piece);
-        self.intake = Loader::intake_of(&taken);
+        let taken = self.load_state.take_piece(alloc, &mut self.held, piece);
+        self.intake = ImageLoader::intake_of(&taken);
         taken
     }
 
@@ -98,18 +98,18 @@ impl Loader {
         ensures shape { result ≢ Err LoadFault.Shape }
         ensures read { result ≢ Err LoadFault.Read }
     {
-        let told = self.ended();
-        let Loader {
-            loading,
+        let reported = self.ended();
+        let ImageLoader {
+            load_state,
             held,
             intake: _,
         } = self;
         // What is not handed on is let go by calls, so that the proof costs less.
         drop(held);
-        match told {
-            Ok(()) => Ok(loading.volume),
+        match reported {
+            Ok(()) => Ok(load_state.volume),
             Err(fault) => {
-                drop(loading);
+                drop(load_state);
                 Err(fault)
             }
         }
@@ -117,7 +117,7 @@ impl Loader {
 
     // Whether the text that was taken is an image.
     fn ended(&self) -> Result<(), LoadFault>
-        ensures ok { (shape : TreeShape) (text : List ℕ) → Took shape text self.now → OnOk result (LoadedIn shape text self.now.loading.volume) }
+        ensures ok { (shape : TreeShape) (text : List ℕ) → Took shape text self.now → OnOk result (LoadedIn shape text self.now.load_state.volume) }
         ensures bad { (shape : TreeShape) (text : List ℕ) (n : ℕ) → Took shape text self.now → result ≡ Err (LoadFault.Bad n) → IsBadAt n text }
         ensures refused { IfErr (answer_of self.now.intake) (λ e. result ≡ Err e) }
         ensures shape { result ≢ Err LoadFault.Shape }
@@ -126,7 +126,7 @@ impl Loader {
         if let Err(fault) = self.answer() {
             return Err(fault);
         }
-        self.loading.end(self.held.as_slice())
+        self.load_state.end(self.held.as_slice())
     }
 
     // What is answered to the last piece.
@@ -134,23 +134,23 @@ impl Loader {
         ensures { result ≡ answer_of self.now.intake }
     {
         match self.intake {
-            Intake::Open => Ok(()),
-            Intake::Starved => Err(LoadFault::Memory),
-            Intake::Spoiled(number) => Err(LoadFault::Bad(number)),
+            FeedOutcome::Open => Ok(()),
+            FeedOutcome::Starved => Err(LoadFault::Memory),
+            FeedOutcome::Spoiled(number) => Err(LoadFault::Bad(number)),
         }
     }
 
     // What became of a piece.
-    fn intake_of(taken: &Result<(), LoadFault>) -> Intake
+    fn intake_of(taken: &Result<(), LoadFault>) -> FeedOutcome
         requires shape { taken.now ≢ Err LoadFault.Shape }
         requires read { taken.now ≢ Err LoadFault.Read }
         ensures { answer_of result ≡ taken.now }
     {
         match taken {
-            Ok(()) => Intake::Open,
-            Err(LoadFault::Bad(number)) => Intake::Spoiled(*number),
+            Ok(()) => FeedOutcome::Open,
+            Err(LoadFault::Bad(number)) => FeedOutcome::Spoiled(*number),
             // `Memory`: a piece is never answered `Shape` or `Read`.
-            Err(_) => Intake::Starved,
+            Err(_) => FeedOutcome::Starved,
         }
     }
 }

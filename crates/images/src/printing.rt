@@ -1,7 +1,7 @@
 //! An image on its way out, piece by piece, so that no image has to fit into memory.
 ghost use Rattle.std.specs.Prelude.{◌≡◌, ◌+◌, IfOk, OnErr};
 
-use crate::ready::Ready;
+use crate::ready::PrintedLines;
 use pathkey::NoMemory;
 use std::alloc::Global;
 use std::marker::Model;
@@ -10,12 +10,12 @@ use volume::Frozen;
 /// The image of a tree that stands still, in version 2, on its way out. Contracts see the tree, and how many bytes of its image were
 /// handed out.
 #[derive(Drop)]
-pub struct Printing {
+pub struct ImagePrinter {
     frozen: Frozen,
-    ready: Ready,
+    ready: PrintedLines,
 }
 
-impl Model for Printing {
+impl Model for ImagePrinter {
     ghost use Rattle.images.specs.Printings.{IsReady, PPrinting, printing_code};
 
     ghost Value = { PPrinting };
@@ -27,18 +27,18 @@ impl Model for Printing {
     ghost invariant = { λ p. IsReady p.frozen p.ready };
 }
 
-impl Printing {
+impl ImagePrinter {
     ghost use Rattle.reference.specs.Image.{Second, image};
     ghost use Rattle.reference.specs.Tree.{Tree};
     ghost use Rattle.images.specs.Printings.{HandsOver};
     ghost use Rattle.volume.specs.Volumes.{MeanRooted};
 
     /// Nothing was handed out. The printing owns the tree.
-    pub fn new(alloc: Global, frozen: Frozen) -> Result<Printing, NoMemory>
+    pub fn new(alloc: Global, frozen: Frozen) -> Result<ImagePrinter, NoMemory>
         ensures { IfOk result (λ p. p ≡ record { tree = frozen; done = 0 }) }
     {
-        match Ready::new(alloc, &frozen) {
-            Ok(ready) => Ok(Printing { frozen, ready }),
+        match PrintedLines::new(alloc, &frozen) {
+            Ok(ready) => Ok(ImagePrinter { frozen, ready }),
             Err(NoMemory) => {
                 // Let go by a call, so that the proof costs less.
                 drop(frozen);

@@ -5,31 +5,31 @@ ghost use Rattle.images.specs.Printings.{HandsOut, IsReady, ready_text};
 ghost use Rattle.images.specs.Spots.{left_at};
 ghost use Rattle.volume.specs.Volumes.{MeanRooted};
 
-use crate::ahead::Ahead;
-use crate::spot::Spot;
-use lines::text::put_number_line;
+use crate::ahead::EntryReadahead;
+use crate::spot::PrintPosition;
 use pathkey::NoMemory;
 use std::alloc::Global;
+use textio::text::put_number_line;
 use volume::{BlockWalk, Frozen};
 
 /// Lines that are ready, and the place behind them.
 #[derive(Drop)]
-pub(crate) struct Ready {
+pub(crate) struct PrintedLines {
     /// The lines.
     pub(crate) text: Vec<u8>,
     /// How many bytes of them were handed out.
     pub(crate) used: usize,
     /// The place behind them.
-    pub(crate) spot: Spot,
+    pub(crate) spot: PrintPosition,
     /// Entries behind it that were taken already.
-    pub(crate) ahead: Ahead,
+    pub(crate) ahead: EntryReadahead,
     /// How many bytes of the image were handed out.
     pub(crate) done: u64,
 }
 
-impl Ready {
+impl PrintedLines {
     /// The line of the root is ready.
-    pub(crate) fn new(alloc: Global, frozen: &Frozen) -> Result<Ready, NoMemory>
+    pub(crate) fn new(alloc: Global, frozen: &Frozen) -> Result<PrintedLines, NoMemory>
         ensures { IfOk result (λ r. (r.done ≡ 0) × IsReady frozen.now r) }
     {
         let mut text = Vec::new(alloc);
@@ -37,11 +37,11 @@ impl Ready {
             // Writing into a text fails only for want of memory.
             return Err(NoMemory);
         };
-        Ok(Ready {
+        Ok(PrintedLines {
             text,
             used: 0,
-            spot: Spot::behind_root(alloc),
-            ahead: Ahead::new(alloc),
+            spot: PrintPosition::behind_root(alloc),
+            ahead: EntryReadahead::new(alloc),
             done: 0,
         })
     }

@@ -6,14 +6,14 @@ ghost use Rattle.images.specs.Image.{entry_text};
 ghost use Rattle.images.specs.Spots.{EndsBy, IsAhead, IsAt, IsNextAt, IsPassed, Passes, left_at, size_of};
 ghost use Rattle.volume.specs.Volumes.{MeanRooted};
 
-use crate::ahead::Ahead;
+use crate::ahead::EntryReadahead;
 use crate::image::{put_block, put_directory, put_file};
 use crate::version::ImageVersion;
 use block_index::block::BLOCK;
-use lines::output::WriteFailed;
 use pathkey::{NoMemory, Path};
 use reference::Meta;
 use std::alloc::Global;
+use textio::output::WriteFailed;
 use volume::{BlockWalk, Frozen};
 
 /// How many bytes of lines are printed in one go, and more where a line ends behind them.
@@ -21,30 +21,30 @@ pub(crate) const ENOUGH: usize = 65_536;
 
 /// A place between two lines of an image, behind the root's: behind the line of an entry, and behind those of its first blocks.
 #[derive(Drop)]
-pub(crate) struct Spot {
+pub(crate) struct PrintPosition {
     /// The path of the entry.
     pub(crate) last: Path,
     /// The number of its first block whose line is behind this place.
     pub(crate) from: u32,
 }
 
-impl Spot {
+impl PrintPosition {
     /// Behind the line of the root.
-    pub(crate) fn behind_root(alloc: Global) -> Spot
+    pub(crate) fn behind_root(alloc: Global) -> PrintPosition
         ensures { (result.last ≡ []) × (result.from ≡ 0) }
     {
-        Spot {
+        PrintPosition {
             last: Path::root(alloc),
             from: 0,
         }
     }
 
     /// A copy of the place.
-    pub(crate) fn copy(&self, alloc: Global) -> Result<Spot, NoMemory>
+    pub(crate) fn copy(&self, alloc: Global) -> Result<PrintPosition, NoMemory>
         ensures { IfOk result (λ s. s ≡ self.now) }
     {
         let last = self.last.copy(alloc)?;
-        Ok(Spot {
+        Ok(PrintPosition {
             last,
             from: self.from,
         })
@@ -57,7 +57,7 @@ impl Spot {
         &mut self,
         alloc: Global,
         frozen: &Frozen,
-        ahead: &mut Ahead,
+        ahead: &mut EntryReadahead,
         blocks: &mut BlockWalk,
         text: &mut Vec<u8>,
     ) -> Result<(), NoMemory>

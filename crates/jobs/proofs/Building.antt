@@ -14,14 +14,14 @@ use Rattle.node.specs.Subtrees.{IsSameSubtree, StaysSubtree}
 use Rattle.node.proofs.Appending.{value-taken, slot_count-taken, starts_at-taken}
 use Rattle.node.proofs.Sinking.{lawful-sunk}
 use Rattle.node.proofs.Sizes.{lawful_depth}
-use Rattle.flush.specs.Sunk.{GoneInto}
+use Rattle.flush.specs.Sunk.{ConsumedInto}
 use Rattle.jobs.specs.Content.{SameContent, job_content, done_content}
 use Rattle.jobs.specs.Job.{PJob, IsJob, IsSubtree, EndsLawfully}
 use Rattle.jobs.specs.Replies.{IsBuilt}
 
 module _ {U V : Type 0} (means : U → Option V → Option V) (S : Shape) (range : KeyRange) (ms : List (Msg U V)) where
   -- a node that has taken the messages is lawful where it was
-  lawful_built : (h : ℕ) (c d : PNode U V) → GoneInto means S.pending ms c d → TouchOnly range.lo range.hi ms → IsLawfulNode S c h range.lo range.hi → IsLawfulNode S d h range.lo range.hi
+  lawful_built : (h : ℕ) (c d : PNode U V) → ConsumedInto means S.pending ms c d → TouchOnly range.lo range.hi ms → IsLawfulNode S c h range.lo range.hi → IsLawfulNode S d h range.lo range.hi
   lawful_built h (leaf es) d t only l = absurd t
   lawful_built h (inner cs) (leaf es) t only l = absurd t
   lawful_built h (inner cs) (inner ds) t only l = (
@@ -33,7 +33,7 @@ module _ {U V : Type 0} (means : U → Option V → Option V) (S : Shape) (range
   )
 
   -- and means the messages on what it meant
-  value_built : (h : ℕ) (c d : PNode U V) → GoneInto means S.pending ms c d → IsLawfulNode S c h range.lo range.hi → (k : List ℕ) → within range.lo range.hi k ≡ true → value means d k ≡ effects means ms k (value means c k)
+  value_built : (h : ℕ) (c d : PNode U V) → ConsumedInto means S.pending ms c d → IsLawfulNode S c h range.lo range.hi → (k : List ℕ) → within range.lo range.hi k ≡ true → value means d k ≡ effects means ms k (value means c k)
   value_built h (leaf es) d t l k w = absurd t
   value_built h (inner cs) (leaf es) t l k w = absurd t
   value_built h (inner none) (inner ds) t l k w = absurd l.3
@@ -45,7 +45,7 @@ module _ {U V : Type 0} (means : U → Option V → Option V) (S : Shape) (range
   above_leaves h (inner cs) (leaf es) e l m = absurd (omega (arith, l.0, m.0))
   above_leaves h (inner cs) (inner ds) e l m = refl
 
-  module _ (c d e : PNode U V) (gone : GoneInto means S.pending ms c d) (stays : StaysSubtree means S range.hi d e) (job : IsJob S range ms c) where
+  module _ (c d e : PNode U V) (gone : ConsumedInto means S.pending ms c d) (stays : StaysSubtree means S range.hi d e) (job : IsJob S range ms c) where
     -- what was built is lawful where the child was, and means what the child with the messages means
     built : IsSameSubtree means S job.subtree.height range.lo range.hi d e
     built = stays job.subtree.height range.lo (lawful_built job.subtree.height c d gone job.only job.subtree.lawful)
@@ -68,13 +68,13 @@ module _ {U V : Type 0} (means : U → Option V → Option V) (S : Shape) (range
 
 module _ {U V : Type 0} where
   -- the same in the words of the code, with a copy of the range
-  pub is_built : (means : U → Option V → Option V) (job : PJob U V) (t : ℕ) (S : Shape) (range copied : KeyRange) (ms : List (Msg U V)) (c d e : PNode U V) (n : ℕ) → record { ticket = t; shape = S; range = range; msgs = ms; child = c } ≡ job → copied ≡ range → n ≡ length ms → GoneInto means S.pending ms c d → StaysSubtree means S range.hi d e → IsJob S range ms c → IsBuilt means job (record { ticket = t; shape = S; range = copied; count = n; child = e })
+  pub is_built : (means : U → Option V → Option V) (job : PJob U V) (t : ℕ) (S : Shape) (range copied : KeyRange) (ms : List (Msg U V)) (c d e : PNode U V) (n : ℕ) → record { ticket = t; shape = S; range = range; msgs = ms; child = c } ≡ job → copied ≡ range → n ≡ length ms → ConsumedInto means S.pending ms c d → StaysSubtree means S range.hi d e → IsJob S range ms c → IsBuilt means job (record { ticket = t; shape = S; range = copied; count = n; child = e })
   is_built means job t S range copied ms c d e n v r m g s j =
       let here : IsBuilt means (record { ticket = t; shape = S; range = range; msgs = ms; child = c }) (record { ticket = t; shape = S; range = range; count = length ms; child = e }) = record { ticket = refl; content = same_content means S range ms c d e g s j t; subtree = is_subtree means S range ms c d e g s j } in
       subst (λ (x : PJob U V). IsBuilt means x (record { ticket = t; shape = S; range = copied; count = n; child = e })) v (subst (λ (x : KeyRange). IsBuilt means (record { ticket = t; shape = S; range = range; msgs = ms; child = c }) (record { ticket = t; shape = S; range = x; count = n; child = e })) (sym r) (subst (λ x. IsBuilt means (record { ticket = t; shape = S; range = range; msgs = ms; child = c }) (record { ticket = t; shape = S; range = range; count = x; child = e })) (sym m) here))
 
   -- what has taken the messages is lawful somewhere up to the range's end
-  pub ends_lawfully : (means : U → Option V → Option V) (S : Shape) (range : KeyRange) (ms : List (Msg U V)) (c d : PNode U V) → GoneInto means S.pending ms c d → IsJob S range ms c → EndsLawfully S range.hi d
+  pub ends_lawfully : (means : U → Option V → Option V) (S : Shape) (range : KeyRange) (ms : List (Msg U V)) (c d : PNode U V) → ConsumedInto means S.pending ms c d → IsJob S range ms c → EndsLawfully S range.hi d
   ends_lawfully means S range ms c d g j = (j.subtree.height, range.lo, lawful_built means S range ms j.subtree.height c d g j.only j.subtree.lawful)
 
   -- ---- flushes one after the other

@@ -15,7 +15,7 @@ use Rattle.jobs.specs.Content.{HasContent, done_content}
 use Rattle.jobs.specs.Job.{PDone, IsSubtree}
 use Rattle.jobs.specs.Replies.{IsSlotOf, IsPlaced, IsInstalled, FitsMark}
 use Rattle.jobs.specs.Survive.{number_in}
-use Rattle.jobs.specs.Marks.{AllKept, PMarked, Each, Stands, AreMarks, MarkHas, KeepsContent, kept_in, kept_at, place_of, without}
+use Rattle.jobs.specs.Marks.{AllKept, PMarked, Each, Stands, AreMarks, MarkHas, KeepsContent, kept_in, kept_at, position, without}
 use Rattle.jobs.proofs.Slots.{number_in_root}
 use Rattle.jobs.proofs.MarkFacts.{each_map, each_two, standing, moved, kept_some, marks_without, others_apart}
 use Rattle.jobs.proofs.Moves.{still_stands, still_has, append_moves, graft_moves}
@@ -71,7 +71,7 @@ module _ {U V : Type 0} (means : U → Option V → Option V) where
       }
 
   -- the other marks, where what was built took its place
-  pub kept_placed : (done : PDone U V) (a b : PTree U V) (ms : List Mark) (given : ℕ) → AreMarks a.root 0 ms given → FitsMark means done a ms → (i : ℕ) → place_of done.ticket ms ≡ Some i → IsPlaced means done a b → AllKept means a b (without done.ticket ms) given
+  pub kept_placed : (done : PDone U V) (a b : PTree U V) (ms : List Mark) (given : ℕ) → AreMarks a.root 0 ms given → FitsMark means done a ms → (i : ℕ) → position done.ticket ms ≡ Some i → IsPlaced means done a b → AllKept means a b (without done.ticket ms) given
   kept_placed done a b ms given h fits i e p =
       let apart = others_apart done.range.lo done.ticket 0 ms a.root given h (each_map (λ m. m.ticket ≡ done.ticket → MarkHas means m (done_content means done) a) (λ m. m.ticket ≡ done.ticket → m.range.lo ≡ done.range.lo) ms (λ m q t. ap (λ r. r.lo) (q t).range) fits) (i, e) in
       let left = marks_without a.root done.ticket 0 ms given h in

@@ -8,7 +8,7 @@ use Rattle.pathkey.specs.Order.{same}
 use Rattle.pathkey.proofs.OrderFacts.{same_itself, same_false, apart}
 use Rattle.node.specs.Pure.{PNode}
 use Rattle.jobs.specs.declared.mark.Mark.{Mark}
-use Rattle.jobs.specs.Marks.{Each, IsMarked, Stands, NoneAt, AreMarks, place_of, one_more, without, kept_at}
+use Rattle.jobs.specs.Marks.{Each, IsMarked, Stands, NoneAt, AreMarks, position, one_more, without, kept_at}
 use Rattle.jobs.proofs.Slots.{root_both}
 
 -- what follows of each
@@ -47,43 +47,43 @@ place_later i None e = (cc)
 place_later i (Some j) e = (j, refl, same_Some (j + 1) i e)
 
 -- where no mark has the ticket, all stay
-pub without_none : (t : ℕ) (ms : List Mark) → place_of t ms ≡ None → ms ≡ without t ms
+pub without_none : (t : ℕ) (ms : List Mark) → position t ms ≡ None → ms ≡ without t ms
 without_none t [] h = refl
 without_none t (m ∷ ms) h =
-    (elim (m.ticket == t) as (λ b. cond b (Some 0) (one_more (place_of t ms)) ≡ None → m ∷ ms ≡ cond b ms (m ∷ without t ms)) [
+    (elim (m.ticket == t) as (λ b. cond b (Some 0) (one_more (position t ms)) ≡ None → m ∷ ms ≡ cond b ms (m ∷ without t ms)) [
       | true ↦ λ e. (cc)
-      | false ↦ λ e. ap (λ z. m ∷ z) (without_none t ms (none_later (place_of t ms) e))
+      | false ↦ λ e. ap (λ z. m ∷ z) (without_none t ms (none_later (position t ms) e))
     ]) h
 
 -- the mark taken away by its number
-pub without_place : (t i : ℕ) (ms : List Mark) → place_of t ms ≡ Some i → remove ms i ≡ without t ms
+pub without_place : (t i : ℕ) (ms : List Mark) → position t ms ≡ Some i → remove ms i ≡ without t ms
 without_place t i [] h = (cc)
 without_place t i (m ∷ ms) h =
-    (elim (m.ticket == t) as (λ b. cond b (Some 0) (one_more (place_of t ms)) ≡ Some i → remove (m ∷ ms) i ≡ cond b ms (m ∷ without t ms)) [
+    (elim (m.ticket == t) as (λ b. cond b (Some 0) (one_more (position t ms)) ≡ Some i → remove (m ∷ ms) i ≡ cond b ms (m ∷ without t ms)) [
       | true ↦ λ e. subst (λ j. remove (m ∷ ms) j ≡ ms) (same_Some 0 i e) refl
-      | false ↦ λ e. later (place_of t ms) (λ j q. without_place t j ms q) refl e
+      | false ↦ λ e. later (position t ms) (λ j q. without_place t j ms q) refl e
     ]) h
   where
-    later : (o : Option ℕ) → ((j : ℕ) → place_of t ms ≡ Some j → remove ms j ≡ without t ms) → place_of t ms ≡ o → one_more o ≡ Some i → remove (m ∷ ms) i ≡ m ∷ without t ms
+    later : (o : Option ℕ) → ((j : ℕ) → position t ms ≡ Some j → remove ms j ≡ without t ms) → position t ms ≡ o → one_more o ≡ Some i → remove (m ∷ ms) i ≡ m ∷ without t ms
     later None f q e = (cc)
     later (Some j) f q e = subst (λ n. remove (m ∷ ms) n ≡ m ∷ without t ms) (sym (add-one j) ∙ same_Some (j + 1) i e) (ap (λ z. m ∷ z) (f j q))
 
 -- the mark with the ticket is one of those that begin elsewhere
-found : (lo : List ℕ) (t : ℕ) (m : Mark) (xs : List Mark) (j : ℕ) → NoneAt m.range.lo xs → Each (λ n. n.ticket ≡ t → n.range.lo ≡ lo) xs → place_of t xs ≡ Some j → m.range.lo ≡ lo → ⊥
+found : (lo : List ℕ) (t : ℕ) (m : Mark) (xs : List Mark) (j : ℕ) → NoneAt m.range.lo xs → Each (λ n. n.ticket ≡ t → n.range.lo ≡ lo) xs → position t xs ≡ Some j → m.range.lo ≡ lo → ⊥
 found lo t m [] j a g e z = (cc)
 found lo t m (x ∷ xs) j a g e z =
-    (elim (x.ticket == t) as (λ b. (x.ticket == t) ≡ b → cond b (Some 0) (one_more (place_of t xs)) ≡ Some j → ⊥) [
+    (elim (x.ticket == t) as (λ b. (x.ticket == t) ≡ b → cond b (Some 0) (one_more (position t xs)) ≡ Some j → ⊥) [
       | true ↦ λ u v. apart x.range.lo m.range.lo a.0 (g.0 (eqb-true x.ticket t u) ∙ sym z)
-      | false ↦ λ u v. let p = place_later j (place_of t xs) v in found lo t m xs p.0 a.1 g.1 p.1 z
+      | false ↦ λ u v. let p = place_later j (position t xs) v in found lo t m xs p.0 a.1 g.1 p.1 z
     ]) refl e
 
 -- what holds of the mark with the ticket holds of the one with its number
-pub at_place : (Q : Mark → Type 0) (t i : ℕ) (ms : List Mark) (d : Mark) → place_of t ms ≡ Some i → Each (λ m. m.ticket ≡ t → Q m) ms → Q (get_or ms i d)
+pub at_place : (Q : Mark → Type 0) (t i : ℕ) (ms : List Mark) (d : Mark) → position t ms ≡ Some i → Each (λ m. m.ticket ≡ t → Q m) ms → Q (get_or ms i d)
 at_place Q t i [] d e h = (cc)
 at_place Q t i (m ∷ ms) d e h =
-    (elim (m.ticket == t) as (λ b. (m.ticket == t) ≡ b → cond b (Some 0) (one_more (place_of t ms)) ≡ Some i → Q (get_or (m ∷ ms) i d)) [
+    (elim (m.ticket == t) as (λ b. (m.ticket == t) ≡ b → cond b (Some 0) (one_more (position t ms)) ≡ Some i → Q (get_or (m ∷ ms) i d)) [
       | true ↦ λ u v. subst (λ n. Q (get_or (m ∷ ms) n d)) (same_Some 0 i v) (h.0 (eqb-true m.ticket t u))
-      | false ↦ λ u v. let p = place_later i (place_of t ms) v in subst (λ n. Q (get_or (m ∷ ms) n d)) (sym (add-one p.0) ∙ p.2) (at_place Q t p.0 ms d p.1 h.1)
+      | false ↦ λ u v. let p = place_later i (position t ms) v in subst (λ n. Q (get_or (m ∷ ms) n d)) (sym (add-one p.0) ∙ p.2) (at_place Q t p.0 ms d p.1 h.1)
     ]) refl e
 
 module _ {U V : Type 0} where
@@ -156,18 +156,18 @@ module _ {U V : Type 0} where
   marks_more root n from (m ∷ ms) given h s t a = (h.0, h.1, each_last (λ x. same x.range.lo m.range.lo ≡ false) ms n h.2 (same_false n.range.lo m.range.lo (λ e. apart m.range.lo n.range.lo a.0 (sym e))), marks_more root n (m.ticket + 1) ms given h.3 s t a.1)
 
   -- where the mark with the ticket begins at lo, no other does
-  pub others_apart : (lo : List ℕ) (t from : ℕ) (ms : List Mark) (root : PNode U V) (given : ℕ) → AreMarks root from ms given → Each (λ m. m.ticket ≡ t → m.range.lo ≡ lo) ms → (i : ℕ) × (place_of t ms ≡ Some i) → Each (λ m. m.range.lo ≡ lo → ⊥) (without t ms)
+  pub others_apart : (lo : List ℕ) (t from : ℕ) (ms : List Mark) (root : PNode U V) (given : ℕ) → AreMarks root from ms given → Each (λ m. m.ticket ≡ t → m.range.lo ≡ lo) ms → (i : ℕ) × (position t ms ≡ Some i) → Each (λ m. m.range.lo ≡ lo → ⊥) (without t ms)
   others_apart lo t from [] root given h f p = tt
   others_apart lo t from (m ∷ ms) root given h f p =
-      (elim (m.ticket == t) as (λ b. (m.ticket == t) ≡ b → cond b (Some 0) (one_more (place_of t ms)) ≡ Some p.0 → Each (λ n. n.range.lo ≡ lo → ⊥) (cond b ms (m ∷ without t ms))) [
+      (elim (m.ticket == t) as (λ b. (m.ticket == t) ≡ b → cond b (Some 0) (one_more (position t ms)) ≡ Some p.0 → Each (λ n. n.range.lo ≡ lo → ⊥) (cond b ms (m ∷ without t ms))) [
         | true ↦ λ e q. each_map (λ n. same n.range.lo m.range.lo ≡ false) (λ n. n.range.lo ≡ lo → ⊥) ms (λ n a z. apart n.range.lo m.range.lo a (z ∙ sym (f.0 (eqb-true m.ticket t e)))) h.2
-        | false ↦ λ e q. (λ z. first (place_of t ms) refl q z, others_apart lo t (m.ticket + 1) ms root given h.3 f.1 (there (place_of t ms) refl q))
+        | false ↦ λ e q. (λ z. first (position t ms) refl q z, others_apart lo t (m.ticket + 1) ms root given h.3 f.1 (there (position t ms) refl q))
       ]) refl p.1
     where
-      there : (o : Option ℕ) → place_of t ms ≡ o → one_more o ≡ Some p.0 → (i : ℕ) × (place_of t ms ≡ Some i)
+      there : (o : Option ℕ) → position t ms ≡ o → one_more o ≡ Some p.0 → (i : ℕ) × (position t ms ≡ Some i)
       there None e q = (cc)
       there (Some j) e q = (j, e)
 
-      first : (o : Option ℕ) → place_of t ms ≡ o → one_more o ≡ Some p.0 → m.range.lo ≡ lo → ⊥
+      first : (o : Option ℕ) → position t ms ≡ o → one_more o ≡ Some p.0 → m.range.lo ≡ lo → ⊥
       first None e q z = (cc)
       first (Some j) e q z = found lo t m ms j h.2 f.1 e z

@@ -10,7 +10,7 @@ use Rattle.node.specs.Pure.{PNode, leaf, inner, PSlots, none, more, PTree}
 use Rattle.node.specs.Lawful.{next_lo}
 use Rattle.node.specs.Meaning.{value}
 use Rattle.node.specs.Searchable.{IsRoot}
-use Rattle.node.specs.Appended.{parts, HaveTaken, IsAppended}
+use Rattle.node.specs.Appended.{batches_by_slot, HaveTaken, IsAppended}
 use Rattle.node.specs.Grafts.{OfSlot, AtSlot, AtRootSlot, KeepLists, KeepsLists, IsGrafted}
 use Rattle.node.specs.Steps.{OthersStay, root_slot, root_width}
 use Rattle.node.proofs.Appending.{next_lo-taken}
@@ -65,7 +65,7 @@ module _ {U V : Type 0} where
   -- ---- append
 
   -- a slot whose list stays with messages put behind
-  at_appended : (means : U → Option V → Option V) (R : OfSlot U V) (ks : List Mark) (lo : List ℕ) → ((b : List ℕ) (e : Option (List ℕ)) (ms : List (Msg U V)) (c : PNode U V) → R b e ms c → b ≡ lo) → IsStable R → 0 < kept_at ks lo → (hi : Option (List ℕ)) (msgs : List (Msg U V)) (ss ts : PSlots U V) → HaveTaken means ss (parts hi msgs ss) ts → KeepLists (kept_numbers ks ss) (parts hi msgs ss) ss ts → (i : ℕ) → AtSlot R i hi ss → AtSlot R i hi ts
+  at_appended : (means : U → Option V → Option V) (R : OfSlot U V) (ks : List Mark) (lo : List ℕ) → ((b : List ℕ) (e : Option (List ℕ)) (ms : List (Msg U V)) (c : PNode U V) → R b e ms c → b ≡ lo) → IsStable R → 0 < kept_at ks lo → (hi : Option (List ℕ)) (msgs : List (Msg U V)) (ss ts : PSlots U V) → HaveTaken means ss (batches_by_slot hi msgs ss) ts → KeepLists (kept_numbers ks ss) (batches_by_slot hi msgs ss) ss ts → (i : ℕ) → AtSlot R i hi ss → AtSlot R i hi ts
   at_appended means R ks l of st some hi msgs none ts t k i h = absurd h
   at_appended means R ks l of st some hi msgs (more lo old n ss) none t k i h = absurd t
   at_appended means R ks l of st some hi msgs (more lo old n ss) (more lo' new n' ts) t k zero h =

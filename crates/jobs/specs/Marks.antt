@@ -24,9 +24,9 @@ one_more None = None
 one_more (Some i) = Some (i + 1)
 
 -- the number of the first mark with the ticket
-abbrev pub place_of : ℕ → List Mark → Option ℕ
-place_of t [] = None
-place_of t (m ∷ ms) = if m.ticket == t then Some 0 else one_more (place_of t ms)
+abbrev pub position : ℕ → List Mark → Option ℕ
+position t [] = None
+position t (m ∷ ms) = if m.ticket == t then Some 0 else one_more (position t ms)
 
 -- the marks but that one
 abbrev pub without : ℕ → List Mark → List Mark

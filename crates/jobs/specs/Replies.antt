@@ -8,21 +8,21 @@ use Rattle.node.specs.Sinks.{first_lo}
 use Rattle.node.specs.Site.{slots_from}
 use Rattle.jobs.specs.declared.mark.Mark.{Mark}
 use Rattle.jobs.specs.Job.{PJob, PDone, IsSubtree}
-use Rattle.jobs.specs.declared.reply.TakeReply.{TakeReply}
-use Rattle.jobs.specs.declared.reply.TakeReply.TheVariants.{Taken, NotThere, NoRoom, NoMemory}
-use Rattle.jobs.specs.declared.reply.InstallReply.{InstallReply}
-use Rattle.jobs.specs.declared.reply.InstallReply.TheVariants.{Installed, Stale, NoMemory as NoMemoryFor}
+use Rattle.jobs.specs.declared.outcome.TakeOutcome.{TakeOutcome}
+use Rattle.jobs.specs.declared.outcome.TakeOutcome.TheVariants.{Taken, NotThere, NoRoom, NoMemory}
+use Rattle.jobs.specs.declared.outcome.InstallOutcome.{InstallOutcome}
+use Rattle.jobs.specs.declared.outcome.InstallOutcome.TheVariants.{Installed, Stale, NoMemory as NoMemoryFor}
 use Rattle.jobs.specs.Content.{Content, job_content, done_content, SameContent}
 use Rattle.jobs.specs.Marks.{PMarked, MarkHas, Each, kept_at, without}
 
 module _ {U V : Type 0} where
-  abbrev pub IfTaken : TakeReply U V → (PJob U V → Type 0) → Type 0
+  abbrev pub IfTaken : TakeOutcome U V → (PJob U V → Type 0) → Type 0
   IfTaken (Taken job) P = P job
   IfTaken NotThere P = ⊤
   IfTaken NoRoom P = ⊤
   IfTaken NoMemory P = ⊤
 
-  abbrev pub UnlessTaken : TakeReply U V → Type 0 → Type 0
+  abbrev pub UnlessTaken : TakeOutcome U V → Type 0 → Type 0
   UnlessTaken (Taken job) P = ⊤
   UnlessTaken NotThere P = P
   UnlessTaken NoRoom P = P
@@ -114,17 +114,17 @@ module _ {U V : Type 0} (means : U → Option V → Option V) where
     pub placed : IsPlaced done a.tree b.tree
 
 module _ {U V : Type 0} where
-  abbrev pub IfInstalled : InstallReply U V → Type 0 → Type 0
+  abbrev pub IfInstalled : InstallOutcome U V → Type 0 → Type 0
   IfInstalled Installed P = P
   IfInstalled Stale P = ⊤
   IfInstalled (NoMemoryFor done) P = ⊤
 
-  abbrev pub UnlessInstalled : InstallReply U V → Type 0 → Type 0
+  abbrev pub UnlessInstalled : InstallOutcome U V → Type 0 → Type 0
   UnlessInstalled Installed P = ⊤
   UnlessInstalled Stale P = P
   UnlessInstalled (NoMemoryFor done) P = P
 
-  abbrev pub IfGivenBack : InstallReply U V → (PDone U V → Type 0) → Type 0
+  abbrev pub IfGivenBack : InstallOutcome U V → (PDone U V → Type 0) → Type 0
   IfGivenBack Installed P = ⊤
   IfGivenBack Stale P = ⊤
   IfGivenBack (NoMemoryFor done) P = P done

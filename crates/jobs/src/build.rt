@@ -2,10 +2,10 @@
 ghost use Rattle.std.specs.Prelude.{◌≡◌, IfOk, IfErr};
 ghost use Rattle.jobs.specs.Job.{FitBelow};
 ghost use Rattle.jobs.specs.Replies.{IsBuilt};
-ghost use Rattle.flush.specs.Sunk.{GoneInto};
+ghost use Rattle.flush.specs.Sunk.{ConsumedInto};
 
+use crate::flush_below::flush_below;
 use crate::job::{Done, Job};
-use crate::sink::sink_below;
 use flush::inner::append_within;
 use message::{Msg, Update};
 use node::{Body, Node, Place};
@@ -24,7 +24,7 @@ fn grown<U: Update>(
     most: u16,
 ) -> Result<Arc<Node<U>>, NoMemory>
     requires { FitBelow most msgs.now node.now.value }
-    ensures { IfOk result (λ n. GoneInto U.means most msgs.now node.now.value n.value) }
+    ensures { IfOk result (λ n. ConsumedInto U.means most msgs.now node.now.value n.value) }
 {
     let mut copy = Arc::try_clone(node)?;
     let own = Arc::make_mut(&mut copy)?;
@@ -33,7 +33,7 @@ fn grown<U: Update>(
         return Ok(copy);
     };
     append_within(alloc, slots.as_mut_slice(), msgs, most as usize)?;
-    own.weigh();
+    own.update_weight();
     Ok(copy)
 }
 
@@ -44,7 +44,7 @@ impl<U: Update> Job<U> {
     {
         let mut child = grown(alloc, &self.child, self.msgs.as_slice(), self.shape.pending)?;
         let range = self.range.copy(alloc)?;
-        sink_below(
+        flush_below(
             alloc,
             self.shape,
             &mut child,

@@ -7,14 +7,14 @@ ghost use Rattle.jobs.specs.Replies.{IsPlaced};
 use crate::mark::Mark;
 use crate::marks::number_in;
 use crate::ticket::Ticket;
-use message::{Changes, Msg, Update};
+use message::{Msg, Update, UpdateTarget};
 use node::{Node, Shape, Tree};
 use pathkey::KeyRange;
 use std::marker::Model;
 use std::sync::Arc;
 
 /// The oldest messages of a slot of a root, and its child.
-pub struct Job<U: Changes> {
+pub struct Job<U: UpdateTarget> {
     /// Which job it is.
     pub(crate) ticket: u64,
     /// The tree's shape.
@@ -28,7 +28,7 @@ pub struct Job<U: Changes> {
 }
 
 // Written out, as that of `pathkey::Key`.
-impl<U: Changes + Drop> Drop for Job<U> {
+impl<U: UpdateTarget + Drop> Drop for Job<U> {
     fn drop(self) {
         let Job {
             ticket: _,
@@ -40,7 +40,7 @@ impl<U: Changes + Drop> Drop for Job<U> {
     }
 }
 
-impl<U: Changes> Model for Job<U> {
+impl<U: UpdateTarget> Model for Job<U> {
     ghost use Rattle.jobs.specs.Codes.{coded_job};
     ghost use Rattle.jobs.specs.Job.{PJob, IsJob};
 
@@ -53,7 +53,7 @@ impl<U: Changes> Model for Job<U> {
     ghost invariant = { λ j. IsJob j.shape j.range j.msgs.items j.child.value };
 }
 
-impl<U: Changes> Job<U> {
+impl<U: UpdateTarget> Job<U> {
     /// The job's ticket.
     pub fn ticket(&self) -> Ticket
         ensures { result.number ≡ self.now.ticket }
@@ -73,7 +73,7 @@ impl<U: Changes> Job<U> {
 }
 
 /// A subtree that has the messages of a job in it.
-pub struct Done<U: Changes> {
+pub struct Done<U: UpdateTarget> {
     /// Which job it was.
     pub(crate) ticket: u64,
     /// The tree's shape.
@@ -87,7 +87,7 @@ pub struct Done<U: Changes> {
 }
 
 // Written out, as that of `pathkey::Key`.
-impl<U: Changes + Drop> Drop for Done<U> {
+impl<U: UpdateTarget + Drop> Drop for Done<U> {
     fn drop(self) {
         let Done {
             ticket: _,
@@ -99,7 +99,7 @@ impl<U: Changes + Drop> Drop for Done<U> {
     }
 }
 
-impl<U: Changes> Model for Done<U> {
+impl<U: UpdateTarget> Model for Done<U> {
     ghost use Rattle.jobs.specs.Codes.{coded_done};
     ghost use Rattle.jobs.specs.Job.{PDone, IsSubtree};
 
@@ -112,7 +112,7 @@ impl<U: Changes> Model for Done<U> {
     ghost invariant = { λ d. IsSubtree d.shape d.range d.child.value };
 }
 
-impl<U: Changes> Done<U> {
+impl<U: UpdateTarget> Done<U> {
     /// The ticket of the job of which it was built.
     pub fn ticket(&self) -> Ticket
         ensures { result.number ≡ self.now.ticket }
@@ -137,7 +137,7 @@ impl<U: Update> Done<U> {
             count,
             child,
         } = self;
-        match tree.graft(i, count as usize, child) {
+        match tree.install_subtree(i, count as usize, child) {
             Ok(()) => Ok(()),
             Err(child) => Err(Done {
                 ticket,

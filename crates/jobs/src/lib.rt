@@ -6,19 +6,19 @@
 #![tactic(auto)]
 
 pub mod build;
+pub mod flush_below;
 pub mod job;
 pub mod laws;
 pub mod mark;
-pub mod marked;
+pub mod marked_tree;
 pub mod marks;
-pub mod reply;
-pub mod sink;
+pub mod outcome;
 pub mod ticket;
 
 pub use job::{Done, Job};
 pub use mark::Mark;
-pub use marked::Marked;
-pub use marks::load::Load;
+pub use marked_tree::MarkedTree;
+pub use marks::backlog::Backlog;
 pub use marks::{MOST_MARKS, Marks};
-pub use reply::{InstallReply, TakeReply};
+pub use outcome::{InstallOutcome, TakeOutcome};
 pub use ticket::Ticket;

@@ -1,7 +1,7 @@
 //! The marks of the jobs taken from one tree, which stand beside it.
 ghost use Rattle.std.specs.Prelude.{◌≡◌, ◌<◌, ◌++◌, [], IfOk, OnOk, IfSome, length};
 ghost use Rattle.std.specs.List.{remove};
-ghost use Rattle.jobs.specs.Marks.{kept_at, kept_numbers, kept_in, place_of, without};
+ghost use Rattle.jobs.specs.Marks.{kept_at, kept_numbers, kept_in, position, without};
 ghost use Rattle.jobs.specs.Survive.{number_in};
 ghost use Rattle.node.specs.Searchable.{IsRoot};
 ghost use Rattle.node.specs.See.{seen_slots};
@@ -15,8 +15,8 @@ use pathkey::{Key, NoMemory};
 use std::alloc::Global;
 use std::marker::Model;
 
+pub mod backlog;
 pub mod install;
-pub mod load;
 pub mod step;
 pub mod take;
 
@@ -70,8 +70,8 @@ fn push_kept<U: Update>(
 }
 
 /// The number of the mark with the ticket. It takes no memory.
-fn place_of(marks: &[Mark], ticket: u64) -> Option<usize>
-    ensures place { result ≡ place_of ticket marks.now }
+fn position(marks: &[Mark], ticket: u64) -> Option<usize>
+    ensures place { result ≡ position ticket marks.now }
     ensures bound { IfSome result (λ i. i < length marks.now) }
 {
     let Some((mark, others)) = marks.split_first() else {
@@ -80,7 +80,7 @@ fn place_of(marks: &[Mark], ticket: u64) -> Option<usize>
     if mark.ticket == ticket {
         return Some(0);
     }
-    match place_of(others, ticket) {
+    match position(others, ticket) {
         None => None,
         Some(i) => Some(i + 1),
     }
@@ -127,7 +127,7 @@ impl Marks {
     pub fn cancel(&mut self, ticket: Ticket)
         ensures { self.new ≡ without ticket.number self.old }
     {
-        let Some(i) = place_of(self.list.as_slice(), ticket.number) else {
+        let Some(i) = position(self.list.as_slice(), ticket.number) else {
             return;
         };
         remove_mark(&mut self.list, i);

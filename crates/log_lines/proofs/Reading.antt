@@ -10,20 +10,20 @@ use Rattle.pathkey.specs.SnapNames.{is_snap_byte, is_snap_name}
 use Rattle.pathkey.proofs.Pieces.{pieces_cut}
 use Rattle.reference.specs.Image.{Text, path_text, percent, two_digits}
 use Rattle.reference.proofs.ImageTexts.{Visible, decimal_visible, path_visible, percent_cases}
-use Rattle.lines.specs.Lines.{lines_of, words_of}
-use Rattle.lines.specs.Texts.{hex_text}
-use Rattle.lines.specs.Values.{number_of, path_of}
-use Rattle.lines.proofs.WordFacts.{more_words, one_word}
-use Rattle.lines.proofs.Written.{all_visible, bytes_told, hex_text_visible, number_told, path_read, root_read}
+use Rattle.textio.specs.Lines.{lines_of, words_of}
+use Rattle.textio.specs.Texts.{hex_text}
+use Rattle.textio.specs.Values.{number_of, path_of}
+use Rattle.textio.proofs.WordFacts.{more_words, one_word}
+use Rattle.textio.proofs.Written.{all_visible, bytes_reported, hex_text_visible, number_reported, path_read, root_read}
 use Rattle.logs.specs.Entries.{IsWord}
-use Rattle.logs.specs.declared.change.Change.TheVariants.{OnPath, Rename, Truncate, Write, Punch, Keep}
-use Rattle.logs.specs.declared.change.Keeping.{Keeping}
-use Rattle.logs.specs.declared.change.Keeping.TheVariants.{Snapshot, Remove, Restore}
-use Rattle.logs.specs.declared.change.PathChange.{PathChange}
-use Rattle.logs.specs.declared.change.PathChange.TheVariants.{Mkdir, Create, Unlink, Rmdir, Rmtree}
+use Rattle.logs.specs.declared.wal_entry.WalEntry.TheVariants.{OnPath, Rename, Truncate, Write, Punch, Keep}
+use Rattle.logs.specs.declared.wal_entry.SnapshotCall.{SnapshotCall}
+use Rattle.logs.specs.declared.wal_entry.SnapshotCall.TheVariants.{Snapshot, Remove, Restore}
+use Rattle.logs.specs.declared.wal_entry.PathCall.{PathCall}
+use Rattle.logs.specs.declared.wal_entry.PathCall.TheVariants.{Mkdir, Create, Unlink, Rmdir, Rmtree}
 use Rattle.log_lines.specs.Added.{Fits, script}
-use Rattle.log_lines.specs.Lines.{Told, At, Makes, call_word, keeping_word, path_word, spelled}
-use Rattle.log_lines.specs.Told.{AreRead, IsRead}
+use Rattle.log_lines.specs.Lines.{DumpLine, At, Makes, call_word, keeping_word, path_word, spelled}
+use Rattle.log_lines.specs.Dump.{AreRead, IsRead}
 
 -- ---- visible words
 
@@ -31,14 +31,14 @@ seen : (xs : Text) → list_all (λ b. nat_le 33 b) xs ≡ true → Visible xs
 seen [] h = tt
 seen (x ∷ xs) h = let both = and_parts _ _ h in (leb-true 33 x both.0, seen xs both.1)
 
-call_visible : (what : PathChange) → Visible (call_word what)
+call_visible : (what : PathCall) → Visible (call_word what)
 call_visible Mkdir = seen (codes "mkdir") refl
 call_visible Create = seen (codes "create") refl
 call_visible Unlink = seen (codes "unlink") refl
 call_visible Rmdir = seen (codes "rmdir") refl
 call_visible Rmtree = seen (codes "rmtree") refl
 
-keeping_visible : (what : Keeping) → Visible (keeping_word what)
+keeping_visible : (what : SnapshotCall) → Visible (keeping_word what)
 keeping_visible Snapshot = seen (codes "snapshot") refl
 keeping_visible Remove = seen (codes "drop") refl
 keeping_visible Restore = seen (codes "restore") refl
@@ -104,11 +104,11 @@ path_word_read [] is = root_read
 path_word_read (n ∷ p) is = path_read (n ∷ p) is (λ e. cc)
 
 number_read : (n : ℕ) → IsWord n → number_of (decimal n) ≡ Some n
-number_read n h = number_told (decimal n) n h refl
+number_read n h = number_reported (decimal n) n h refl
 
 -- ---- a line
 
-pub is_read : (t : Told) → Fits t → IsRead (spelled t) t
+pub is_read : (t : DumpLine) → Fits t → IsRead (spelled t) t
 is_read (At n) h = (decimal n, two_words (codes "at") (decimal n) (seen (codes "at") refl) (decimal_visible n h), number_read n h)
 is_read (Makes (OnPath what p at)) h = (path_word p, two_words (call_word what) (path_word p) (call_visible what) (path_word_visible p), path_word_read p h)
 is_read (Makes (Rename o n at)) h =
@@ -122,7 +122,7 @@ is_read (Makes (Write p off w at)) h = (
   four_words (codes "write") (path_word p) (decimal off) (hex_text w) (seen (codes "write") refl) (path_word_visible p) (decimal_visible off h.1) (hex_text_visible w),
   path_word_read p h.0,
   number_read off h.1,
-  sym (bytes_told w h.2),
+  sym (bytes_reported w h.2),
 )
 is_read (Makes (Punch p off n at)) h = (
   path_word p,
@@ -137,14 +137,14 @@ is_read (Makes (Punch p off n at)) h = (
 is_read (Makes (Keep what s)) h = two_words (keeping_word what) s (keeping_visible what) (snap_visible s (and_parts _ _ h).1)
 
 -- it fits a script
-call_short : (what : PathChange) → length (call_word what) ≤ 6
+call_short : (what : PathCall) → length (call_word what) ≤ 6
 call_short Mkdir = omega arith
 call_short Create = omega arith
 call_short Unlink = omega arith
 call_short Rmdir = omega arith
 call_short Rmtree = omega arith
 
-keeping_short : (what : Keeping) → length (keeping_word what) ≤ 8
+keeping_short : (what : SnapshotCall) → length (keeping_word what) ≤ 8
 keeping_short Snapshot = omega arith
 keeping_short Remove = omega arith
 keeping_short Restore = omega arith
@@ -155,7 +155,7 @@ snap_short s h = leb-true (length s) 64 (and_parts _ _ (and_parts _ _ h).0).1
 spaced_length : (x y : Text) → length (x ++ 32 ∷ y) ≡ length x + length y + 1
 spaced_length x y = let l = length-append x (32 ∷ y) in omega (arith, l)
 
-pub is_short : (t : Told) → Fits t → length (spelled t) ≤ 65536
+pub is_short : (t : DumpLine) → Fits t → length (spelled t) ≤ 65536
 is_short (At n) h = let d = decimal_short n h in omega (arith, d)
 is_short (Makes (OnPath what p at)) h =
     let l = spaced_length (call_word what) (path_word p) in
@@ -211,7 +211,7 @@ path_unbroken p = unbroken (path_word p) (path_word_visible p)
 decimal_unbroken : (n : ℕ) → IsWord n → Unbroken (decimal n)
 decimal_unbroken n h = unbroken (decimal n) (decimal_visible n h)
 
-all_unbroken : (t : Told) → Fits t → Unbroken (spelled t)
+all_unbroken : (t : DumpLine) → Fits t → Unbroken (spelled t)
 all_unbroken (At n) h = spaced (codes "at") (decimal n) (unbroken (codes "at") (seen (codes "at") refl)) (decimal_unbroken n h)
 all_unbroken (Makes (OnPath what p at)) h = spaced (call_word what) (path_word p) (unbroken (call_word what) (call_visible what)) (path_unbroken p)
 all_unbroken (Makes (Rename o n at)) h =
@@ -227,19 +227,19 @@ all_unbroken (Makes (Punch p off n at)) h =
     (spaced (path_word p) (decimal off ++ 32 ∷ decimal n) (path_unbroken p) (spaced (decimal off) (decimal n) (decimal_unbroken off h.1) (decimal_unbroken n h.2))))
 all_unbroken (Makes (Keep what s)) h = spaced (keeping_word what) s (unbroken (keeping_word what) (keeping_visible what)) (unbroken s (snap_visible s (and_parts _ _ h).1))
 
-pub is_one : (t : Told) → Fits t → All (λ b. b ≢ 10) (spelled t)
+pub is_one : (t : DumpLine) → Fits t → All (λ b. b ≢ 10) (spelled t)
 is_one t h = All-from_recursion (λ b. b ≢ 10) (spelled t) (all_unbroken t h)
 
 -- ---- lines one behind the other
 
 -- a text of such lines has these lines
-pub lines_told : (ts : List Told) → AllByRecursion Fits ts → lines_of (script ts) ≡ map spelled ts
-lines_told [] fit = refl
-lines_told (t ∷ ts) fit =
+pub lines_reported : (ts : List DumpLine) → AllByRecursion Fits ts → lines_of (script ts) ≡ map spelled ts
+lines_reported [] fit = refl
+lines_reported (t ∷ ts) fit =
     ap lines_of (append_assoc (spelled t) (10 ∷ []) (script ts))
     ∙ pieces_cut 10 (spelled t) (script ts) (is_one t fit.0)
-    ∙ ap (λ ls. spelled t ∷ ls) (lines_told ts fit.1)
+    ∙ ap (λ ls. spelled t ∷ ls) (lines_reported ts fit.1)
 
-pub all_read : (ts : List Told) → AllByRecursion Fits ts → AreRead (map spelled ts) ts
+pub all_read : (ts : List DumpLine) → AllByRecursion Fits ts → AreRead (map spelled ts) ts
 all_read [] fit = tt
 all_read (t ∷ ts) fit = (is_short t fit.0, is_read t fit.0, all_read ts fit.1)

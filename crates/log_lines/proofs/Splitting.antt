@@ -96,12 +96,12 @@ near_end : (off : ℕ) (w : List ℕ) → (0 < length w → off + length w ≤ g
 near_end off [] h = refl
 near_end off (c ∷ w) h = le-ltb _ _ (h (omega arith))
 
-abbrev laid : ℕ → Tree → Path → ℕ → List ℕ → List ℕ → Outcome
-laid at t p off b w = cond (is_empty w) (t, Count 0) (with_entry t p (File at (over b off w)), Count (length w))
+abbrev encoded : ℕ → Tree → Path → ℕ → List ℕ → List ℕ → Outcome
+encoded at t p off b w = cond (is_empty w) (t, Count 0) (with_entry t p (File at (over b off w)), Count (length w))
 
 -- what a write makes where this stands
 abbrev made : ℕ → Tree → Path → ℕ → List ℕ → At → Outcome
-made at t p off w a = unless t (faults_of_file a EISDIR ++ when (too_far off w) EFBIG ∷ []) (laid at t p off (bytes_of a) w)
+made at t p off w a = unless t (faults_of_file a EISDIR ++ when (too_far off w) EFBIG ∷ []) (encoded at t p off (bytes_of a) w)
 
 does_write : (at : ℕ) (t : Tree) (p : Path) (off : ℕ) (w : List ℕ) → does at t (Write p off w) ≡ made at t p off w (entry_at t p)
 unfolding does changed
@@ -118,7 +118,7 @@ is_done at t p off w n (Found (File date b)) there done = record {
   date = date;
   bytes = b;
   there = there;
-  near = elim (too_far off w) as (λ c. too_far off w ≡ c → (unless t (when c EFBIG ∷ []) (laid at t p off b w)).1 ≡ Count n → too_far off w ≡ false) [
+  near = elim (too_far off w) as (λ c. too_far off w ≡ c → (unless t (when c EFBIG ∷ []) (encoded at t p off b w)).1 ≡ Count n → too_far off w ≡ false) [
     | true ↦ λ e h. absurd (cc)
     | false ↦ λ e h. e
   ] refl done;
@@ -127,9 +127,9 @@ is_done at t p off w n (Found (Dir date es)) there done = absurd (cc)
 is_done at t p off w n Missing there done = absurd (cc)
 is_done at t p off w n Blocked there done = absurd (cc)
 
-write_done : (at : ℕ) (t : Tree) (p : Path) (off : ℕ) (w : List ℕ) (date : ℕ) (b : List ℕ) → entry_at t p ≡ Found (File date b) → too_far off w ≡ false → does at t (Write p off w) ≡ laid at t p off b w
+write_done : (at : ℕ) (t : Tree) (p : Path) (off : ℕ) (w : List ℕ) (date : ℕ) (b : List ℕ) → entry_at t p ≡ Found (File date b) → too_far off w ≡ false → does at t (Write p off w) ≡ encoded at t p off b w
 write_done at t p off w date b there near =
-    does_write at t p off w ∙ ap (made at t p off w) there ∙ ap (λ (c : Bool). unless t (when c EFBIG ∷ []) (laid at t p off b w)) near
+    does_write at t p off w ∙ ap (made at t p off w) there ∙ ap (λ (c : Bool). unless t (when c EFBIG ∷ []) (encoded at t p off b w)) near
 
 -- ---- in two parts
 
@@ -162,7 +162,7 @@ module _ (at : ℕ) (t : Tree) (n : Name) (q : Path) (off : ℕ) (a : ℕ) (xs :
 
   -- what the second makes
   abbrev second : List ℕ → Outcome
-  second y = laid at between p (off + length x) (over b off x) y
+  second y = encoded at between p (off + length x) (over b off x) y
 
   same_end : (y : List ℕ) → second y ≡ (with_entry t p (File at (over b off (x ++ y))), Count (length y))
   same_end [] = ap (λ (w : List ℕ). let o : Outcome = (with_entry t p (File at (over b off w)), Count 0) in o) (sym (append-nil x))

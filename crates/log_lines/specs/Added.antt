@@ -6,13 +6,13 @@ use Rattle.pathkey.specs.Names.{Path, IsPath}
 use Rattle.pathkey.specs.SnapNames.{is_snap_name}
 use Rattle.reference.specs.Image.{Text}
 use Rattle.logs.specs.Entries.{IsWord}
-use Rattle.logs.specs.declared.change.Change.{Change}
-use Rattle.logs.specs.declared.change.Change.TheVariants.{OnPath, Rename, Truncate, Write, Punch, Keep}
-use Rattle.log_lines.specs.Lines.{Told, At, Makes, line}
-use Rattle.log_lines.specs.Told.{AreParts, TellAll, Tells}
+use Rattle.logs.specs.declared.wal_entry.WalEntry.{WalEntry}
+use Rattle.logs.specs.declared.wal_entry.WalEntry.TheVariants.{OnPath, Rename, Truncate, Write, Punch, Keep}
+use Rattle.log_lines.specs.Lines.{DumpLine, At, Makes, line}
+use Rattle.log_lines.specs.Dump.{AreParts, TellAll, Tells}
 
 -- a line has room for the change: its paths and names are some, its numbers fit, and a write has few bytes
-abbrev pub HasRoom : Change → Type 0
+abbrev pub HasRoom : WalEntry → Type 0
 HasRoom (OnPath what p at) = IsPath p
 HasRoom (Rename o n at) = IsPath o × IsPath n
 HasRoom (Truncate p len at) = IsPath p × IsWord len
@@ -21,37 +21,37 @@ HasRoom (Punch p off n at) = IsPath p × IsWord off × IsWord n
 HasRoom (Keep what s) = is_snap_name s ≡ true
 
 -- the same of a moment
-abbrev pub Fits : Told → Type 0
+abbrev pub Fits : DumpLine → Type 0
 Fits (At n) = IsWord n
 Fits (Makes c) = HasRoom c
 
 -- the lines of these, one behind the other
-abbrev pub script : List Told → Text
+abbrev pub script : List DumpLine → Text
 script ts = flat_map line ts
 
 -- the line of one of these was added, and it fits
-pub record AddsLine (t : Told) (old new : Text) : Type 0 where
+pub record AddsLine (t : DumpLine) (old new : Text) : Type 0 where
   pub fits : Fits t
   pub added : new ≡ old ++ line t
 
 -- lines of writes were added that lay these bytes
 pub record AddsParts (p : Path) (off : ℕ) (w : List ℕ) (at : ℕ) (old new : Text) : Type 0 where
-  pub writes : List Change
+  pub writes : List WalEntry
   pub some : writes ≢ []
   pub parts : AreParts p off w at writes
   pub fit : AllByRecursion Fits (map Makes writes)
   pub added : new ≡ old ++ script (map Makes writes)
 
 -- lines that tell a change were added
-pub record Adds (c : Change) (old new : Text) : Type 0 where
-  pub told : List Told
-  pub tells : Tells c told
-  pub fit : AllByRecursion Fits told
-  pub added : new ≡ old ++ script told
+pub record Adds (c : WalEntry) (old new : Text) : Type 0 where
+  pub lines : List DumpLine
+  pub tells : Tells c lines
+  pub fit : AllByRecursion Fits lines
+  pub added : new ≡ old ++ script lines
 
 -- lines that tell changes, in their order
-pub record AddsAll (cs : List Change) (old new : Text) : Type 0 where
-  pub told : List Told
-  pub tells : TellAll cs told
-  pub fit : AllByRecursion Fits told
-  pub added : new ≡ old ++ script told
+pub record AddsAll (cs : List WalEntry) (old new : Text) : Type 0 where
+  pub lines : List DumpLine
+  pub tells : TellAll cs lines
+  pub fit : AllByRecursion Fits lines
+  pub added : new ≡ old ++ script lines

@@ -1,4 +1,4 @@
 pub mod Lines
-pub mod Told
+pub mod Dump
 pub mod Added
 pub mod Laws

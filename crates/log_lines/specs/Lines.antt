@@ -2,28 +2,28 @@
 use Rattle.std.specs.Prelude.{ℕ, [], ◌∷◌, ◌++◌, codes, decimal}
 use Rattle.pathkey.specs.Names.{Path}
 use Rattle.reference.specs.Image.{Text, path_text}
-use Rattle.lines.specs.Texts.{hex_text}
-use Rattle.logs.specs.declared.change.Change.{Change}
-use Rattle.logs.specs.declared.change.Change.TheVariants.{OnPath, Rename, Truncate, Write, Punch, Keep}
-use Rattle.logs.specs.declared.change.Keeping.{Keeping}
-use Rattle.logs.specs.declared.change.Keeping.TheVariants.{Snapshot, Remove, Restore}
-use Rattle.logs.specs.declared.change.PathChange.{PathChange}
-use Rattle.logs.specs.declared.change.PathChange.TheVariants.{Mkdir, Create, Unlink, Rmdir, Rmtree}
+use Rattle.textio.specs.Texts.{hex_text}
+use Rattle.logs.specs.declared.wal_entry.WalEntry.{WalEntry}
+use Rattle.logs.specs.declared.wal_entry.WalEntry.TheVariants.{OnPath, Rename, Truncate, Write, Punch, Keep}
+use Rattle.logs.specs.declared.wal_entry.SnapshotCall.{SnapshotCall}
+use Rattle.logs.specs.declared.wal_entry.SnapshotCall.TheVariants.{Snapshot, Remove, Restore}
+use Rattle.logs.specs.declared.wal_entry.PathCall.{PathCall}
+use Rattle.logs.specs.declared.wal_entry.PathCall.TheVariants.{Mkdir, Create, Unlink, Rmdir, Rmtree}
 
 -- what a line tells: the moment of the changes behind it, or a change but for its moment
-pub data Told : Type 0 where
-  At : ℕ → Told
-  Makes : Change → Told
+pub data DumpLine : Type 0 where
+  At : ℕ → DumpLine
+  Makes : WalEntry → DumpLine
 
 -- the first word of the line of a change
-abbrev pub call_word : PathChange → Text
+abbrev pub call_word : PathCall → Text
 call_word Mkdir = codes "mkdir"
 call_word Create = codes "create"
 call_word Unlink = codes "unlink"
 call_word Rmdir = codes "rmdir"
 call_word Rmtree = codes "rmtree"
 
-abbrev pub keeping_word : Keeping → Text
+abbrev pub keeping_word : SnapshotCall → Text
 keeping_word Snapshot = codes "snapshot"
 keeping_word Remove = codes "drop"
 keeping_word Restore = codes "restore"
@@ -34,7 +34,7 @@ path_word [] = 47 ∷ []
 path_word (n ∷ p) = path_text (n ∷ p)
 
 -- a line without its line feed
-abbrev pub spelled : Told → Text
+abbrev pub spelled : DumpLine → Text
 spelled (At n) = codes "at " ++ decimal n
 spelled (Makes (OnPath what p at)) = call_word what ++ 32 ∷ path_word p
 spelled (Makes (Rename o n at)) = codes "rename " ++ (path_word o ++ 32 ∷ path_word n)
@@ -43,5 +43,5 @@ spelled (Makes (Write p off w at)) = codes "write " ++ (path_word p ++ 32 ∷ (d
 spelled (Makes (Punch p off n at)) = codes "# punch " ++ (path_word p ++ 32 ∷ (decimal off ++ 32 ∷ decimal n))
 spelled (Makes (Keep what s)) = keeping_word what ++ 32 ∷ s
 
-abbrev pub line : Told → Text
+abbrev pub line : DumpLine → Text
 line t = spelled t ++ 10 ∷ []

@@ -12,35 +12,35 @@ use Rattle.pathkey.specs.Texts.{parsed, slashed, text_of}
 use Rattle.pathkey.specs.declared.errno.Errno.{Errno}
 use Rattle.pathkey.specs.declared.errno.Errno.TheVariants.{ENOMEM}
 use Rattle.pathkey.proofs.TextFacts.{only_texts, read_back}
-use Rattle.logs.specs.declared.change.Change.{Change}
-use Rattle.logs.specs.declared.change.Change.TheVariants.{OnPath, Rename, Truncate, Write, Punch, Keep}
-use Rattle.logs.specs.declared.change.Keeping.TheVariants.{Snapshot, Remove, Restore}
-use Rattle.logs.specs.declared.change.PathChange.TheVariants.{Mkdir, Create, Unlink, Rmdir, Rmtree}
+use Rattle.logs.specs.declared.wal_entry.WalEntry.{WalEntry}
+use Rattle.logs.specs.declared.wal_entry.WalEntry.TheVariants.{OnPath, Rename, Truncate, Write, Punch, Keep}
+use Rattle.logs.specs.declared.wal_entry.SnapshotCall.TheVariants.{Snapshot, Remove, Restore}
+use Rattle.logs.specs.declared.wal_entry.PathCall.TheVariants.{Mkdir, Create, Unlink, Rmdir, Rmtree}
 use Rattle.logs.specs.Entries.{IsChange, IsHead, IsNoText, IsWord, first_of, head_of, second_of}
 
 -- ---- texts of paths
 
 pub text_read : (text : List ℕ) (p : Path) → ((i : ℕ) → Fits w8 (get_or text i 0)) → IsOrLacksMemory (Ok p) (parsed text) → text_of p ≡ text
-text_read text p bytes told = ⊎_elim
+text_read text p bytes reported = ⊎_elim
     (λ (e : Ok p ≡ parsed text). sym (only_texts text p (All-from_recursion (λ b. b < 256) text (are_bytes text bytes)) (sym e)).1)
     (λ (u : (Ok p ≡ Err ENOMEM) × IsOk (parsed text)). let e = u.0 in cc)
-    told
+    reported
 
 -- the text names this path
 pub text_names : (text : List ℕ) (p : Path) → ((i : ℕ) → Fits w8 (get_or text i 0)) → IsOrLacksMemory (Ok p) (parsed text) → (parsed text ≡ Ok p) × (text_of p ≡ text)
-text_names text p bytes told = (
+text_names text p bytes reported = (
   ⊎_elim
       (λ (e : Ok p ≡ parsed text). sym e)
       (λ (u : (Ok p ≡ Err ENOMEM) × IsOk (parsed text)). let e = u.0 in cc)
-      told,
-  text_read text p bytes told,
+      reported,
+  text_read text p bytes reported,
 )
 
 pub no_text : (text : List ℕ) (e : Errno) → IsOrLacksMemory (Err e) (parsed text) → e ≢ ENOMEM → IsNoText text
-no_text text e told other = λ p is same. ⊎_elim
+no_text text e reported other = λ p is same. ⊎_elim
     (λ (r : Err e ≡ parsed text). let back : parsed text ≡ Ok p = ap parsed (sym same) ∙ read_back p is in cc)
     (λ (u : (Err e ≡ Err ENOMEM) × IsOk (parsed text)). other (let r = u.0 in cc))
-    told
+    reported
 
 len_slashed : (p : Path) → length (slashed p) ≡ text_len p
 len_slashed [] = refl
@@ -53,7 +53,7 @@ short_text (n ∷ p) h = let size = len_slashed (n ∷ p) in let few = h.fits in
 -- ---- sizes
 
 -- the parts of a change fit an entry
-pub record Fit (c : Change) : Type 0 where
+pub record Fit (c : WalEntry) : Type 0 where
   pub head : IsHead (head_of c)
   pub first_fits : IsWord (length (first_of c))
   pub second_fits : IsWord (length (second_of c))
@@ -65,7 +65,7 @@ short_name s h =
     let few : length s ≤ 64 = grind (arith, nat_tests, inner.1) in
     omega arith
 
-pub fit : (c : Change) → IsChange c → Fit c
+pub fit : (c : WalEntry) → IsChange c → Fit c
 fit (OnPath Mkdir p at) h = record { head = record { kind = omega arith; at = h.1; offset = omega arith; count = omega arith }; first_fits = short_text p h.0; second_fits = omega arith }
 fit (OnPath Create p at) h = record { head = record { kind = omega arith; at = h.1; offset = omega arith; count = omega arith }; first_fits = short_text p h.0; second_fits = omega arith }
 fit (OnPath Unlink p at) h = record { head = record { kind = omega arith; at = h.1; offset = omega arith; count = omega arith }; first_fits = short_text p h.0; second_fits = omega arith }

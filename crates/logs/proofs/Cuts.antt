@@ -6,7 +6,7 @@ use Rattle.std.proofs.lemmas.List.{take_at, drop_at, get_or_past, take-append-dr
 use Rattle.std.proofs.lemmas.List.Elements.{All-from_recursion, All-get_or, All-take}
 use Rattle.std.proofs.lemmas.Nat.{from_le_bytes-to_le_bytes_8, le_bytes_8}
 use Rattle.pathkey.proofs.HeadFacts.{are_bytes}
-use Rattle.logs.specs.declared.entry.Head.{Head}
+use Rattle.logs.specs.declared.entry.EntryHeader.{EntryHeader}
 use Rattle.logs.specs.Entries.{IsHead, IsWord, LacksEntry, entry, entry_front, numbers, word}
 
 -- ---- parts of one length
@@ -51,34 +51,34 @@ word_read bytes front rest n fits ef er eight is =
 four_words : (a b c d r : List ℕ) → (a ++ b ++ c ++ d) ++ r ≡ a ++ (b ++ (c ++ (d ++ r)))
 four_words a b c d r = simp append_assoc
 
-pub head_cut : (bytes r s t u : List ℕ) (h : Head) → bytes ≡ word h.kind ++ r → r ≡ word h.at ++ s → s ≡ word h.offset ++ t → t ≡ word h.count ++ u → bytes ≡ numbers h ++ u
+pub head_cut : (bytes r s t u : List ℕ) (h : EntryHeader) → bytes ≡ word h.kind ++ r → r ≡ word h.at ++ s → s ≡ word h.offset ++ t → t ≡ word h.count ++ u → bytes ≡ numbers h ++ u
 unfolding numbers
 head_cut bytes r s t u h a b c d =
     a ∙ ap (λ (x : List ℕ). word h.kind ++ x) (b ∙ ap (λ (x : List ℕ). word h.at ++ x) (c ∙ ap (λ (x : List ℕ). word h.offset ++ x) d))
     ∙ sym (four_words (word h.kind) (word h.at) (word h.offset) (word h.count) u)
 
-pub length-numbers : (h : Head) → length (numbers h) ≡ 32
+pub length-numbers : (h : EntryHeader) → length (numbers h) ≡ 32
 unfolding numbers word
 length-numbers h = refl
 
-pub after_head : (h : Head) (bytes rest : List ℕ) → bytes ≡ numbers h ++ rest → length bytes ≡ 32 + length rest
+pub after_head : (h : EntryHeader) (bytes rest : List ℕ) → bytes ≡ numbers h ++ rest → length bytes ≡ 32 + length rest
 after_head h bytes rest e =
     let size : length bytes ≡ length (numbers h) + length rest = ap length e ∙ length-append (numbers h) rest in
     let all : length (numbers h) ≡ 32 = length-numbers h in
     omega arith
 
-same_head : (h : Head) (k a o n : ℕ) → k ≡ h.kind → a ≡ h.at → o ≡ h.offset → n ≡ h.count → ◌≡◌ {A = Head} (record { kind = k; at = a; offset = o; count = n }) h
+same_head : (h : EntryHeader) (k a o n : ℕ) → k ≡ h.kind → a ≡ h.at → o ≡ h.offset → n ≡ h.count → ◌≡◌ {A = EntryHeader} (record { kind = k; at = a; offset = o; count = n }) h
 same_head h k a o n ek ea eo en =
-    ap (λ (x : ℕ). let r : Head = record { kind = x; at = a; offset = o; count = n } in r) ek
-    ∙ ap (λ (x : ℕ). let r : Head = record { kind = h.kind; at = x; offset = o; count = n } in r) ea
-    ∙ ap (λ (x : ℕ). let r : Head = record { kind = h.kind; at = h.at; offset = x; count = n } in r) eo
-    ∙ ap (λ (x : ℕ). let r : Head = record { kind = h.kind; at = h.at; offset = h.offset; count = x } in r) en
+    ap (λ (x : ℕ). let r : EntryHeader = record { kind = x; at = a; offset = o; count = n } in r) ek
+    ∙ ap (λ (x : ℕ). let r : EntryHeader = record { kind = h.kind; at = x; offset = o; count = n } in r) ea
+    ∙ ap (λ (x : ℕ). let r : EntryHeader = record { kind = h.kind; at = h.at; offset = x; count = n } in r) eo
+    ∙ ap (λ (x : ℕ). let r : EntryHeader = record { kind = h.kind; at = h.at; offset = h.offset; count = x } in r) en
 
-numbers_parts : (h : Head) → numbers h ≡ word h.kind ++ (word h.at ++ (word h.offset ++ word h.count))
+numbers_parts : (h : EntryHeader) → numbers h ≡ word h.kind ++ (word h.at ++ (word h.offset ++ word h.count))
 unfolding numbers
 numbers_parts h = simp append_assoc
 
-numbers_same : (h k : Head) → IsHead h → IsHead k → numbers h ≡ numbers k → h ≡ k
+numbers_same : (h k : EntryHeader) → IsHead h → IsHead k → numbers h ≡ numbers k → h ≡ k
 numbers_same h k p q e =
     let one = word_once h.kind k.kind (word h.at ++ (word h.offset ++ word h.count)) (word k.at ++ (word k.offset ++ word k.count)) p.kind q.kind (sym (numbers_parts h) ∙ e ∙ numbers_parts k) in
     let two = word_once h.at k.at (word h.offset ++ word h.count) (word k.offset ++ word k.count) p.at q.at one.1 in
@@ -87,11 +87,11 @@ numbers_same h k p q e =
 
 -- ---- entries
 
-pub grouped : (h : Head) (f s r : List ℕ) → entry h f s ++ r ≡ numbers h ++ (word (length f) ++ (word (length s) ++ (f ++ (s ++ r))))
+pub grouped : (h : EntryHeader) (f s r : List ℕ) → entry h f s ++ r ≡ numbers h ++ (word (length f) ++ (word (length s) ++ (f ++ (s ++ r))))
 unfolding entry entry_front
 grouped h f s r = simp append_assoc
 
-pub entry_cut : (bytes a b c d r : List ℕ) (h : Head) (f s : List ℕ) (m n : ℕ) → bytes ≡ numbers h ++ a → a ≡ word m ++ b → b ≡ word n ++ c → c ≡ f ++ d → length f ≡ m → d ≡ s ++ r → length s ≡ n
+pub entry_cut : (bytes a b c d r : List ℕ) (h : EntryHeader) (f s : List ℕ) (m n : ℕ) → bytes ≡ numbers h ++ a → a ≡ word m ++ b → b ≡ word n ++ c → c ≡ f ++ d → length f ≡ m → d ≡ s ++ r → length s ≡ n
     → bytes ≡ entry h f s ++ r
 entry_cut bytes a b c d r h f s m n ea eb ec ed lf er ls =
     ea ∙ ap (λ (x : List ℕ). numbers h ++ x)
@@ -100,7 +100,7 @@ entry_cut bytes a b c d r h f s m n ea eb ec ed lf er ls =
     (ed ∙ ap (λ (x : List ℕ). f ++ x) er)))
     ∙ sym (grouped h f s r)
 
-after_entry : (h : Head) (f s bytes rest : List ℕ) → bytes ≡ entry h f s ++ rest → length bytes ≡ 48 + length f + length s + length rest
+after_entry : (h : EntryHeader) (f s bytes rest : List ℕ) → bytes ≡ entry h f s ++ rest → length bytes ≡ 48 + length f + length s + length rest
 after_entry h f s bytes rest e =
     let tail : List ℕ = f ++ (s ++ rest) in
     let a = after_head h bytes (word (length f) ++ (word (length s) ++ tail)) (e ∙ grouped h f s rest) in
@@ -110,14 +110,14 @@ after_entry h f s bytes rest e =
     let g : length (s ++ rest) ≡ length s + length rest = length-append s rest in
     omega arith
 
-pub shorter_behind : (h : Head) (f s bytes rest : List ℕ) → bytes ≡ entry h f s ++ rest → length rest < length bytes
+pub shorter_behind : (h : EntryHeader) (f s bytes rest : List ℕ) → bytes ≡ entry h f s ++ rest → length rest < length bytes
 shorter_behind h f s bytes rest e = let size = after_entry h f s bytes rest e in omega arith
 
 pub too_few : (bytes : List ℕ) → length bytes < 48 → LacksEntry bytes
 too_few bytes few = λ h f s rest fits fits2 e. let size = after_entry h f s bytes rest e in omega arith
 
 -- the parts of an entry, where its lengths fit
-lengths_once : (h k : Head) (m n : ℕ) (r f s rest : List ℕ) → IsWord m → IsWord n → IsWord (length f) → IsWord (length s)
+lengths_once : (h k : EntryHeader) (m n : ℕ) (r f s rest : List ℕ) → IsWord m → IsWord n → IsWord (length f) → IsWord (length s)
     → numbers h ++ (word m ++ (word n ++ r)) ≡ entry k f s ++ rest → (numbers h ≡ numbers k) × (m ≡ length f) × (n ≡ length s) × (r ≡ f ++ (s ++ rest))
 lengths_once h k m n r f s rest pm pn pf ps e =
     let one = same_split 32 (numbers h) (numbers k) (word m ++ (word n ++ r)) (word (length f) ++ (word (length s) ++ (f ++ (s ++ rest)))) (length-numbers h) (length-numbers k) (e ∙ grouped k f s rest) in
@@ -125,7 +125,7 @@ lengths_once h k m n r f s rest pm pn pf ps e =
     let three = word_once n (length s) r (f ++ (s ++ rest)) pn ps two.1 in
     (one.0, two.0, three.0, three.1)
 
-pub too_short : (bytes a b r : List ℕ) (h : Head) (m n : ℕ) → bytes ≡ numbers h ++ a → a ≡ word m ++ b → b ≡ word n ++ r → IsWord m → IsWord n → length r < m + n → LacksEntry bytes
+pub too_short : (bytes a b r : List ℕ) (h : EntryHeader) (m n : ℕ) → bytes ≡ numbers h ++ a → a ≡ word m ++ b → b ≡ word n ++ r → IsWord m → IsWord n → length r < m + n → LacksEntry bytes
 too_short bytes a b r h m n ea eb ec pm pn few = λ k f s rest fits fits2 e.
     let is : numbers h ++ (word m ++ (word n ++ r)) ≡ entry k f s ++ rest = ap (λ (x : List ℕ). numbers h ++ x) (sym (eb ∙ ap (λ (x : List ℕ). word m ++ x) ec)) ∙ sym ea ∙ e in
     let parts = lengths_once h k m n r f s rest pm pn fits fits2 is in
@@ -135,7 +135,7 @@ too_short bytes a b r h m n ea eb ec pm pn few = λ k f s rest fits fits2 e.
     let second : n ≡ length s = parts.2 in
     omega arith
 
-pub entry_once : (h k : Head) (f s g t x y : List ℕ) → IsHead h → IsHead k → IsWord (length f) → IsWord (length s) → IsWord (length g) → IsWord (length t)
+pub entry_once : (h k : EntryHeader) (f s g t x y : List ℕ) → IsHead h → IsHead k → IsWord (length f) → IsWord (length s) → IsWord (length g) → IsWord (length t)
     → entry h f s ++ x ≡ entry k g t ++ y → (h ≡ k) × (f ≡ g) × (s ≡ t) × (x ≡ y)
 entry_once h k f s g t x y ph pk pf ps pg pt e =
     let parts = lengths_once h k (length f) (length s) (f ++ (s ++ x)) g t y pf ps pg pt (sym (grouped h f s x) ∙ e) in

@@ -2,12 +2,12 @@
 use Rattle.std.specs.Prelude.{◌≡◌, ◌≢◌, ◌≤◌, ℕ, List, ◌++◌, length, take, codes}
 use Rattle.logs.specs.Entries.{IsWord, body_of, IsChange, word}
 use Rattle.logs.specs.Records.{AreBodies, Counts, LacksRecord, digest, front, whole, written}
-use Rattle.logs.specs.declared.change.Change.{Change}
+use Rattle.logs.specs.declared.wal_entry.WalEntry.{WalEntry}
 use Rattle.std.specs.List.{AllByRecursion}
 
 -- a body is that of one list of changes
 abbrev pub OneBodyLaw : Type 0
-OneBodyLaw = (cs ds : List Change) → AllByRecursion IsChange cs → AllByRecursion IsChange ds → body_of cs ≡ body_of ds → cs ≡ ds
+OneBodyLaw = (cs ds : List WalEntry) → AllByRecursion IsChange cs → AllByRecursion IsChange ds → body_of cs ≡ body_of ds → cs ≡ ds
 
 -- what counts of a log is told by its bytes
 abbrev pub OneReadingLaw : Type 0

@@ -1,4 +1,4 @@
 pub mod Entries
-pub mod Lays
+pub mod Encode
 pub mod Records
 pub mod Laws

@@ -4,20 +4,20 @@ ghost use Rattle.pathkey.specs.declared.errno.Errno.TheVariants.{EINVAL, ENOMEM}
 ghost use Rattle.logs.specs.Entries.{IsNoName, IsNoText, ReadsEntry, RefusesBody, Refuses, body_of, has_no_numbers, keeping_kind, path_kind};
 ghost use Rattle.pathkey.specs.Texts.{text_of};
 
-use crate::change::{Change, Keeping, PathChange};
-use crate::entry::{Head, cut_entry};
+use crate::entry::{EntryHeader, split_entry};
+use crate::wal_entry::{PathCall, SnapshotCall, WalEntry};
 use bytes::Bytes;
 use pathkey::{Errno, NoMemory, Path, SnapName};
 use std::alloc::Global;
 
 /// The changes that the body of a record is. `EINVAL`: it is no list of changes. `ENOMEM`.
-pub fn read_changes(alloc: Global, body: &[u8]) -> Result<Vec<Change>, Errno>
+pub fn decode_entries(alloc: Global, body: &[u8]) -> Result<Vec<WalEntry>, Errno>
     ensures { MatchResult result (λ changes. body.now ≡ body_of changes.items) (λ e. RefusesBody body.now e) }
 {
     let mut changes = Vec::new(alloc);
     let mut rest = body;
     while !rest.is_empty() {
-        let Some((head, first, second, behind)) = cut_entry(rest) else {
+        let Some((head, first, second, behind)) = split_entry(rest) else {
             return Err(Errno::EINVAL);
         };
         match read_entry(alloc, head, first, second) {
@@ -30,7 +30,7 @@ pub fn read_changes(alloc: Global, body: &[u8]) -> Result<Vec<Change>, Errno>
 }
 
 // Adds a change.
-fn push(changes: &mut Vec<Change>, change: Change) -> Result<(), NoMemory>
+fn push(changes: &mut Vec<WalEntry>, change: WalEntry) -> Result<(), NoMemory>
     ensures { OnOk result (changes.new.items ≡ changes.old.items ++ change ∷ []) }
 {
     changes.push(change)?;
@@ -38,41 +38,46 @@ fn push(changes: &mut Vec<Change>, change: Change) -> Result<(), NoMemory>
 }
 
 // The change whose entry this is.
-fn read_entry(alloc: Global, head: Head, first: &[u8], second: &[u8]) -> Result<Change, Errno>
+fn read_entry(
+    alloc: Global,
+    head: EntryHeader,
+    first: &[u8],
+    second: &[u8],
+) -> Result<WalEntry, Errno>
     ensures { ReadsEntry head first.now second.now result }
 {
     match head.kind {
-        1 => read_on_path(alloc, PathChange::Mkdir, head, first, second),
-        2 => read_on_path(alloc, PathChange::Create, head, first, second),
-        3 => read_on_path(alloc, PathChange::Unlink, head, first, second),
-        4 => read_on_path(alloc, PathChange::Rmdir, head, first, second),
-        5 => read_on_path(alloc, PathChange::Rmtree, head, first, second),
+        1 => decode_path_call(alloc, PathCall::Mkdir, head, first, second),
+        2 => decode_path_call(alloc, PathCall::Create, head, first, second),
+        3 => decode_path_call(alloc, PathCall::Unlink, head, first, second),
+        4 => decode_path_call(alloc, PathCall::Rmdir, head, first, second),
+        5 => decode_path_call(alloc, PathCall::Rmtree, head, first, second),
         6 => read_rename(alloc, head, first, second),
         7 => read_truncate(alloc, head, first, second),
         8 => read_write(alloc, head, first, second),
         9 => read_punch(alloc, head, first, second),
-        10 => read_keep(alloc, Keeping::Snapshot, head, first, second),
-        11 => read_keep(alloc, Keeping::Remove, head, first, second),
-        12 => read_keep(alloc, Keeping::Restore, head, first, second),
+        10 => decode_snapshot_call(alloc, SnapshotCall::Snapshot, head, first, second),
+        11 => decode_snapshot_call(alloc, SnapshotCall::Remove, head, first, second),
+        12 => decode_snapshot_call(alloc, SnapshotCall::Restore, head, first, second),
         _ => Err(Errno::EINVAL),
     }
 }
 
 // Whether an entry has no number but its moment.
-fn has_no_numbers(head: Head) -> bool
+fn has_no_numbers(head: EntryHeader) -> bool
     ensures { result ≡ has_no_numbers head }
 {
     head.offset == 0 && head.count == 0
 }
 
 // What makes or takes out what stands at a path.
-fn read_on_path(
+fn decode_path_call(
     alloc: Global,
-    what: PathChange,
-    head: Head,
+    what: PathCall,
+    head: EntryHeader,
     first: &[u8],
     second: &[u8],
-) -> Result<Change, Errno>
+) -> Result<WalEntry, Errno>
     requires { path_kind what ≡ head.kind }
     ensures { ReadsEntry head first.now second.now result }
 {
@@ -80,11 +85,16 @@ fn read_on_path(
         return Err(Errno::EINVAL);
     }
     let path = read_path(alloc, first)?;
-    Ok(Change::OnPath(what, path, head.at))
+    Ok(WalEntry::OnPath(what, path, head.at))
 }
 
 // A move.
-fn read_rename(alloc: Global, head: Head, first: &[u8], second: &[u8]) -> Result<Change, Errno>
+fn read_rename(
+    alloc: Global,
+    head: EntryHeader,
+    first: &[u8],
+    second: &[u8],
+) -> Result<WalEntry, Errno>
     requires { 6 ≡ head.kind }
     ensures { ReadsEntry head first.now second.now result }
 {
@@ -93,11 +103,16 @@ fn read_rename(alloc: Global, head: Head, first: &[u8], second: &[u8]) -> Result
     }
     let old = read_path(alloc, first)?;
     let new = read_path(alloc, second)?;
-    Ok(Change::Rename(old, new, head.at))
+    Ok(WalEntry::Rename(old, new, head.at))
 }
 
 // A file that is cut or lengthened.
-fn read_truncate(alloc: Global, head: Head, first: &[u8], second: &[u8]) -> Result<Change, Errno>
+fn read_truncate(
+    alloc: Global,
+    head: EntryHeader,
+    first: &[u8],
+    second: &[u8],
+) -> Result<WalEntry, Errno>
     requires { 7 ≡ head.kind }
     ensures { ReadsEntry head first.now second.now result }
 {
@@ -105,11 +120,16 @@ fn read_truncate(alloc: Global, head: Head, first: &[u8], second: &[u8]) -> Resu
         return Err(Errno::EINVAL);
     }
     let path = read_path(alloc, first)?;
-    Ok(Change::Truncate(path, head.offset, head.at))
+    Ok(WalEntry::Truncate(path, head.offset, head.at))
 }
 
 // Bytes that are laid over a file.
-fn read_write(alloc: Global, head: Head, first: &[u8], second: &[u8]) -> Result<Change, Errno>
+fn read_write(
+    alloc: Global,
+    head: EntryHeader,
+    first: &[u8],
+    second: &[u8],
+) -> Result<WalEntry, Errno>
     requires { 8 ≡ head.kind }
     ensures { ReadsEntry head first.now second.now result }
 {
@@ -120,11 +140,16 @@ fn read_write(alloc: Global, head: Head, first: &[u8], second: &[u8]) -> Result<
     let Ok(bytes) = Bytes::copy_from_slice(alloc, second) else {
         return Err(Errno::ENOMEM);
     };
-    Ok(Change::Write(path, head.offset, bytes, head.at))
+    Ok(WalEntry::Write(path, head.offset, bytes, head.at))
 }
 
 // A hole.
-fn read_punch(alloc: Global, head: Head, first: &[u8], second: &[u8]) -> Result<Change, Errno>
+fn read_punch(
+    alloc: Global,
+    head: EntryHeader,
+    first: &[u8],
+    second: &[u8],
+) -> Result<WalEntry, Errno>
     requires { 9 ≡ head.kind }
     ensures { ReadsEntry head first.now second.now result }
 {
@@ -132,17 +157,17 @@ fn read_punch(alloc: Global, head: Head, first: &[u8], second: &[u8]) -> Result<
         return Err(Errno::EINVAL);
     }
     let path = read_path(alloc, first)?;
-    Ok(Change::Punch(path, head.offset, head.count, head.at))
+    Ok(WalEntry::Punch(path, head.offset, head.count, head.at))
 }
 
 // What becomes of a snapshot.
-fn read_keep(
+fn decode_snapshot_call(
     alloc: Global,
-    what: Keeping,
-    head: Head,
+    what: SnapshotCall,
+    head: EntryHeader,
     first: &[u8],
     second: &[u8],
-) -> Result<Change, Errno>
+) -> Result<WalEntry, Errno>
     requires { keeping_kind what ≡ head.kind }
     ensures { ReadsEntry head first.now second.now result }
 {
@@ -150,7 +175,7 @@ fn read_keep(
         return Err(Errno::EINVAL);
     }
     let name = read_name(alloc, first)?;
-    Ok(Change::Keep(what, name))
+    Ok(WalEntry::Keep(what, name))
 }
 
 // The path of a text. `EINVAL`: it is the text of none.

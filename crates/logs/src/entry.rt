@@ -2,11 +2,11 @@
 ghost use Rattle.std.specs.Prelude.{◌≡◌, ◌<◌, ◌++◌, IfSome, MatchOption, length};
 ghost use Rattle.logs.specs.Entries.{IsHead, IsWord, LacksEntry, entry, numbers};
 
-use crate::words::cut_word;
+use crate::u64_le::split_u64;
 
 /// The numbers of an entry.
 #[derive(Clone, Copy)]
-pub(crate) struct Head {
+pub(crate) struct EntryHeader {
     /// Which change it is.
     pub(crate) kind: u64,
     /// Its moment.
@@ -18,18 +18,18 @@ pub(crate) struct Head {
 }
 
 // The entry that bytes begin with, its numbers and two texts, and the bytes behind it; none where they begin with none.
-pub(crate) fn cut_entry(bytes: &[u8]) -> Option<(Head, &[u8], &[u8], &[u8])>
+pub(crate) fn split_entry(bytes: &[u8]) -> Option<(EntryHeader, &[u8], &[u8], &[u8])>
     ensures shorter { IfSome result (λ cut. length cut.3.now < length bytes.now) }
     ensures is { MatchOption result (LacksEntry bytes.now) (λ cut. bytes.now ≡ entry cut.0 cut.1.now cut.2.now ++ cut.3.now) }
     ensures fits { IfSome result (λ cut. IsHead cut.0 × IsWord (length cut.1.now) × IsWord (length cut.2.now)) }
 {
-    let Some((head, rest)) = cut_head(bytes) else {
+    let Some((head, rest)) = split_header(bytes) else {
         return None;
     };
-    let Some((first_len, rest)) = cut_word(rest) else {
+    let Some((first_len, rest)) = split_u64(rest) else {
         return None;
     };
-    let Some((second_len, rest)) = cut_word(rest) else {
+    let Some((second_len, rest)) = split_u64(rest) else {
         return None;
     };
     let Some((first, rest)) = cut_at(rest, first_len) else {
@@ -42,23 +42,23 @@ pub(crate) fn cut_entry(bytes: &[u8]) -> Option<(Head, &[u8], &[u8], &[u8])>
 }
 
 // The numbers that bytes begin with, and the bytes behind them; none where they are too few.
-fn cut_head(bytes: &[u8]) -> Option<(Head, &[u8])>
+fn split_header(bytes: &[u8]) -> Option<(EntryHeader, &[u8])>
     ensures is { MatchOption result (length bytes.now < 32) (λ cut. bytes.now ≡ numbers cut.0 ++ cut.1.now) }
     ensures fits { IfSome result (λ cut. IsHead cut.0) }
 {
-    let Some((kind, rest)) = cut_word(bytes) else {
+    let Some((kind, rest)) = split_u64(bytes) else {
         return None;
     };
-    let Some((at, rest)) = cut_word(rest) else {
+    let Some((at, rest)) = split_u64(rest) else {
         return None;
     };
-    let Some((offset, rest)) = cut_word(rest) else {
+    let Some((offset, rest)) = split_u64(rest) else {
         return None;
     };
-    let Some((count, rest)) = cut_word(rest) else {
+    let Some((count, rest)) = split_u64(rest) else {
         return None;
     };
-    let head = Head {
+    let head = EntryHeader {
         kind,
         at,
         offset,

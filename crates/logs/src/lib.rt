@@ -2,14 +2,14 @@
 //! where the log is cut or damaged.
 #![tactic(auto)]
 
-pub mod change;
 mod decode;
+pub mod encode;
 mod entry;
 pub mod laws;
-pub mod lay;
 pub mod record;
-mod words;
+mod u64_le;
+pub mod wal_entry;
 
-pub use change::{Change, Keeping, PathChange};
-pub use decode::read_changes;
-pub use record::{next_record, record_ends};
+pub use decode::decode_entries;
+pub use record::{next_record, record_frame};
+pub use wal_entry::{PathCall, SnapshotCall, WalEntry};

@@ -21,9 +21,9 @@ module _ {U V : Type 0} (means : U → Option V → Option V) where
       ∙ ap (λ (m : PNode U V). value means m k) is
 
   -- where the messages tell the value, whatever is below
-  pub value-told : (k : List ℕ) (xs : List (Slot U V)) (i : ℕ) (slot : Slot U V) (n : PNode U V) (v : Option V) → inner (seen_slots xs) ≡ n → 0 < length xs → i ≡ slot_number (seen_slots xs) k → slot ≡ get_or xs i slot → ((o : Option V) → effects means slot.pending.0 k o ≡ v)
+  pub value-resolution : (k : List ℕ) (xs : List (Slot U V)) (i : ℕ) (slot : Slot U V) (n : PNode U V) (v : Option V) → inner (seen_slots xs) ≡ n → 0 < length xs → i ≡ slot_number (seen_slots xs) k → slot ≡ get_or xs i slot → ((o : Option V) → effects means slot.pending.0 k o ≡ v)
       → v ≡ value means n k
-  value-told k xs i slot n v is some number at told = sym (told (value means slot.child.value k)) ∙ value-below k xs i slot n slot.child.value (value means slot.child.value k) is some number at refl refl
+  value-resolution k xs i slot n v is some number at resolution = sym (resolution (value means slot.child.value k)) ∙ value-below k xs i slot n slot.child.value (value means slot.child.value k) is some number at refl refl
 
   -- where no message touches the key
   pub value-untouched : (k : List ℕ) (xs : List (Slot U V)) (i : ℕ) (slot : Slot U V) (n child : PNode U V) (below : Option V) → inner (seen_slots xs) ≡ n → 0 < length xs → i ≡ slot_number (seen_slots xs) k → slot ≡ get_or xs i slot → child ≡ slot.child.value → ((o : Option V) → effects means slot.pending.0 k o ≡ o) → below ≡ value means child k

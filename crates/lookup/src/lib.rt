@@ -6,7 +6,7 @@ ghost use Rattle.node.specs.Lawful.{Rises};
 ghost use Rattle.node.specs.Meaning.{lookup, value as value_at};
 ghost use Rattle.node.specs.Searchable.{IsSearchable};
 
-use message::{Told, Update};
+use message::{Resolution, Update};
 use node::leaf::position;
 use node::search::slot_of;
 use node::{Body, Node, Tree};
@@ -38,10 +38,10 @@ fn find<U: Update>(alloc: Global, node: &Node<U>, key: &Key) -> Result<Option<U:
                 return Ok(None);
             }
             let slot = &slots[slot_of(slots.as_slice(), key)];
-            match slot.pending.told(alloc, key)? {
-                Told::Value(value) => Ok(value),
-                Told::Nothing => find(alloc, &slot.child, key),
-                Told::Change => {
+            match slot.pending.resolve(alloc, key)? {
+                Resolution::Value(value) => Ok(value),
+                Resolution::Untouched => find(alloc, &slot.child, key),
+                Resolution::NeedsBase => {
                     let below = find(alloc, &slot.child, key)?;
                     slot.pending.value_after(alloc, key, below)
                 }

@@ -2,10 +2,10 @@
 use Rattle.std.proofs.Common.{Option, ◌≡◌, ℕ, zero, suc, ◌-◌, ◌<◌, ◌≤◌, refl, sym, ap, ◌∙◌, List, [], ◌∷◌, ◌++◌, length, take, drop, arith, subst, append_assoc, length-append, false, ◌||◌}
 use Rattle.std.proofs.Math.Bool.{or_assoc}
 use Rattle.message.specs.declared.msg.Msg.{Msg}
-use Rattle.message.specs.declared.told.Told.{Told}
-use Rattle.message.specs.declared.told.Told.TheVariants.{Nothing, Value, Change}
+use Rattle.message.specs.declared.resolution.Resolution.{Resolution}
+use Rattle.message.specs.declared.resolution.Resolution.TheVariants.{Untouched, Value, NeedsBase}
 use Rattle.message.specs.Effects.{touches, any_touches, effects, Takes}
-use Rattle.message.specs.Told.{IsTold}
+use Rattle.message.specs.Resolution.{IsResolved}
 use Rattle.message.proofs.Lists.{effects-append, any_touches-append, takes-append, untouched}
 use Rattle.message.proofs.Composing.{untouched_first, untouched_second}
 
@@ -42,10 +42,10 @@ module _ {U V : Type 0} (means : U → Option V → Option V) where
   value_behind s f old k o w v e g h = h ∙ ap (λ x. effects means f k x) g ∙ sym (effects-append means s f k o) ∙ ap (λ xs. effects means xs k o) e
 
   -- a tail that does not touch the key changes nothing that is told
-  pub told_before : (s f : List (Msg U V)) (k : List ℕ) (t : Told V) → any_touches f k ≡ false → IsTold means s k t → IsTold means (s ++ f) k t
-  told_before s f k Nothing h g = (any_touches-append s f k g.0 h, λ o. effects-append means s f k o ∙ untouched means f k (effects means s k o) h ∙ g.1 o)
-  told_before s f k (Value v) h g = λ o. effects-append means s f k o ∙ untouched means f k (effects means s k o) h ∙ g o
-  told_before s f k Change h g = tt
+  pub resolved_before : (s f : List (Msg U V)) (k : List ℕ) (t : Resolution V) → any_touches f k ≡ false → IsResolved means s k t → IsResolved means (s ++ f) k t
+  resolved_before s f k Untouched h g = (any_touches-append s f k g.0 h, λ o. effects-append means s f k o ∙ untouched means f k (effects means s k o) h ∙ g.1 o)
+  resolved_before s f k (Value v) h g = λ o. effects-append means s f k o ∙ untouched means f k (effects means s k o) h ∙ g o
+  resolved_before s f k NeedsBase h g = tt
 
 -- what touches a key in two lists end to end
 pub touches_append : {U V : Type 0} (xs ys : List (Msg U V)) (k : List ℕ) → any_touches (xs ++ ys) k ≡ (any_touches xs k || any_touches ys k)

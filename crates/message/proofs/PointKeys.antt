@@ -10,7 +10,7 @@ use Rattle.pathkey.proofs.OrderFacts.{same_itself}
 use Rattle.pathkey.proofs.KeyOrder.{reaches-refl, reaches-from_not_before, not_before_from_reaches}
 use Rattle.message.specs.declared.msg.Msg.{Msg}
 use Rattle.message.specs.declared.msg.Msg.TheVariants as msg
-use Rattle.message.specs.Effects.{touches, effect, effects, point}
+use Rattle.message.specs.Effects.{touches, effect, effects, point_key}
 use Rattle.message.specs.Ranges.{reaches, before, within}
 use Rattle.message.specs.Stretches.{is_for, is_key, ends_of, all_ends, IsStretch}
 use Rattle.message.specs.PointKeys.{point_stop, has_point, clears, is_cleared, IsPointStop, IsNextPoint, IsClearStretch}
@@ -75,10 +75,10 @@ module _ {U V : Type 0} where
           (in_range from q end p.0 (x.inside q p.1), has_point-append xs ys q ∙ or_right (has_point xs q) (has_point ys q) h.1)
 
   -- one turn of a loop over the messages
-  pub stop_more : (ms : List (Msg U V)) (i : ℕ) (m : Msg U V) (o : Option (List ℕ)) (at : List ℕ) (end stop new : Option (List ℕ)) → i < length ms → m ≡ get_or ms i m → o ≡ point m → IsPointStop (take i ms) at end stop → new ≡ point_stop o at stop → IsPointStop (take (i + 1) ms) at end new
+  pub stop_more : (ms : List (Msg U V)) (i : ℕ) (m : Msg U V) (o : Option (List ℕ)) (at : List ℕ) (end stop new : Option (List ℕ)) → i < length ms → m ≡ get_or ms i m → o ≡ point_key m → IsPointStop (take i ms) at end stop → new ≡ point_stop o at stop → IsPointStop (take (i + 1) ms) at end new
   stop_more ms i m o at end stop new h g p x is =
       let one : take (i + 1) ms ≡ take i ms ++ m ∷ [] = take_more ms i m h ∙ ap (λ (z : Msg U V). take i ms ++ z ∷ []) (sym g) in
-      let last : IsPointStop (m ∷ []) at stop new = subst (IsPointStop (m ∷ []) at stop) (sym (is ∙ ap (λ z. point_stop z at stop) p)) (stop_one (m ∷ []) (point m) at stop (λ k. or_none (is_for m k))) in
+      let last : IsPointStop (m ∷ []) at stop new = subst (IsPointStop (m ∷ []) at stop) (sym (is ∙ ap (λ z. point_stop z at stop) p)) (stop_one (m ∷ []) (point_key m) at stop (λ k. or_none (is_for m k))) in
       subst (λ (xs : List (Msg U V)). IsPointStop xs at end new) (sym one) (stop_then (take i ms) (m ∷ []) at end stop new x last)
 
   pub stop_all : (ms : List (Msg U V)) (i : ℕ) (from : List ℕ) (end stop : Option (List ℕ)) → length ms ≤ i → IsPointStop (take i ms) from end stop → IsPointStop ms from end stop

@@ -19,11 +19,11 @@ module _ {U V : Type 0} where
   any_touches (m ∷ ms) k = touches m k || any_touches ms k
 
   -- the one key that a message touches, if it is no range-delete
-  abbrev pub point : Msg U V → Option (List ℕ)
-  point (Put q v) = Some q
-  point (Del q) = Some q
-  point (DelRange r) = None
-  point (Edit q u) = Some q
+  abbrev pub point_key : Msg U V → Option (List ℕ)
+  point_key (Put q v) = Some q
+  point_key (Del q) = Some q
+  point_key (DelRange r) = None
+  point_key (Edit q u) = Some q
 
   -- how many messages are range-deletes
   abbrev pub range_count : List (Msg U V) → ℕ

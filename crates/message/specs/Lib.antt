@@ -2,6 +2,6 @@ pub mod Ranges
 pub mod Effects
 pub mod Cuts
 pub mod Oldest
-pub mod Told
+pub mod Resolution
 pub mod Stretches
 pub mod PointKeys

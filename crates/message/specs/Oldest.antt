@@ -3,14 +3,14 @@ use Rattle.std.specs.Prelude.{◌&&◌, Bool, false, is_some, ℕ, List, [], ◌
 use Rattle.message.specs.declared.msg.Msg.{Msg}
 use Rattle.message.specs.declared.msg.Msg.TheVariants.{Put, Del, DelRange, Edit}
 use Rattle.message.specs.Cuts.{cut_to}
-use Rattle.message.specs.Effects.{point}
+use Rattle.message.specs.Effects.{point_key}
 use Rattle.message.specs.Ranges.{reaches, ends_within}
 
 module _ {U V : Type 0} where
   -- its key, if there is one and it is no range-delete
   abbrev pub first_point : List (Msg U V) → Option (List ℕ)
   first_point [] = None
-  first_point (m ∷ ms) = point m
+  first_point (m ∷ ms) = point_key m
 
   -- the key to which a message gives a value whatever was there
   abbrev pub put_at : Msg U V → Option (List ℕ)

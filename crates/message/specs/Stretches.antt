@@ -7,7 +7,7 @@ use Rattle.pathkey.specs.declared.range.KeyRange.{KeyRange}
 use Rattle.message.specs.declared.msg.Msg.{Msg}
 use Rattle.message.specs.declared.msg.Msg.TheVariants.{Put, Del, DelRange, Edit}
 use Rattle.message.specs.Ranges.{before, within}
-use Rattle.message.specs.Effects.{touches, point}
+use Rattle.message.specs.Effects.{touches, point_key}
 
 -- the end, where it lies after `from`
 abbrev pub ahead_of : List ℕ → Option (List ℕ) → Option (List ℕ)
@@ -26,7 +26,7 @@ is_key (Some q) k = same q k
 module _ {U V : Type 0} where
   -- the message is one for the key k alone
   abbrev pub is_for : Msg U V → List ℕ → Bool
-  is_for m k = is_key (point m) k
+  is_for m k = is_key (point_key m) k
 
   -- each message touches all keys from `from` up to and without `stop`, or none of them
   abbrev pub ActAlike : List (Msg U V) → List ℕ → Option (List ℕ) → Type 0

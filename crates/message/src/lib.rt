@@ -5,14 +5,14 @@
 //! message does to the value at each single key, and cuts messages to the range of a slot.
 #![tactic(auto)]
 
+pub mod drain;
 pub mod ends;
-pub mod meets;
 pub mod msg;
-pub mod taken;
-pub mod told;
+pub mod range_tests;
+pub mod resolution;
 pub mod update;
 
+pub use drain::MsgDrain;
 pub use msg::{Msg, cut, edited, touches};
-pub use taken::Taken;
-pub use told::Told;
-pub use update::{Changes, Update};
+pub use resolution::Resolution;
+pub use update::{Update, UpdateTarget};

@@ -1,20 +1,20 @@
 //! Messages: which keys they touch, what they make of a value, and the part of a message that lies in a range.
 ghost use Rattle.std.specs.Prelude.{◌≡◌, IfOk};
 ghost use Rattle.std.specs.Option.{option_copied};
-ghost use Rattle.message.specs.Effects.{touches as is_touched, effect, point as point_of};
+ghost use Rattle.message.specs.Effects.{touches as is_touched, effect, point_key as point_of};
 ghost use Rattle.message.specs.Cuts.{cut_range, cut_to, IsCut};
 ghost use Rattle.message.specs.Oldest.{given_at};
 ghost use Rattle.message.specs.Ranges.{earlier_end, later_key};
 
 use crate::ends::{earlier_end, is_within, later_key};
-use crate::meets::overlaps;
-use crate::update::{Changes, Update};
+use crate::range_tests::overlaps;
+use crate::update::{Update, UpdateTarget};
 use pathkey::{Key, KeyRange, NoMemory};
 use std::alloc::Global;
 
 /// A change of a map from keys to values.
 #[derive(Drop)]
-pub enum Msg<U: Changes> {
+pub enum Msg<U: UpdateTarget> {
     /// The key gets the value.
     Put(Key, U::Value),
     /// The key has no value any more.
@@ -39,7 +39,7 @@ impl<U: Update> Msg<U> {
     }
 
     /// The one key that the message touches, if it is no range-delete.
-    pub fn point(&self) -> Option<&Key>
+    pub fn point_key(&self) -> Option<&Key>
         ensures { option_copied result ≡ point_of self.now }
     {
         match self {
@@ -49,7 +49,7 @@ impl<U: Update> Msg<U> {
     }
 
     /// The key to which the message may give a value where it had none: that of a put or of an edit.
-    pub fn given(&self) -> Option<&Key>
+    pub fn created_key(&self) -> Option<&Key>
         ensures { option_copied result ≡ given_at self.now }
     {
         match self {
@@ -59,7 +59,7 @@ impl<U: Update> Msg<U> {
     }
 
     /// The value at `key` after the message, where `old` was there.
-    pub fn lay(
+    pub fn apply_msg(
         &self,
         alloc: Global,
         key: &Key,
@@ -110,7 +110,7 @@ pub fn edited<U: Update>(
     let Some(mut value) = old else {
         return update.apply(alloc, old.as_ref());
     };
-    if update.change(alloc, &mut value)? {
+    if update.apply_in_place(alloc, &mut value)? {
         Ok(Some(value))
     } else {
         Ok(None)

@@ -10,13 +10,13 @@ use std::alloc::Global;
 ///
 /// It stands apart from [`Update`] because types that lead back to themselves are bounded by a trait
 /// without ghost members.
-pub trait Changes {
+pub trait UpdateTarget {
     /// The values that the update changes.
     type Value: Drop;
 }
 
 /// A change of one value. Contracts see what it does as the function `means`.
-pub trait Update: Changes + Drop {
+pub trait Update: UpdateTarget + Drop {
     /// The value after the update, where this one was there; `None` is no value.
     ghost means: { Self → Option Self.Value → Option Self.Value };
 
@@ -30,7 +30,7 @@ pub trait Update: Changes + Drop {
 
     /// Changes a value that is there in its place, and answers whether there still is one. On want of memory it is
     /// as it was.
-    fn change(&self, alloc: Global, value: &mut Self::Value) -> Result<bool, NoMemory>
+    fn apply_in_place(&self, alloc: Global, value: &mut Self::Value) -> Result<bool, NoMemory>
         ensures ok { IfOk result (λ stays. (if stays then Some value.new else None) ≡ means self.now (Some value.old)) }
         ensures err { OnErr result (value.new ≡ value.old) }
     {
@@ -49,7 +49,7 @@ pub trait Update: Changes + Drop {
 
     /// Takes in `later`: the update then does what it did and then `later` does to every old value. It answers whether it did;
     /// where the type has no such update, or memory was refused, it is as it was.
-    fn absorb(&mut self, alloc: Global, later: &Self) -> bool
+    fn join_in_place(&mut self, alloc: Global, later: &Self) -> bool
         ensures taken { OnTrue result ((old : Option Self.Value) → means self.new old ≡ means later.now (means self.old old)) }
         ensures unchanged { OnFalse result (self.new ≡ self.old) }
     {

@@ -15,7 +15,7 @@ use Rattle.scan.specs.Pairs.{IsFirst}
 use Rattle.message.proofs.NextKey.{before-next, reaches-next}
 use Rattle.reference.specs.Tree.{Tree, Dir, File, nothing, entry, entry_at, named, found, onward, At, Found, Missing, Blocked}
 use Rattle.reference.specs.Calls.{is_full}
-use Rattle.reference.specs.Looks.{sighted, sight}
+use Rattle.reference.specs.Reads.{sighted, sight}
 use Rattle.reference.specs.Indexes.{meta_of, PathOf}
 use Rattle.reference.specs.declared.reply.Meta.{Meta}
 use Rattle.reference.proofs.Edits.{fold-Missing, fold-Blocked}

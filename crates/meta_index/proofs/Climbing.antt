@@ -6,22 +6,22 @@ use Rattle.pathkey.specs.Enc.{enc}
 use Rattle.reference.specs.Tree.{Tree, Dir, File, entry_at, named, found, onward}
 use Rattle.reference.specs.Tree.{At, Found, Missing, Blocked}
 use Rattle.reference.specs.Shape.{IsDirectory}
-use Rattle.reference.specs.Looks.{Directory, Bytes, seen, look, Sight, Seen, sighted, sight}
+use Rattle.reference.specs.Reads.{Directory, Bytes, seen, look, Sight, Seen, sighted, sight}
 use Rattle.reference.specs.Indexes.{meta_of}
 use Rattle.reference.specs.declared.reply.Meta.{Meta}
 use Rattle.reference.proofs.Edits.{unseen}
 use Rattle.reference.proofs.EntryPaths.{along, last_name}
 use Rattle.meta_index.specs.declared.at.At as meta
 use Rattle.meta_index.specs.declared.index.MetaIndex.{MetaIndex}
-use Rattle.meta_index.specs.Means.{metadata, IsMeantBy, told, beyond, Decides}
+use Rattle.meta_index.specs.Means.{metadata, IsMeantBy, lookup_answer, beyond, Decides}
 
 -- ---- one path
 
-told_sighted : (here : At) (v : Meta) → meta_of (sighted here) ≡ Some v → meta.TheVariants.Found v ≡ told here
-told_sighted (Found (Dir date es)) v e = cc
-told_sighted (Found (File date b)) v e = cc
-told_sighted Missing v e = absurd (cc)
-told_sighted Blocked v e = absurd (cc)
+reported_sighted : (here : At) (v : Meta) → meta_of (sighted here) ≡ Some v → meta.TheVariants.Found v ≡ lookup_answer here
+reported_sighted (Found (Dir date es)) v e = cc
+reported_sighted (Found (File date b)) v e = cc
+reported_sighted Missing v e = absurd (cc)
+reported_sighted Blocked v e = absurd (cc)
 
 without_meta : (s : Option Sight) → meta_of s ≡ None → s ≡ None
 without_meta None e = refl
@@ -29,8 +29,8 @@ without_meta (Some (Seen Directory date)) e = absurd (cc)
 without_meta (Some (Seen (Bytes b) date)) e = absurd (cc)
 
 -- the metadata at a path's key are those of what stands there
-pub found_told : (t : Tree) (m : MetaIndex) (p : Path) (v : Meta) → IsPath p → Some v ≡ metadata m (enc p) → IsMeantBy t m → meta.TheVariants.Found v ≡ told (entry_at t p)
-found_told t m p v is_path e means = told_sighted (entry_at t p) v (sym (means.meta.paths p is_path) ∙ sym e)
+pub found_reported : (t : Tree) (m : MetaIndex) (p : Path) (v : Meta) → IsPath p → Some v ≡ metadata m (enc p) → IsMeantBy t m → meta.TheVariants.Found v ≡ lookup_answer (entry_at t p)
+found_reported t m p v is_path e means = reported_sighted (entry_at t p) v (sym (means.meta.paths p is_path) ∙ sym e)
 
 -- and where there are none, nothing is seen
 pub none_seen : (t : Tree) (m : MetaIndex) (p : Path) → IsPath p → None ≡ metadata m (enc p) → IsMeantBy t m → look t p ≡ None
@@ -94,6 +94,6 @@ parent_decides_for m p q is_path e decides t means none =
     above (k ∷ q) f g = f ∙ ap beyond g ∙ beyond_twice (entry_at t (parent (k ∷ q)))
 
 -- what stands at the path that decides tells why nothing stands below it
-pub decided : (m : MetaIndex) (p q : Path) (v : Meta) (at : meta.At) → IsPath q → Some v ≡ metadata m (enc q) → Decides m p (Some q) → ((here : At) → meta.TheVariants.Found v ≡ told here → at ≡ told (beyond here))
-    → (t : Tree) → IsMeantBy t m → look t p ≡ None → at ≡ told (entry_at t p)
-decided m p q v at is_path e decides tells t means none = tells (entry_at t q) (found_told t m q v is_path e means) ∙ ap told (sym (decides t means none))
+pub decided : (m : MetaIndex) (p q : Path) (v : Meta) (at : meta.At) → IsPath q → Some v ≡ metadata m (enc q) → Decides m p (Some q) → ((here : At) → meta.TheVariants.Found v ≡ lookup_answer here → at ≡ lookup_answer (beyond here))
+    → (t : Tree) → IsMeantBy t m → look t p ≡ None → at ≡ lookup_answer (entry_at t p)
+decided m p q v at is_path e decides tells t means none = tells (entry_at t q) (found_reported t m q v is_path e means) ∙ ap lookup_answer (sym (decides t means none))

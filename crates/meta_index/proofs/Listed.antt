@@ -15,7 +15,7 @@ use Rattle.message.proofs.NextKey.{by_bool, in_range, not_reaches, one_key}
 use Rattle.reference.specs.Tree.{Tree, Dir, File, Entries, nothing, entry, entry_at, named, found, onward, At, Found, Missing, Blocked}
 use Rattle.reference.specs.Calls.{kind_of, listing, names_of}
 use Rattle.reference.specs.Shape.{AllAbove, Rising, RisingEntries}
-use Rattle.reference.specs.Looks.{sighted}
+use Rattle.reference.specs.Reads.{sighted}
 use Rattle.reference.specs.Indexes.{meta_of, PathOf}
 use Rattle.reference.specs.declared.reply.Kind.{Kind}
 use Rattle.reference.specs.declared.reply.Meta.{Meta}
@@ -23,7 +23,7 @@ use Rattle.reference.proofs.Edits.{fold-Missing, fold-Blocked}
 use Rattle.reference.proofs.EntryPaths.{along, each_rest}
 use Rattle.reference.proofs.Standing.{rising-found}
 use Rattle.meta_index.specs.declared.index.MetaIndex.{MetaIndex}
-use Rattle.meta_index.specs.Below.{below, kind_told}
+use Rattle.meta_index.specs.Below.{below, kind_reported}
 use Rattle.meta_index.specs.Means.{metadata, IsMeantBy}
 use Rattle.meta_index.proofs.BelowPath.{in_below, from_below, seen_some}
 use Rattle.meta_index.proofs.ChildOrder.{end_key, child_before, end_before, child_inside, child_first}
@@ -130,7 +130,7 @@ later_named k n x y es h e = by_bool (same k n) (named k (entry n y es) ≡ Some
 name_bytes : (p : Path) (n : Name) (r : Path) → IsPath (p ++ n ∷ r) → HasNameBytes n
 name_bytes p n r h = (each_rest p (n ∷ r) h.names).0.bytes
 
-kind_is : (x : Tree) (v : Meta) → meta_of (sighted (Found x)) ≡ Some v → kind_told v ≡ kind_of x
+kind_is : (x : Tree) (v : Meta) → meta_of (sighted (Found x)) ≡ Some v → kind_reported v ≡ kind_of x
 kind_is (Dir date es) v e = cc
 kind_is (File date b) v e = cc
 
@@ -141,7 +141,7 @@ pub record Next (t : Tree) (m : MetaIndex) (p : Path) (listed : List (Kind × Na
   pub name : Name
   pub path : IsPath (p ++ name ∷ [])
   pub key : k ≡ enc (p ++ name ∷ [])
-  pub more : Listed t m p (listed ++ (kind_told v, name) ∷ []) (end_key p name) hi
+  pub more : Listed t m p (listed ++ (kind_reported v, name) ∷ []) (end_key p name) hi
 
 module _ (t : Tree) (m : MetaIndex) (p : Path) (means : IsMeantBy t m) (listed : List (Kind × Name)) (lo : Key) (hi : Option Key) where
   -- the metadata of an entry that is left
@@ -172,9 +172,9 @@ module _ (t : Tree) (m : MetaIndex) (p : Path) (means : IsMeantBy t m) (listed :
       cc))
 
   -- what is left behind the first entry
-  rest_behind : (n : Name) (x : Tree) (es : Entries) (v : Meta) → IsRest t m p (entry n x es) listed lo hi → kind_told v ≡ kind_of x → IsRest t m p es (listed ++ (kind_told v, n) ∷ []) (end_key p n) hi
+  rest_behind : (n : Name) (x : Tree) (es : Entries) (v : Meta) → IsRest t m p (entry n x es) listed lo hi → kind_reported v ≡ kind_of x → IsRest t m p es (listed ++ (kind_reported v, n) ∷ []) (end_key p n) hi
   rest_behind n x es v r kind = record {
-    whole = append_assoc listed ((kind_told v, n) ∷ []) (listing es) ∙ ap (λ (k : Kind). listed ++ (k, n) ∷ listing es) kind ∙ r.whole;
+    whole = append_assoc listed ((kind_reported v, n) ∷ []) (listing es) ∙ ap (λ (k : Kind). listed ++ (k, n) ∷ listing es) kind ∙ r.whole;
     rising = r.rising.2;
     stand = λ k y e. r.stand k y (later_named k n y x es r.rising.0 e);
     ahead = λ k y e.

@@ -7,10 +7,10 @@ use Rattle.pathkey.specs.declared.errno.Errno.{Errno}
 use Rattle.reference.specs.Tree.{Tree, Dir, File, At, Found, Missing, Blocked, entry_at}
 use Rattle.reference.specs.Calls.{no_directory_fault, parent_fault}
 use Rattle.reference.specs.Shape.{IsDirectory}
-use Rattle.meta_index.specs.Means.{moment_told, moment_in}
+use Rattle.meta_index.specs.Means.{moment_reported, moment_in}
 
 -- why no moment is told is why the path names no directory
-pub moment_fault : (here : At) → result_err (moment_told here) ≡ no_directory_fault here
+pub moment_fault : (here : At) → result_err (moment_reported here) ≡ no_directory_fault here
 moment_fault (Found (Dir date es)) = refl
 moment_fault (Found (File date b)) = refl
 moment_fault Missing = refl
@@ -21,9 +21,9 @@ root_fault : (t : Tree) → IsDirectory t → no_directory_fault (entry_at t [])
 root_fault (Dir date es) is = refl
 root_fault (File date b) is = absurd is
 
-told_of_parent : (t : Tree) (p : Path) → IsDirectory t → no_directory_fault (entry_at t (parent p)) ≡ parent_fault t p
-told_of_parent t [] is = root_fault t is
-told_of_parent t (n ∷ p) is = refl
+reported_of_parent : (t : Tree) (p : Path) → IsDirectory t → no_directory_fault (entry_at t (parent p)) ≡ parent_fault t p
+reported_of_parent t [] is = root_fault t is
+reported_of_parent t (n ∷ p) is = refl
 
 -- what a result without the path was refused for
 fault_in : (found : Result (Path × ℕ) Errno) → result_err (moment_in found) ≡ result_err found
@@ -31,5 +31,5 @@ fault_in (Ok dated) = refl
 fault_in (Err fault) = refl
 
 -- where the parent's moment is told, so is its fault
-pub parent_refused : (t : Tree) (p : Path) (found : Result (Path × ℕ) Errno) → IsDirectory t → moment_in found ≡ moment_told (entry_at t (parent p)) → result_err found ≡ parent_fault t p
-parent_refused t p found is told = sym (fault_in found) ∙ ap result_err told ∙ moment_fault (entry_at t (parent p)) ∙ told_of_parent t p is
+pub parent_refused : (t : Tree) (p : Path) (found : Result (Path × ℕ) Errno) → IsDirectory t → moment_in found ≡ moment_reported (entry_at t (parent p)) → result_err found ≡ parent_fault t p
+parent_refused t p found is lookup_answer = sym (fault_in found) ∙ ap result_err lookup_answer ∙ moment_fault (entry_at t (parent p)) ∙ reported_of_parent t p is

@@ -14,7 +14,7 @@ use Rattle.reference.specs.Pairs.{pairs_of}
 use Rattle.reference.specs.declared.reply.Kind.{Kind}
 use Rattle.reference.specs.declared.reply.Meta.{Meta}
 use Rattle.meta_index.specs.declared.index.MetaIndex.{MetaIndex}
-use Rattle.meta_index.specs.Below.{below, kind_told}
+use Rattle.meta_index.specs.Below.{below, kind_reported}
 use Rattle.meta_index.specs.Means.{metadata, IsMeantBy}
 use Rattle.meta_index.proofs.ChildOrder.{end_key}
 use Rattle.meta_index.proofs.Listed.{Listed, listed_none, Next, next_listed, all_listed}
@@ -68,15 +68,15 @@ module _ (t : Tree) (m : MetaIndex) (p : Path) (means : IsMeantBy t m) where
 
       -- the pair is that of the next entry
       pub listing_goes_on : (directory : Key) → directory ≡ enc p → (name : Vec ℕ Global) → ((n : Name) → k ≡ directory ++ (n ++ 0 ∷ []) → name.items ≡ n)
-          → (kind : Kind) → kind ≡ kind_told v → (more : List (Kind × Vec ℕ Global)) → more ≡ items ++ (kind, name) ∷ []
+          → (kind : Kind) → kind ≡ kind_reported v → (more : List (Kind × Vec ℕ Global)) → more ≡ items ++ (kind, name) ∷ []
           → (high : Option Key) → high ≡ hi → (further : Option (Key × Meta)) (none_left : Bool) (rest : List (Key × Meta))
           → ((s : List ℕ) → k ≡ s ++ 0 ∷ [] → AreFrom (metadata m) (next_key k) hi all ps → IsGiven (metadata m) (s ++ 1 ∷ []) hi further none_left rest)
           → GoesOn t m p more high further none_left rest
       listing_goes_on directory at name name_of kind kind_is more more_is high high_is further none_left rest goes_past =
           let name_is : name.items ≡ found.name = name_of found.name (entry_key ∙ ap (λ (d : Key). d ++ (found.name ++ 0 ∷ [])) (sym at)) in
-          let pairs : pairs_of more ≡ pairs_of items ++ (kind_told v, found.name) ∷ [] = ap pairs_of more_is ∙ pairs_push items kind name (kind_told v) found.name kind_is name_is in
+          let pairs : pairs_of more ≡ pairs_of items ++ (kind_reported v, found.name) ∷ [] = ap pairs_of more_is ∙ pairs_push items kind name (kind_reported v) found.name kind_is name_is in
           let end : Key = (enc p ++ found.name) ++ 1 ∷ [] in
-          let here : Listed t m p (pairs_of items ++ (kind_told v, found.name) ∷ []) end hi = subst (λ (x : Key). Listed t m p (pairs_of items ++ (kind_told v, found.name) ∷ []) x hi) (entry_end p found.name) found.more in
+          let here : Listed t m p (pairs_of items ++ (kind_reported v, found.name) ∷ []) end hi = subst (λ (x : Key). Listed t m p (pairs_of items ++ (kind_reported v, found.name) ∷ []) x hi) (entry_end p found.name) found.more in
           let past : IsGiven (metadata m) end hi further none_left rest = goes_past (enc p ++ found.name) whole_key given.1 in
           record {
             lo = end;

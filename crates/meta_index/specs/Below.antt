@@ -14,9 +14,9 @@ abbrev pub below : Path → KeyRange
 below p = record { lo = next_key (enc p); hi = (subtree p).hi }
 
 -- whether metadata are those of a directory or of a file
-abbrev pub kind_told : Meta → Kind
-kind_told (DirMeta date) = DirKind
-kind_told (FileMeta n date) = FileKind
+abbrev pub kind_reported : Meta → Kind
+kind_reported (DirMeta date) = DirKind
+kind_reported (FileMeta n date) = FileKind
 
 -- f has a value at a key from lo up to and without hi
 pub record HasPair {V : Type 0} (f : List ℕ → Option V) (lo : List ℕ) (hi : Option (List ℕ)) : Type 0 where

@@ -6,7 +6,7 @@ use Rattle.pathkey.specs.declared.errno.Errno.TheVariants.{ENOENT, ENOTDIR}
 use Rattle.node.specs.Meaning.{value}
 use Rattle.reference.specs.Tree.{Tree, Dir, File, At, Found, Missing, Blocked, entry_at}
 use Rattle.reference.specs.Shape.{IsTree}
-use Rattle.reference.specs.Looks.{look}
+use Rattle.reference.specs.Reads.{look}
 use Rattle.reference.specs.Indexes.{Metadata, MetaMeans}
 use Rattle.reference.specs.declared.reply.Meta.{Meta}
 use Rattle.reference.specs.declared.reply.Meta.TheVariants.{Dir as DirMeta, File as FileMeta}
@@ -26,11 +26,11 @@ pub record IsMeantBy (t : Tree) (m : MetaIndex) : Type 0 where
 
 -- what is told of what stands at a path: of a directory that it is one, of a file its length, of both the moment of
 -- last change
-abbrev pub told : At → meta.At
-told (Found (Dir date es)) = meta.TheVariants.Found (DirMeta date)
-told (Found (File date b)) = meta.TheVariants.Found (FileMeta (length b) date)
-told Missing = meta.TheVariants.Missing
-told Blocked = meta.TheVariants.Blocked
+abbrev pub lookup_answer : At → meta.At
+lookup_answer (Found (Dir date es)) = meta.TheVariants.Found (DirMeta date)
+lookup_answer (Found (File date b)) = meta.TheVariants.Found (FileMeta (length b) date)
+lookup_answer Missing = meta.TheVariants.Missing
+lookup_answer Blocked = meta.TheVariants.Blocked
 
 -- the metadata that were found; none where nothing stands
 abbrev pub found_meta : meta.At → Option Meta
@@ -38,11 +38,11 @@ found_meta (FoundMeta m) = Some m
 found_meta _ = None
 
 -- what is told of the directory that stands at a path: its moment of last change; or why none stands there
-abbrev pub moment_told : At → Result ℕ Errno
-moment_told (Found (Dir date es)) = Ok date
-moment_told (Found (File date b)) = Err ENOTDIR
-moment_told Missing = Err ENOENT
-moment_told Blocked = Err ENOTDIR
+abbrev pub moment_reported : At → Result ℕ Errno
+moment_reported (Found (Dir date es)) = Ok date
+moment_reported (Found (File date b)) = Err ENOTDIR
+moment_reported Missing = Err ENOENT
+moment_reported Blocked = Err ENOTDIR
 
 -- the moment of a directory that was found, without its path
 abbrev pub moment_in : Result (Path × ℕ) Errno → Result ℕ Errno

@@ -1,6 +1,6 @@
 //! What stands at a path, as far as metadata tell.
 ghost use Rattle.std.specs.Prelude.{◌≡◌, None};
-ghost use Rattle.meta_index.specs.Means.{beyond, found_meta, moment_told, told};
+ghost use Rattle.meta_index.specs.Means.{beyond, found_meta, moment_reported, lookup_answer};
 ghost use Rattle.reference.specs.Calls.{no_directory_fault, path_fault};
 ghost use Rattle.reference.specs.Tree as trees;
 
@@ -21,7 +21,7 @@ pub enum At {
 impl At {
     /// What stands at a name below an entry with this metadata, where no entry has that name.
     pub(crate) fn below(above: Meta) -> At
-        ensures told { (here : trees.At) → At.Found above ≡ told here → result ≡ told (beyond here) }
+        ensures reported { (here : trees.At) → At.Found above ≡ lookup_answer here → result ≡ lookup_answer (beyond here) }
         ensures nothing { found_meta result ≡ None }
     {
         match above {
@@ -32,7 +32,7 @@ impl At {
 
     /// Why nothing stands at the path; none where something does.
     pub fn fault_of_path(self) -> Option<Errno>
-        ensures { (here : trees.At) → self ≡ told here → result ≡ path_fault here }
+        ensures { (here : trees.At) → self ≡ lookup_answer here → result ≡ path_fault here }
     {
         match self {
             At::Found(_) => None,
@@ -43,14 +43,14 @@ impl At {
 
     /// Why the path names no directory; none where it does.
     pub fn fault_of_directory(self) -> Option<Errno>
-        ensures { (here : trees.At) → self ≡ told here → result ≡ no_directory_fault here }
+        ensures { (here : trees.At) → self ≡ lookup_answer here → result ≡ no_directory_fault here }
     {
-        self.moment_of_directory().err()
+        self.directory_mtime().err()
     }
 
     /// The moment of last change of the directory that stands at the path; or why none does.
-    pub(crate) fn moment_of_directory(self) -> Result<u64, Errno>
-        ensures { (here : trees.At) → self ≡ told here → result ≡ moment_told here }
+    pub(crate) fn directory_mtime(self) -> Result<u64, Errno>
+        ensures { (here : trees.At) → self ≡ lookup_answer here → result ≡ moment_reported here }
     {
         match self {
             At::Found(Meta::Dir { modified }) => Ok(modified),

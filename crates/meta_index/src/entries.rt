@@ -1,6 +1,6 @@
 //! What lies below a path: the range of its keys, and what the key of a directory's entry tells.
 ghost use Rattle.std.specs.Prelude.{◌≡◌, ◌∷◌, ◌++◌, ℕ, List, [], IfOk};
-ghost use Rattle.meta_index.specs.Below.{below, kind_told};
+ghost use Rattle.meta_index.specs.Below.{below, kind_reported};
 ghost use Rattle.pathkey.specs.Names.{IsPath};
 
 use pathkey::{Key, KeyRange, NoMemory, Path, subtree};
@@ -43,7 +43,7 @@ pub(crate) fn end_below(alloc: Global, key: &Key) -> Result<Key, NoMemory>
 
 /// Whether the metadata are those of a directory or of a file.
 pub(crate) fn kind_of(meta: Meta) -> Kind
-    ensures { result ≡ kind_told meta }
+    ensures { result ≡ kind_reported meta }
 {
     match meta {
         Meta::Dir { .. } => Kind::Dir,

@@ -3,11 +3,11 @@ ghost use Rattle.std.specs.Prelude.{◌≡◌, ◌+◌, ◌*◌, ◌<◌, ◌≤
 ghost use Rattle.std.specs.Result.{result_err};
 ghost use Rattle.meta_index.specs.Asked.{AsksFor, IsFrugal};
 ghost use Rattle.meta_index.specs.Below.{HasPair};
-ghost use Rattle.meta_index.specs.Means.{IsMeantBy, found_meta, metadata, moment_in, moment_told, told};
+ghost use Rattle.meta_index.specs.Means.{IsMeantBy, found_meta, metadata, moment_in, moment_reported, lookup_answer};
 ghost use Rattle.node.specs.Shapes.{is_shape};
 ghost use Rattle.pathkey.specs.Keys.{enc, next_key, subtree};
 ghost use Rattle.reference.specs.Calls.{is_found, is_full, names_of, parent, parent_fault};
-ghost use Rattle.reference.specs.Looks.{look};
+ghost use Rattle.reference.specs.Reads.{look};
 ghost use Rattle.reference.specs.Pairs.{pairs_of};
 ghost use Rattle.reference.specs.Tree.{Dir, Tree as DirectoryTree, entry_at, nothing};
 ghost use Rattle.scan.specs.Pairs.{AreFrom, IsGiven, IsScan};
@@ -21,7 +21,7 @@ use message::Msg;
 use node::{Shape, Tree};
 use pathkey::{Errno, Key, KeyRange, NoMemory, Path, subtree};
 use reference::{Kind, Meta};
-use scan::piecewise::Pieces;
+use scan::readahead::Readahead;
 use scan::{first_in, scan};
 use std::alloc::Global;
 
@@ -51,7 +51,7 @@ impl MetaIndex {
     ///
     /// It finds the metadata that the index has under the path's key, and none where it has none there, whatever it means.
     pub fn find(&self, alloc: Global, path: &Path) -> Result<At, NoMemory>
-        ensures told { IfOk result (λ at. (t : DirectoryTree) → IsMeantBy t self.now → at ≡ told (entry_at t path.now)) }
+        ensures reported { IfOk result (λ at. (t : DirectoryTree) → IsMeantBy t self.now → at ≡ lookup_answer (entry_at t path.now)) }
         ensures value { IfOk result (λ at. found_meta at ≡ metadata self.now (enc path.now)) }
     {
         match get(alloc, &self.tree, path.key())? {
@@ -70,7 +70,7 @@ impl MetaIndex {
 
     /// Why nothing stands at the path: the nearest path above at which something stands is a directory, or a file.
     fn find_obstacle(&self, alloc: Global, path: &Path) -> Result<At, NoMemory>
-        ensures told { IfOk result (λ at. (t : DirectoryTree) → IsMeantBy t self.now → look t path.now ≡ None → at ≡ told (entry_at t path.now)) }
+        ensures reported { IfOk result (λ at. (t : DirectoryTree) → IsMeantBy t self.now → look t path.now ≡ None → at ≡ lookup_answer (entry_at t path.now)) }
         ensures nothing { IfOk result (λ at. found_meta at ≡ None) }
     {
         let mut ancestor = path.parent(alloc)?;
@@ -90,7 +90,7 @@ impl MetaIndex {
         ensures parent { IfOk result (λ found. IfOk found (λ p. p ≡ parent path.now)) }
         ensures fault { IfOk result (λ found. (t : DirectoryTree) → IsMeantBy t self.now → result_err found ≡ parent_fault t path.now) }
     {
-        match self.find_dated_parent(alloc, path)? {
+        match self.find_parent_mtime(alloc, path)? {
             Ok((parent, _)) => Ok(Ok(parent)),
             Err(fault) => Ok(Err(fault)),
         }
@@ -98,19 +98,19 @@ impl MetaIndex {
 
     /// The parent of the path with its moment of last change, where a directory stands there, or why no
     /// entry can be made at the path; the root is its own parent. It fails only for want of memory.
-    pub fn find_dated_parent(
+    pub fn find_parent_mtime(
         &self,
         alloc: Global,
         path: &Path,
     ) -> Result<Result<(Path, u64), Errno>, NoMemory>
         ensures parent { IfOk result (λ found. IfOk found (λ dated. dated.0 ≡ parent path.now)) }
-        ensures moment { IfOk result (λ found. (t : DirectoryTree) → IsMeantBy t self.now → moment_in found ≡ moment_told (entry_at t (parent path.now))) }
+        ensures moment { IfOk result (λ found. (t : DirectoryTree) → IsMeantBy t self.now → moment_in found ≡ moment_reported (entry_at t (parent path.now))) }
     {
         let parent = match path.parent(alloc)? {
             Some(parent) => parent,
             None => Path::root(alloc),
         };
-        match self.find(alloc, &parent)?.moment_of_directory() {
+        match self.find(alloc, &parent)?.directory_mtime() {
             Ok(modified) => Ok(Ok((parent, modified))),
             Err(fault) => Ok(Err(fault)),
         }
@@ -248,7 +248,7 @@ impl MetaIndex {
     {
         let mut entries = Vec::new(alloc);
         let mut rest = keys_below(alloc, path)?;
-        let mut pieces = Pieces::new(alloc);
+        let mut pieces = Readahead::new(alloc);
         let mut next = pieces.first(alloc, &self.tree, &rest)?;
         'entries: while let Some((key, meta)) = next {
             let name = Vec::from_slice(alloc, name_behind(path.key(), &key))?;
@@ -268,13 +268,13 @@ impl MetaIndex {
         alloc: Global,
         key: &Key,
         rest: &mut KeyRange,
-        pieces: &mut Pieces<MetaUpdate>,
+        pieces: &mut Readahead<MetaUpdate>,
     ) -> Result<Option<(Key, Meta)>, NoMemory>
         ensures hi { rest.new.hi ≡ rest.old.hi }
         ensures asked { IfOk result (λ r. (g : ℕ) → IsFrugal g (length pieces.old.pairs.items) pieces.old.most pieces.old.walks pieces.old.asked pieces.old.all → AsksFor g r (length pieces.new.pairs.items) pieces.new.most pieces.new.walks pieces.new.asked pieces.new.all) }
         ensures given { IfOk result (λ r. (s : List ℕ) → key.now ≡ s ++ 0 ∷ [] → AreFrom (metadata self.now) (next_key key.now) rest.old.hi pieces.old.all pieces.old.pairs.items → IsGiven (metadata self.now) (s ++ 1 ∷ []) rest.old.hi r pieces.new.all pieces.new.pairs.items) }
     {
-        if let Some(pair) = pieces.take_past(key) {
+        if let Some(pair) = pieces.next_past(key) {
             return Ok(Some(pair));
         }
         if pieces.all {

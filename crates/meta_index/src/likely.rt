@@ -3,7 +3,7 @@
 //! A search for the first pair passes every name that was removed before it. Names are mostly removed in order, so a pair near the
 //! end of the range is much cheaper to find. No claim rests on the guess: the caller asks the index whether it has a pair there.
 use crate::update::MetaUpdate;
-use message::Told;
+use message::Resolution;
 use message::ends::is_before_end;
 use node::{Body, Node, Slot, Tree};
 use pathkey::{Key, KeyRange, NoMemory};
@@ -46,8 +46,8 @@ pub(crate) fn last_of_leaf<'a>(tree: &'a Tree<MetaUpdate>, range: &KeyRange) -> 
 
 /// Whether the messages of a slot give the key a value.
 fn is_given(alloc: Global, slot: &Slot<MetaUpdate>, key: &Key) -> Result<bool, NoMemory> {
-    let told = slot.pending.told(alloc, key)?;
-    Ok(matches!(told, Told::Value(Some(_))))
+    let resolution = slot.pending.resolve(alloc, key)?;
+    Ok(matches!(resolution, Resolution::Value(Some(_))))
 }
 
 /// The least key behind all keys that begin with the same `depth` bytes as this one and the next byte; `None` if there is no such byte

@@ -3,7 +3,7 @@ ghost use Rattle.std.specs.Prelude.{◌≡◌, Some, Option, IfOk, IfSome, is_so
 ghost use Rattle.meta_index.specs.Updates.{joins, means as meant};
 ghost use Rattle.reference.specs.declared.reply.Meta.{Meta as MetaValue};
 
-use message::{Changes, Update};
+use message::{Update, UpdateTarget};
 use pathkey::NoMemory;
 use reference::Meta;
 use std::alloc::Global;
@@ -71,7 +71,7 @@ impl MetaUpdate {
     }
 }
 
-impl Changes for MetaUpdate {
+impl UpdateTarget for MetaUpdate {
     type Value = Meta;
 }
 

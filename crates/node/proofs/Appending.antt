@@ -14,7 +14,7 @@ use Rattle.node.specs.declared.shape.Shape.{Shape}
 use Rattle.node.specs.Pure.{PNode, leaf, inner, PSlots, none, more}
 use Rattle.node.specs.Meaning.{value, slots_value}
 use Rattle.node.specs.Lawful.{slot_count, next_lo, TouchOnly, starts_at, IsLawfulNode, AreLawfulSlots, IsLawfulRoot}
-use Rattle.node.specs.Appended.{parts, HaveTaken, IsAppended}
+use Rattle.node.specs.Appended.{batches_by_slot, HaveTaken, IsAppended}
 use Rattle.node.proofs.Wholes.{taken-none}
 
 module _ {U V : Type 0} where
@@ -27,24 +27,24 @@ module _ {U V : Type 0} (means : U → Option V → Option V) where
   touch_only-taken : (lo : List ℕ) (hi : Option (List ℕ)) (old ms new : List (Msg U V)) → Takes means old (pieces lo hi ms) new → TouchOnly lo hi old → TouchOnly lo hi new
   touch_only-taken lo hi old ms new takes only k out = takes.touched k (only k out) (pieces_outside lo hi ms k out)
 
-  pub next_lo-taken : (hi e : Option (List ℕ)) (ms : List (Msg U V)) (ss new : PSlots U V) → HaveTaken means ss (parts hi ms ss) new → next_lo e new ≡ next_lo e ss
+  pub next_lo-taken : (hi e : Option (List ℕ)) (ms : List (Msg U V)) (ss new : PSlots U V) → HaveTaken means ss (batches_by_slot hi ms ss) new → next_lo e new ≡ next_lo e ss
   next_lo-taken hi e ms none none t = refl
   next_lo-taken hi e ms none (more lo' new' n' ss') t = absurd t
   next_lo-taken hi e ms (more lo old n ss) none t = absurd t
   next_lo-taken hi e ms (more lo old n ss) (more lo' new' n' ss') t = ap (λ (x : List ℕ). Some x) t.0
 
-  pub slot_count-taken : (hi : Option (List ℕ)) (ms : List (Msg U V)) (ss new : PSlots U V) → HaveTaken means ss (parts hi ms ss) new → slot_count new ≡ slot_count ss
+  pub slot_count-taken : (hi : Option (List ℕ)) (ms : List (Msg U V)) (ss new : PSlots U V) → HaveTaken means ss (batches_by_slot hi ms ss) new → slot_count new ≡ slot_count ss
   slot_count-taken hi ms none none t = refl
   slot_count-taken hi ms none (more lo' new' n' ss') t = absurd t
   slot_count-taken hi ms (more lo old n ss) none t = absurd t
   slot_count-taken hi ms (more lo old n ss) (more lo' new' n' ss') t = ap (λ (x : ℕ). x + 1) (slot_count-taken hi ms ss ss' t.3)
 
-  pub starts_at-taken : (lo : List ℕ) (hi : Option (List ℕ)) (ms : List (Msg U V)) (ss new : PSlots U V) → HaveTaken means ss (parts hi ms ss) new → starts_at lo ss → starts_at lo new
+  pub starts_at-taken : (lo : List ℕ) (hi : Option (List ℕ)) (ms : List (Msg U V)) (ss new : PSlots U V) → HaveTaken means ss (batches_by_slot hi ms ss) new → starts_at lo ss → starts_at lo new
   starts_at-taken at hi ms none new t h = absurd h
   starts_at-taken at hi ms (more lo old n ss) none t h = absurd t
   starts_at-taken at hi ms (more lo old n ss) (more lo' new' n' ss') t h = t.0 ∙ h
 
-  lawful-taken : (S : Shape) (h : ℕ) (hi : Option (List ℕ)) (ms : List (Msg U V)) (ss new : PSlots U V) → HaveTaken means ss (parts hi ms ss) new → AreLawfulSlots S ss h hi → AreLawfulSlots S new h hi
+  lawful-taken : (S : Shape) (h : ℕ) (hi : Option (List ℕ)) (ms : List (Msg U V)) (ss new : PSlots U V) → HaveTaken means ss (batches_by_slot hi ms ss) new → AreLawfulSlots S ss h hi → AreLawfulSlots S new h hi
   lawful-taken S h hi ms none none t l = tt
   lawful-taken S h hi ms none (more lo' new' n' ss') t l = absurd t
   lawful-taken S h hi ms (more lo old n ss) none t l = absurd t
@@ -77,7 +77,7 @@ module _ {U V : Type 0} (means : U → Option V → Option V) where
   slot-taken lo hi old ms new n n' k t same low high =
       ap (λ (x : PNode U V). effects means new k (value means x k)) same ∙ effects-taken lo hi old ms new k (value means n k) t (ap (λ (x : Bool). x && is_below k hi) low ∙ high)
 
-  pub value-taken : (hi : Option (List ℕ)) (ms : List (Msg U V)) (lo : List ℕ) (old : List (Msg U V)) (n : PNode U V) (ss new : PSlots U V) (k : List ℕ) → HaveTaken means (more lo old n ss) (parts hi ms (more lo old n ss)) new → reaches lo k ≡ true → is_below k hi ≡ true → slots_value means new k ≡ effects means ms k (slots_value means (more lo old n ss) k)
+  pub value-taken : (hi : Option (List ℕ)) (ms : List (Msg U V)) (lo : List ℕ) (old : List (Msg U V)) (n : PNode U V) (ss new : PSlots U V) (k : List ℕ) → HaveTaken means (more lo old n ss) (batches_by_slot hi ms (more lo old n ss)) new → reaches lo k ≡ true → is_below k hi ≡ true → slots_value means new k ≡ effects means ms k (slots_value means (more lo old n ss) k)
   value-taken hi ms lo old n ss none k t low high = absurd t
   value-taken hi ms lo old n none (more lo' new' n' none) k t low high = slot-taken lo hi old ms new' n n' k t.1 t.2 low high
   value-taken hi ms lo old n none (more lo' new' n' (more lp' mp' p' ss')) k t low high = absurd t.3

@@ -18,7 +18,7 @@ use Rattle.node.specs.Sinks.{Sinks}
 use Rattle.node.proofs.Roots.{tree_of}
 use Rattle.node.proofs.Sinking.{touch_only-drop}
 use Rattle.node.proofs.Wholes.{kept-none}
-use Rattle.node.proofs.Splice.{slots-split, slots-set_split, slot_count-take, slot_count-joined, starts_at-joined, lawful-spliced, value-spliced, starts-first}
+use Rattle.node.proofs.Splice.{slots-split_chunk, slots-set_split, slot_count-take, slot_count-joined, starts_at-joined, lawful-spliced, value-spliced, starts-first}
 
 module _ {U V : Type 0} where
   -- what holds at a slot is of a slot
@@ -65,7 +65,7 @@ module _ {U V : Type 0} where
         old = more s.lo s.pending.0 s.child.value none;
         new = more t.lo t.pending.0 t.child.value none;
         after = seen_slots (drop (suc i) xs);
-        was = slots-split xs i d h;
+        was = slots-split_chunk xs i d h;
         is = slots-set_split xs i t h;
         number = slot_count-take xs i (omega arith);
         width = refl;
@@ -79,36 +79,36 @@ module _ {U V : Type 0} where
 
     -- the same, the slot written out
     kept_between : (b : PSlots U V) (lo : List ℕ) (ms : List (Msg U V)) (c : PNode U V) (a : PSlots U V) → CanReplace means S count sub lo (next_lo None a) ms c → IsLawfulRoot S (inner (joined b (more lo ms c a))) h → Kept (joined b (more lo ms c a)) (joined b (more lo (drop count ms) sub a))
-    kept_between b lo ms c a can l =
+    kept_between b lo ms c a applies l =
         let e = next_lo None a in
         let x = more lo ms c none in
         let y = more lo (drop count ms) sub none in
-        let each : AreLawfulSlots S (joined b (joined y a)) h None = lawful-spliced S h None b x y a tt tt refl (λ z. (z.0, touch_only-drop count lo e ms z.1, can.lawful (pred h) z.2, tt)) l.4 in
-        let sinks : Sinks means count e x y = record { starts = refl; below = λ k w. can.same k w; above = λ k v w. refl } in (
+        let each : AreLawfulSlots S (joined b (joined y a)) h None = lawful-spliced S h None b x y a tt tt refl (λ z. (z.0, touch_only-drop count lo e ms z.1, applies.lawful (pred h) z.2, tt)) l.4 in
+        let sinks : Sinks means count e x y = record { starts = refl; below = λ k w. applies.same k w; above = λ k v w. refl } in (
           (l.0, l.1, omega (arith, l.2, slot_count-joined b (joined x a), slot_count-joined b (joined y a)), starts_at-joined [] lo b ms (drop count ms) c sub a a l.3, each),
           λ k. value-spliced means S h count None x y a tt tt sinks b k l.4 each (ap (λ z. reaches z k) (starts-first [] (joined b (joined x a)) l.3) ∙ from_start k) refl,
         )
 
     -- the slots with the slot's list and child in their place
     kept_slots : (ss ts : PSlots U V) → AtSlot (CanReplace means S count sub) i None ss → Spliced (λ e old new. TookPlace count sub old new) i 1 None ss ts → IsLawfulRoot S (inner ss) h → Kept ss ts
-    kept_slots ss ts can g l =
+    kept_slots ss ts applies g l =
         let t = g.changed in
         let was : ss ≡ joined g.before (more t.lo t.msgs t.child g.after) = g.was ∙ ap (λ z. joined g.before (joined z g.after)) t.was in
         let is : ts ≡ joined g.before (more t.lo (drop count t.msgs) sub g.after) = g.is ∙ ap (λ z. joined g.before (joined z g.after)) t.is in
-        let here = at_joined (CanReplace means S count sub) i None g.before t.lo t.msgs t.child g.after g.number (subst (λ z. AtSlot (CanReplace means S count sub) i None z) was can) in
+        let here = at_joined (CanReplace means S count sub) i None g.before t.lo t.msgs t.child g.after g.number (subst (λ z. AtSlot (CanReplace means S count sub) i None z) was applies) in
         let k = kept_between g.before t.lo t.msgs t.child g.after here (subst (λ z. IsLawfulRoot S (inner z) h) was l) in
         subst (λ z. Kept z ts) (sym was) (subst (λ z. Kept (joined g.before (more t.lo t.msgs t.child g.after)) z) (sym is) k)
 
     -- the root
     kept_root : (a b : PNode U V) → AtRootSlot (CanReplace means S count sub) i a → IsGrafted i count sub a b → IsLawfulRoot S a h → IsLawfulRoot S b h × ((k : List ℕ) → value means b k ≡ value means a k)
-    kept_root (leaf es) b can g l = absurd l
-    kept_root (inner ss) (leaf es) can g l = absurd g
-    kept_root (inner ss) (inner ts) can g l = kept_slots ss ts can g l
+    kept_root (leaf es) b applies g l = absurd l
+    kept_root (inner ss) (leaf es) applies g l = absurd g
+    kept_root (inner ss) (inner ts) applies g l = kept_slots ss ts applies g l
 
   -- the tree, in the words of its code: `now` is the root that is lent for the change, `new` what was left there
   pub lawful_grafted : (means : U → Option V → Option V) (S : Shape) (i count : ℕ) (sub : PNode U V) (was : PTree U V) (old now new seen : PNode U V) → IsLawful (tree_of S old) → tree_of S old ≡ was → AtRootSlot (CanReplace means was.shape count sub) i was.root → now ≡ old → IsGrafted i count sub now new → seen ≡ new → IsLawful (tree_of S seen) × Grafted means i count sub was (tree_of S seen)
-  lawful_grafted means S i count sub was old now new seen l w can e g s =
-      let here : AtRootSlot (CanReplace means S count sub) i old = subst (λ (t : PTree U V). AtRootSlot (CanReplace means t.shape count sub) i t.root) (sym w) can in
+  lawful_grafted means S i count sub was old now new seen l w applies e g s =
+      let here : AtRootSlot (CanReplace means S count sub) i old = subst (λ (t : PTree U V). AtRootSlot (CanReplace means t.shape count sub) i t.root) (sym w) applies in
       let done : IsGrafted i count sub old seen = subst (λ z. IsGrafted i count sub old z) (sym s) (subst (λ z. IsGrafted i count sub z new) e g) in
       let k = kept_root means S l.levels i count sub old seen here done l.root in (
         record { shape = l.shape; levels = l.levels; root = k.0 },
@@ -117,8 +117,8 @@ module _ {U V : Type 0} where
 
   -- the slot of the lent root
   pub has_grafted : (means : U → Option V → Option V) (S : Shape) (i count : ℕ) (sub : PNode U V) (was : PTree U V) (old now : PNode U V) → tree_of S old ≡ was → AtRootSlot (CanReplace means was.shape count sub) i was.root → now ≡ old → AtRootSlot (λ lo hi ms c. count ≤ length ms) i now
-  has_grafted means S i count sub was old now w can e =
-      root_map (CanReplace means was.shape count sub) (λ lo hi ms c. count ≤ length ms) i now (λ lo e ms c q. q.has) (subst (λ z. AtRootSlot (CanReplace means was.shape count sub) i z) (ap (λ (t : PTree U V). t.root) (sym w) ∙ sym e) can)
+  has_grafted means S i count sub was old now w applies e =
+      root_map (CanReplace means was.shape count sub) (λ lo hi ms c. count ≤ length ms) i now (λ lo e ms c q. q.has) (subst (λ z. AtRootSlot (CanReplace means was.shape count sub) i z) (ap (λ (t : PTree U V). t.root) (sym w) ∙ sym e) applies)
 
   -- nothing was appended, and lists stay
   pub keeps_nothing : (S : Shape) (h : ℕ) (ks : List ℕ) (ms : List (Msg U V)) (was : PTree U V) (old : PNode U V) → tree_of S old ≡ was → ms ≡ [] → KeepsLists ks ms was.root old

@@ -46,7 +46,7 @@ module _ {V : Type 0} where
       let others : (j : ℕ) (d : List ℕ × V) → m ≤ j → j < length es → before (get_or es j d).0 e.0 ≡ false = λ j d h b. not_before_from_reaches e.0 (get_or es j d).0 (later j d h b) in
       let whole : take m es ++ drop m es ≡ es = take-append-drop m es in
       record {
-        parts = sym whole;
+        batches_by_slot = sym whole;
         front_some = omega (arith, length-take m es);
         back_some = omega (arith, length-drop m es);
         halves = (omega (arith, length-take m es, length-drop m es), omega (arith, length-take m es, length-drop m es));

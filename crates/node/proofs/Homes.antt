@@ -9,7 +9,7 @@ use Rattle.message.specs.Effects.{Takes}
 use Rattle.message.specs.Cuts.{pieces}
 use Rattle.message.proofs.Composing.{takes-then}
 use Rattle.node.specs.declared.node.Slot.{Slot}
-use Rattle.node.specs.Appended.{parts, all_at, HaveTaken}
+use Rattle.node.specs.Appended.{batches_by_slot, all_at, HaveTaken}
 use Rattle.node.specs.Batches.{HaveHomes}
 use Rattle.node.specs.Grafts.{KeepLists}
 use Rattle.node.specs.Homes.{IsHome}
@@ -34,21 +34,21 @@ module _ {U V : Type 0} where
   next_lo-relisted (x ∷ xs) (suc i) d p = refl
 
   -- each slot takes what it took
-  parts-relisted : (ms : List (Msg U V)) (xs : List (Slot U V)) (i : ℕ) (d : Slot U V) (p : List (Msg U V) × ℕ) → parts None ms (seen_slots (relisted xs i d p)) ≡ parts None ms (seen_slots xs)
-  parts-relisted ms [] i d p = refl
-  parts-relisted ms (x ∷ xs) zero d p = refl
-  parts-relisted ms (x ∷ xs) (suc i) d p = λ j. pieces x.lo (next_lo-relisted xs i d p j) ms ∷ parts-relisted ms xs i d p j
+  batches_by_slot-relisted : (ms : List (Msg U V)) (xs : List (Slot U V)) (i : ℕ) (d : Slot U V) (p : List (Msg U V) × ℕ) → batches_by_slot None ms (seen_slots (relisted xs i d p)) ≡ batches_by_slot None ms (seen_slots xs)
+  batches_by_slot-relisted ms [] i d p = refl
+  batches_by_slot-relisted ms (x ∷ xs) zero d p = refl
+  batches_by_slot-relisted ms (x ∷ xs) (suc i) d p = λ j. pieces x.lo (next_lo-relisted xs i d p j) ms ∷ batches_by_slot-relisted ms xs i d p j
 
   all_at-relisted : (k : ℕ) (ms : List (Msg U V)) (xs : List (Slot U V)) (i : ℕ) (d : Slot U V) (p : List (Msg U V) × ℕ) → all_at k ms (seen_slots (relisted xs i d p)) ≡ all_at k ms (seen_slots xs)
   all_at-relisted k ms [] i d p = refl
   all_at-relisted zero ms (x ∷ xs) zero d p = refl
   all_at-relisted (suc k) ms (x ∷ xs) zero d p = refl
-  all_at-relisted zero ms (x ∷ xs) (suc i) d p = ap (λ ps. ms ∷ ps) (parts-relisted [] xs i d p)
+  all_at-relisted zero ms (x ∷ xs) (suc i) d p = ap (λ ps. ms ∷ ps) (batches_by_slot-relisted [] xs i d p)
   all_at-relisted (suc k) ms (x ∷ xs) (suc i) d p = ap (λ ps. [] ∷ ps) (all_at-relisted k ms xs i d p)
 
   -- a message has the slot that it had
   pub home-relisted : (k : ℕ) (m : Msg U V) (xs : List (Slot U V)) (i : ℕ) (d : Slot U V) (p : List (Msg U V) × ℕ) → IsHome k m (seen_slots xs) → IsHome k m (seen_slots (relisted xs i d p))
-  home-relisted k m xs i d p h = all_at-relisted k (m ∷ []) xs i d p ∙ h ∙ sym (parts-relisted (m ∷ []) xs i d p)
+  home-relisted k m xs i d p h = all_at-relisted k (m ∷ []) xs i d p ∙ h ∙ sym (batches_by_slot-relisted (m ∷ []) xs i d p)
 
   -- where the list has room left, so has each slot
   pub room-relisted : (xs : List (Slot U V)) (i j n k : ℕ) (d : Slot U V) (p : List (Msg U V) × ℕ) → k ≤ n → (get_or xs i d).pending.1 + k ≤ p.1 + n → HasRoomAt j n xs → HasRoomAt j k (relisted xs i d p)
@@ -95,7 +95,7 @@ module _ {U V : Type 0} where
 
   module _ (means : U → Option V → Option V) where
     -- slots that take a message and then others take them all
-    taken-more : (hi : Option (List ℕ)) (m : Msg U V) (ms : List (Msg U V)) (ss ts us : PSlots U V) → HaveTaken means ss (parts hi (m ∷ []) ss) ts → HaveTaken means ts (parts hi ms ts) us → HaveTaken means ss (parts hi (m ∷ ms) ss) us
+    taken-more : (hi : Option (List ℕ)) (m : Msg U V) (ms : List (Msg U V)) (ss ts us : PSlots U V) → HaveTaken means ss (batches_by_slot hi (m ∷ []) ss) ts → HaveTaken means ts (batches_by_slot hi ms ts) us → HaveTaken means ss (batches_by_slot hi (m ∷ ms) ss) us
     taken-more hi m ms none none none t u = tt
     taken-more hi m ms none none (more lu nu cu us) t u = absurd u
     taken-more hi m ms none (more lt nt ct ts) us t u = absurd t
@@ -106,7 +106,7 @@ module _ {U V : Type 0} where
         (u.0 ∙ t.0, subst (λ x. Takes means old x nu) (pieces-more lo lt (next_lo hi ss) (next_lo hi ts) m ms t.0 (next_lo-taken means hi hi (m ∷ []) ss ts t.3)) both, u.2 ∙ t.2, taken-more hi m ms ss ts us t.3 u.3)
 
     -- lists that stay under a message and then under others stay under all
-    kept-more : (ks : List ℕ) (hi : Option (List ℕ)) (m : Msg U V) (ms : List (Msg U V)) (ss ts us : PSlots U V) → HaveTaken means ss (parts hi (m ∷ []) ss) ts → KeepLists ks (parts hi (m ∷ []) ss) ss ts → KeepLists ks (parts hi ms ts) ts us → KeepLists ks (parts hi (m ∷ ms) ss) ss us
+    kept-more : (ks : List ℕ) (hi : Option (List ℕ)) (m : Msg U V) (ms : List (Msg U V)) (ss ts us : PSlots U V) → HaveTaken means ss (batches_by_slot hi (m ∷ []) ss) ts → KeepLists ks (batches_by_slot hi (m ∷ []) ss) ss ts → KeepLists ks (batches_by_slot hi ms ts) ts us → KeepLists ks (batches_by_slot hi (m ∷ ms) ss) ss us
     kept-more ks hi m ms none ts us t a b = tt
     kept-more [] hi m ms (more lo old n ss) ts us t a b = tt
     kept-more (k ∷ ks) hi m ms (more lo old n ss) none us t a b = absurd t
@@ -137,33 +137,33 @@ module _ {U V : Type 0} (means : U → Option V → Option V) (all : List (Msg U
   pub left_homes : (p : List (Msg U V) × ℕ) → all ≡ m ∷ ms → places ≡ i ∷ homes → (get_or xs i d).pending.1 ≤ p.1 + 1 → HaveHomes (length all) xs all places → HaveHomes (length ms) (relisted xs i d p) ms homes
   left_homes p w h b have = homes-relisted ms homes xs i (suc (length ms)) (length ms) d p (omega arith) (omega (arith, b)) (both_homes all m ms places i homes xs w h have).2
 
-  one_taken : (p : List (Msg U V) × ℕ) → all ≡ m ∷ ms → places ≡ i ∷ homes → HaveHomes (length all) xs all places → Takes means (get_or xs i d).pending.0 (m ∷ []) p.0 → HaveTaken means (seen_slots xs) (parts None (m ∷ []) (seen_slots xs)) (seen_slots (relisted xs i d p))
+  one_taken : (p : List (Msg U V) × ℕ) → all ≡ m ∷ ms → places ≡ i ∷ homes → HaveHomes (length all) xs all places → Takes means (get_or xs i d).pending.0 (m ∷ []) p.0 → HaveTaken means (seen_slots xs) (batches_by_slot None (m ∷ []) (seen_slots xs)) (seen_slots (relisted xs i d p))
   one_taken p w h have t = subst (λ z. HaveTaken means (seen_slots xs) z (seen_slots (relisted xs i d p))) (both_homes all m ms places i homes xs w h have).0 (taken-at means (m ∷ []) xs i d p (is_there all m ms places i homes xs w h have) t)
 
   pub all_taken : (p : List (Msg U V) × ℕ) (us : PSlots U V) → all ≡ m ∷ ms → places ≡ i ∷ homes → HaveHomes (length all) xs all places → Takes means (get_or xs i d).pending.0 (m ∷ []) p.0
-      → HaveTaken means (seen_slots (relisted xs i d p)) (parts None ms (seen_slots (relisted xs i d p))) us → HaveTaken means (seen_slots xs) (parts None all (seen_slots xs)) us
+      → HaveTaken means (seen_slots (relisted xs i d p)) (batches_by_slot None ms (seen_slots (relisted xs i d p))) us → HaveTaken means (seen_slots xs) (batches_by_slot None all (seen_slots xs)) us
   all_taken p us w h have t later =
-      subst (λ z. HaveTaken means (seen_slots xs) (parts None z (seen_slots xs)) us) (sym w) (taken-more means None m ms (seen_slots xs) (seen_slots (relisted xs i d p)) us (one_taken p w h have t) later)
+      subst (λ z. HaveTaken means (seen_slots xs) (batches_by_slot None z (seen_slots xs)) us) (sym w) (taken-more means None m ms (seen_slots xs) (seen_slots (relisted xs i d p)) us (one_taken p w h have t) later)
 
   pub all_kept : (ks : List ℕ) (p : List (Msg U V) × ℕ) (us : PSlots U V) → all ≡ m ∷ ms → places ≡ i ∷ homes → HaveHomes (length all) xs all places → Takes means (get_or xs i d).pending.0 (m ∷ []) p.0
-      → (0 < get_or ks i 0 → p.0 ≡ (get_or xs i d).pending.0 ++ m ∷ []) → KeepLists ks (parts None ms (seen_slots (relisted xs i d p))) (seen_slots (relisted xs i d p)) us → KeepLists ks (parts None all (seen_slots xs)) (seen_slots xs) us
+      → (0 < get_or ks i 0 → p.0 ≡ (get_or xs i d).pending.0 ++ m ∷ []) → KeepLists ks (batches_by_slot None ms (seen_slots (relisted xs i d p))) (seen_slots (relisted xs i d p)) us → KeepLists ks (batches_by_slot None all (seen_slots xs)) (seen_slots xs) us
   all_kept ks p us w h have t same later =
       let ss = seen_slots xs in
       let ts = seen_slots (relisted xs i d p) in
-      let one : KeepLists ks (parts None (m ∷ []) ss) ss ts = subst (λ z. KeepLists ks z ss ts) (both_homes all m ms places i homes xs w h have).0 (kept-at ks (m ∷ []) xs i d p (is_there all m ms places i homes xs w h have) same) in
-      subst (λ z. KeepLists ks (parts None z ss) ss us) (sym w) (kept-more means ks None m ms ss ts us (one_taken p w h have t) one later)
+      let one : KeepLists ks (batches_by_slot None (m ∷ []) ss) ss ts = subst (λ z. KeepLists ks z ss ts) (both_homes all m ms places i homes xs w h have).0 (kept-at ks (m ∷ []) xs i d p (is_there all m ms places i homes xs w h have) same) in
+      subst (λ z. KeepLists ks (batches_by_slot None z ss) ss us) (sym w) (kept-more means ks None m ms ss ts us (one_taken p w h have t) one later)
 
 module _ {U V : Type 0} where
-  pub none_taken : (means : U → Option V → Option V) (all : List (Msg U V)) (ss : PSlots U V) → all ≡ [] → HaveTaken means ss (parts None all ss) ss
-  none_taken means all ss w = subst (λ z. HaveTaken means ss (parts None z ss) ss) (sym w) (taken-none means ss)
+  pub none_taken : (means : U → Option V → Option V) (all : List (Msg U V)) (ss : PSlots U V) → all ≡ [] → HaveTaken means ss (batches_by_slot None all ss) ss
+  none_taken means all ss w = subst (λ z. HaveTaken means ss (batches_by_slot None z ss) ss) (sym w) (taken-none means ss)
 
-  pub none_kept : (ks : List ℕ) (all : List (Msg U V)) (ss : PSlots U V) → all ≡ [] → KeepLists ks (parts None all ss) ss ss
-  none_kept ks all ss w = subst (λ z. KeepLists ks (parts None z ss) ss ss) (sym w) (kept-none ks ss)
+  pub none_kept : (ks : List ℕ) (all : List (Msg U V)) (ss : PSlots U V) → all ≡ [] → KeepLists ks (batches_by_slot None all ss) ss ss
+  none_kept ks all ss w = subst (λ z. KeepLists ks (batches_by_slot None z ss) ss ss) (sym w) (kept-none ks ss)
 
 -- ---- one message alone
 
 module _ {U V : Type 0} {T X : Type 0} (r : Result T X) (m : Msg U V) (xs : List (Slot U V)) (i : ℕ) (d : Slot U V) (p : List (Msg U V) × ℕ) where
-  pub one_appended : (means : U → Option V → Option V) → IsHome i m (seen_slots xs) → i < length xs → OnOk r (Takes means (get_or xs i d).pending.0 (m ∷ []) p.0) → OnOk r (HaveTaken means (seen_slots xs) (parts None (m ∷ []) (seen_slots xs)) (seen_slots (relisted xs i d p)))
+  pub one_appended : (means : U → Option V → Option V) → IsHome i m (seen_slots xs) → i < length xs → OnOk r (Takes means (get_or xs i d).pending.0 (m ∷ []) p.0) → OnOk r (HaveTaken means (seen_slots xs) (batches_by_slot None (m ∷ []) (seen_slots xs)) (seen_slots (relisted xs i d p)))
   one_appended means h b ok =
       on_ok_weaker r (λ (t : Takes means (get_or xs i d).pending.0 (m ∷ []) p.0). subst (λ z. HaveTaken means (seen_slots xs) z (seen_slots (relisted xs i d p))) h (taken-at means (m ∷ []) xs i d p b t)) ok
 

@@ -81,8 +81,8 @@ module _ {V : Type 0} (k : List ℕ) (es : List (List ℕ × V)) (i : ℕ) where
   pub is_replaced : (x : List ℕ × V) (v : V) → IsEntry es k i → Rises [] None es → x ≡ get_or es i x → IsChanged (same k) (Some v) es (set es i (x.0, v))
   is_replaced x v g r at =
       let key : x.0 ≡ k = ap (λ (y : List ℕ × V). y.0) at ∙ g.key x in
-      let parts : set es i (x.0, v) ≡ take i es ++ (k, v) ∷ drop (suc i) es = set_split es i (x.0, v) g.bound ∙ ap (λ (q : List ℕ). take i es ++ (q, v) ∷ drop (suc i) es) key in
-      subst (λ (new : List (List ℕ × V)). IsChanged (same k) (Some v) es new) (sym parts) (is_put k es i (suc i) (around_entry k es i g r) v)
+      let batches_by_slot : set es i (x.0, v) ≡ take i es ++ (k, v) ∷ drop (suc i) es = set_split es i (x.0, v) g.bound ∙ ap (λ (q : List ℕ). take i es ++ (q, v) ∷ drop (suc i) es) key in
+      subst (λ (new : List (List ℕ × V)). IsChanged (same k) (Some v) es new) (sym batches_by_slot) (is_put k es i (suc i) (around_entry k es i g r) v)
 
   -- or goes
   pub is_removed : IsEntry es k i → Rises [] None es → IsChanged (same k) None es (remove es i)
@@ -111,8 +111,8 @@ module _ {V : Type 0} (makes : Option V → Option V) (k : List ℕ) (es : List 
 
   pub is_edited_away : (new : List (List ℕ × V)) → None ≡ makes (Some x.1) → new ≡ remove (set es i (x.0, v)) i → IsChanged (same k) (makes (lookup es k)) es new
   is_edited_away new made is =
-      let gone : remove (set es i (x.0, v)) i ≡ remove es i = ap (λ (front : List (List ℕ × V)). front ++ drop (suc i) (set es i (x.0, v))) (take-set es i (x.0, v)) ∙ ap (λ (back : List (List ℕ × V)). take i es ++ back) (drop-set-lt (suc i) es i (x.0, v) (omega arith)) in
-      subst (λ (n : List (List ℕ × V)). IsChanged (same k) (makes (lookup es k)) es n) (sym (is ∙ gone)) (is_changed_to (same k) None (makes (lookup es k)) es (remove es i) (made_at None made) (is_removed k es i g r))
+      let consumed : remove (set es i (x.0, v)) i ≡ remove es i = ap (λ (front : List (List ℕ × V)). front ++ drop (suc i) (set es i (x.0, v))) (take-set es i (x.0, v)) ∙ ap (λ (back : List (List ℕ × V)). take i es ++ back) (drop-set-lt (suc i) es i (x.0, v) (omega arith)) in
+      subst (λ (n : List (List ℕ × V)). IsChanged (same k) (makes (lookup es k)) es n) (sym (is ∙ consumed)) (is_changed_to (same k) None (makes (lookup es k)) es (remove es i) (made_at None made) (is_removed k es i g r))
 
 -- the entries from number i up to j lie in the range, the others do not
 cleared : {V : Type 0} (lo : List ℕ) (hi : Option (List ℕ)) (es : List (List ℕ × V)) (i j : ℕ) → IsCount es (Some lo) i → IsCount es hi j → IsChanged (within lo hi) None es (take i es ++ drop (max j i) es)

@@ -14,7 +14,7 @@ use Rattle.node.specs.Meaning.{value, slots_value}
 use Rattle.node.specs.Lawful.{IsLawfulRoot, AreLawfulSlots, slot_count, starts_at}
 use Rattle.node.specs.Site.{slots_at, with_slots, end_at, of_child, child_changed, joined, slots_from, Spliced}
 use Rattle.node.specs.Sinks.{first_lo}
-use Rattle.node.specs.Steps.{LawfulSlots, is_top, width, OthersStay, Stepped, Done, Replies, At, IsMissing, IfDid, UnlessDid, HasNoRoom, OnlyDoingTells, MayHaveRoom, IsAdmitted, IsRefused, Refusal, there, can, Answers}
+use Rattle.node.specs.Steps.{LawfulSlots, is_top, width, OthersStay, Stepped, Done, Replies, At, IsMissing, IfDid, UnlessDid, HasNoRoom, OnlyDoingTells, MayHaveRoom, IsAdmitted, IsRefused, Precheck, there, applies, Answers}
 use Rattle.message.proofs.KeyOrder.{both}
 use Rattle.node.proofs.At.{with_slots-same}
 use Rattle.node.proofs.Splice.{value-spliced, counted-more, starts-more, starts-first}
@@ -53,7 +53,7 @@ module _ {U V : Type 0} where
     pub others : IfDid r (λ n. OthersStay kind p i a b)
     pub there : r ≡ NotThere → ⊥
     pub full : r ≡ NoRoom → IsRefused means kind shape (is_top p) i (end_at p None a) (slots_at p a)
-    pub told : IsRefused means kind shape (is_top p) i (end_at p None a) (slots_at p a) → (r ≡ NoRoom) ⊎ ((r ≡ NoMemory) × MatchOption (slots_at p a) ⊥ (λ ss. OnlyDoingTells kind (slots_from i ss)))
+    pub reported : IsRefused means kind shape (is_top p) i (end_at p None a) (slots_at p a) → (r ≡ NoRoom) ⊎ ((r ≡ NoMemory) × MatchOption (slots_at p a) ⊥ (λ ss. OnlyDoingTells kind (slots_from i ss)))
     pub unchanged : UnlessDid r (b ≡ a)
 
   -- a changed child is a change of its slot alone
@@ -90,7 +90,7 @@ module _ {U V : Type 0} where
         record { before = d.before; old = d.old; new = d.new; after = d.after; was = q ∙ d.was; is = d.is; number = d.number; width = d.width; changed = d.changed.0.starts }
     others n (j ∷ p) h (inner ts) ss new l e d = child-spliced (with_slots p new) (slots_at p) ss ts j None e
 
-    module _ (p : List ℕ) (h : ℕ) (a b : PNode U V) (ss new : PSlots U V) (l : IsLawfulRoot shape a h) (e : slots_at p a ≡ Some ss) (is : b ≡ with_slots p new a) (able : can kind (end_at p None a) (slots_from i ss) ≡ true) (room : (g : ℕ) (lo : List ℕ) → LawfulSlots shape (is_top p) g lo (end_at p None a) ss → MayHaveRoom means kind shape (is_top p) i ss) where
+    module _ (p : List ℕ) (h : ℕ) (a b : PNode U V) (ss new : PSlots U V) (l : IsLawfulRoot shape a h) (e : slots_at p a ≡ Some ss) (is : b ≡ with_slots p new a) (able : applies kind (end_at p None a) (slots_from i ss) ≡ true) (room : (g : ℕ) (lo : List ℕ) → LawfulSlots shape (is_top p) g lo (end_at p None a) ss → MayHaveRoom means kind shape (is_top p) i ss) where
       -- slots that stay leave the tree
       same : new ≡ ss → b ≡ a
       same q = is ∙ ap (λ z. with_slots p z a) q ∙ with_slots-same p a ss e
@@ -116,10 +116,10 @@ module _ {U V : Type 0} where
             others = subst (λ z. OthersStay kind p i a z) (sym is) (others n p h a ss new l e k.2.0);
             there = λ z. (cc);
             full = λ z. (cc);
-            told = λ z. absurd (k.2.1 (lacks z));
+            reported = λ z. absurd (k.2.1 (lacks z));
             unchanged = tt;
           }
-      outcome_by NotThere q = absurd (both_ways (can kind (end_at p None a) (slots_from i ss)) (q.1 (end_at p None a)) able)
+      outcome_by NotThere q = absurd (both_ways (applies kind (end_at p None a) (slots_from i ss)) (q.1 (end_at p None a)) able)
       outcome_by NoRoom q = record {
         lawful = subst (λ z. IsLawfulRoot shape z h) (sym (same q.0)) l;
         same = λ x. ap (λ z. value means z x) (same q.0);
@@ -127,7 +127,7 @@ module _ {U V : Type 0} where
         others = tt;
         there = λ z. (cc);
         full = λ z. subst (λ o. IsRefused means kind shape (is_top p) i (end_at p None a) o) (sym e) (able, q.1);
-        told = λ z. inl refl;
+        reported = λ z. inl refl;
         unchanged = same q.0;
       }
       outcome_by NoMemory q = record {
@@ -137,7 +137,7 @@ module _ {U V : Type 0} where
         others = tt;
         there = λ z. (cc);
         full = λ z. (cc);
-        told = λ z. inr (refl, untold (lacks z));
+        reported = λ z. inr (refl, untold (lacks z));
         unchanged = same q;
       }
 
@@ -158,12 +158,12 @@ module _ {U V : Type 0} where
     others_stay = o.others;
     not_there = (λ z. absurd (o.there z), λ z. absurd (both_ways (there kind i p None a) z able));
     no_room = o.full;
-    no_room_told = o.told;
+    no_room_resolved = o.reported;
     unchanged = on_undone r (b ≡ a) (tree_of shape b ≡ tree_of shape a) (ap (tree_of shape)) o.unchanged;
   })
 
   -- what a step answers that reading refuses
-  pub refused : (means : U → Option V → Option V) (kind : StepKind) (i : ℕ) (p : List ℕ) (r : StepReply) (t : PTree U V) → Refusal means kind t.shape (is_top p) i (end_at p None t.root) (slots_at p t.root) (Some r) → Answers means kind p i r t t
+  pub refused : (means : U → Option V → Option V) (kind : StepKind) (i : ℕ) (p : List ℕ) (r : StepReply) (t : PTree U V) → Precheck means kind t.shape (is_top p) i (end_at p None t.root) (slots_at p t.root) (Some r) → Answers means kind p i r t t
   refused means kind i p (Did n) t q = absurd q
   refused means kind i p NotThere t q = record {
     value_kept = λ k. refl;
@@ -172,7 +172,7 @@ module _ {U V : Type 0} where
     others_stay = tt;
     not_there = (λ z. q, λ z. refl);
     no_room = λ z. (cc);
-    no_room_told = λ z. absurd (both_ways (there kind i p None t.root) q z.0);
+    no_room_resolved = λ z. absurd (both_ways (there kind i p None t.root) q z.0);
     unchanged = refl;
   }
   refused means kind i p NoRoom t q = record {
@@ -182,11 +182,11 @@ module _ {U V : Type 0} where
     others_stay = tt;
     not_there = (λ z. (cc), λ z. absurd (both_ways (there kind i p None t.root) z q.0));
     no_room = λ z. q;
-    no_room_told = λ z. inl refl;
+    no_room_resolved = λ z. inl refl;
     unchanged = refl;
   }
   refused means kind i p NoMemory t q = absurd q
 
   -- what reading told of the tree, which it knew by other names
-  pub told : (means : U → Option V → Option V) (kind : StepKind) (shape : Shape) (i : ℕ) (p : List ℕ) (r : Option StepReply) (top : Bool) (x a : PNode U V) → top ≡ is_top p → x ≡ a → Refusal means kind shape top i (end_at p None x) (slots_at p x) r → Refusal means kind shape (is_top p) i (end_at p None a) (slots_at p a) r
-  told means kind shape i p r top x a e f q = subst (λ z. Refusal means kind shape z i (end_at p None a) (slots_at p a) r) e (subst (λ z. Refusal means kind shape top i (end_at p None z) (slots_at p z) r) f q)
+  pub reported : (means : U → Option V → Option V) (kind : StepKind) (shape : Shape) (i : ℕ) (p : List ℕ) (r : Option StepReply) (top : Bool) (x a : PNode U V) → top ≡ is_top p → x ≡ a → Precheck means kind shape top i (end_at p None x) (slots_at p x) r → Precheck means kind shape (is_top p) i (end_at p None a) (slots_at p a) r
+  reported means kind shape i p r top x a e f q = subst (λ z. Precheck means kind shape z i (end_at p None a) (slots_at p a) r) e (subst (λ z. Precheck means kind shape top i (end_at p None z) (slots_at p z) r) f q)

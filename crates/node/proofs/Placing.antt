@@ -13,14 +13,14 @@ use Rattle.pathkey.proofs.KeyOrder.{le_le, from_start, before_from_not_reaches, 
 use Rattle.message.specs.declared.msg.Msg.{Msg}
 use Rattle.message.specs.declared.msg.Msg.TheVariants.{Put, Del, DelRange, Edit}
 use Rattle.message.specs.Ranges.{reaches, before, within}
-use Rattle.message.specs.Effects.{touches, point}
+use Rattle.message.specs.Effects.{touches, point_key}
 use Rattle.message.specs.Cuts.{cut_to, pieces}
 use Rattle.message.proofs.Parting.{pieces-append}
 use Rattle.message.proofs.KeyOrder.{both}
 use Rattle.node.specs.declared.node.Slot.{Slot}
 use Rattle.node.specs.declared.shape.Shape.{Shape}
 use Rattle.node.specs.Meaning.{begins_by, slot_number}
-use Rattle.node.specs.Appended.{parts, placed}
+use Rattle.node.specs.Appended.{batches_by_slot, placed}
 use Rattle.node.specs.Pure.{PNode, leaf, inner, depth, PSlots, none, more}
 use Rattle.node.specs.Lawful.{slot_count, next_lo, TouchOnly, starts_at, IsLawfulNode, AreLawfulSlots, IsLawfulRoot}
 use Rattle.node.specs.Searchable.{AreRising, Fits, AllFit, IsRoot, IsSearchable, AreSearchable, see_list}
@@ -41,48 +41,48 @@ from e q = ap (λ x. reaches x q && true) e ∙ ap (λ b. b && true) (from_start
 
 module _ {U V : Type 0} where
   -- one message more
-  pub placed-parts : (hi : Option (List ℕ)) (ms : List (Msg U V)) (m : Msg U V) (ss : PSlots U V) → placed hi m ss (parts hi ms ss) ≡ parts hi (ms ++ m ∷ []) ss
-  placed-parts hi ms m none = refl
-  placed-parts hi ms m (more lo old n ss) =
+  pub placed-batches_by_slot : (hi : Option (List ℕ)) (ms : List (Msg U V)) (m : Msg U V) (ss : PSlots U V) → placed hi m ss (batches_by_slot hi ms ss) ≡ batches_by_slot hi (ms ++ m ∷ []) ss
+  placed-batches_by_slot hi ms m none = refl
+  placed-batches_by_slot hi ms m (more lo old n ss) =
       let e : pieces lo (next_lo hi ss) ms ++ option_to_list (cut_to lo (next_lo hi ss) m) ≡ pieces lo (next_lo hi ss) (ms ++ m ∷ []) = sym (pieces-append lo (next_lo hi ss) ms (m ∷ []) ∙ ap (λ z. pieces lo (next_lo hi ss) ms ++ z) (append-nil (option_to_list (cut_to lo (next_lo hi ss) m)))) in
-      λ i. e i ∷ placed-parts hi ms m ss i
+      λ i. e i ∷ placed-batches_by_slot hi ms m ss i
 
   -- no message yet
-  pub parts-none : (hi : Option (List ℕ)) (xs : List (Slot U V)) → parts hi [] (seen_slots xs) ≡ map (λ s. []) xs
-  parts-none hi [] = refl
-  parts-none hi (x ∷ xs) = ap (λ z. [] ∷ z) (parts-none hi xs)
+  pub batches_by_slot-none : (hi : Option (List ℕ)) (xs : List (Slot U V)) → batches_by_slot hi [] (seen_slots xs) ≡ map (λ s. []) xs
+  batches_by_slot-none hi [] = refl
+  batches_by_slot-none hi (x ∷ xs) = ap (λ z. [] ∷ z) (batches_by_slot-none hi xs)
 
-  pub length-parts : (hi : Option (List ℕ)) (ms : List (Msg U V)) (xs : List (Slot U V)) → length (parts hi ms (seen_slots xs)) ≡ length xs
-  length-parts hi ms [] = refl
-  length-parts hi ms (x ∷ xs) = ap suc (length-parts hi ms xs)
+  pub length-batches_by_slot : (hi : Option (List ℕ)) (ms : List (Msg U V)) (xs : List (Slot U V)) → length (batches_by_slot hi ms (seen_slots xs)) ≡ length xs
+  length-batches_by_slot hi ms [] = refl
+  length-batches_by_slot hi ms (x ∷ xs) = ap suc (length-batches_by_slot hi ms xs)
 
   -- the parts with what each slot takes of messages put behind, one message after the other
   abbrev pub all_placed : Option (List ℕ) → List (Msg U V) → PSlots U V → List (List (Msg U V)) → List (List (Msg U V))
   all_placed hi [] ss ps = ps
   all_placed hi (m ∷ ms) ss ps = all_placed hi ms ss (placed hi m ss ps)
 
-  all_placed-parts : (hi : Option (List ℕ)) (ms done : List (Msg U V)) (ss : PSlots U V) → all_placed hi ms ss (parts hi done ss) ≡ parts hi (done ++ ms) ss
-  all_placed-parts hi [] done ss = ap (λ z. parts hi z ss) (sym (append-nil done))
-  all_placed-parts hi (m ∷ ms) done ss = ap (all_placed hi ms ss) (placed-parts hi done m ss) ∙ all_placed-parts hi ms (done ++ m ∷ []) ss ∙ ap (λ z. parts hi z ss) (append_assoc done (m ∷ []) ms)
+  all_placed-batches_by_slot : (hi : Option (List ℕ)) (ms done : List (Msg U V)) (ss : PSlots U V) → all_placed hi ms ss (batches_by_slot hi done ss) ≡ batches_by_slot hi (done ++ ms) ss
+  all_placed-batches_by_slot hi [] done ss = ap (λ z. batches_by_slot hi z ss) (sym (append-nil done))
+  all_placed-batches_by_slot hi (m ∷ ms) done ss = ap (all_placed hi ms ss) (placed-batches_by_slot hi done m ss) ∙ all_placed-batches_by_slot hi ms (done ++ m ∷ []) ss ∙ ap (λ z. batches_by_slot hi z ss) (append_assoc done (m ∷ []) ms)
 
   -- all messages, placed one after the other in empty parts
-  pub all_placed-empty : (hi : Option (List ℕ)) (ms : List (Msg U V)) (xs : List (Slot U V)) → all_placed hi ms (seen_slots xs) (map (λ s. []) xs) ≡ parts hi ms (seen_slots xs)
-  all_placed-empty hi ms xs = ap (all_placed hi ms (seen_slots xs)) (sym (parts-none hi xs)) ∙ all_placed-parts hi ms [] (seen_slots xs)
+  pub all_placed-empty : (hi : Option (List ℕ)) (ms : List (Msg U V)) (xs : List (Slot U V)) → all_placed hi ms (seen_slots xs) (map (λ s. []) xs) ≡ batches_by_slot hi ms (seen_slots xs)
+  all_placed-empty hi ms xs = ap (all_placed hi ms (seen_slots xs)) (sym (batches_by_slot-none hi xs)) ∙ all_placed-batches_by_slot hi ms [] (seen_slots xs)
 
   -- a message for one key is taken whole where its key lies, and not at all elsewhere
-  cut-by : (lo : List ℕ) (hi : Option (List ℕ)) (m : Msg U V) (q : List ℕ) → point m ≡ Some q → cut_to lo hi m ≡ cond (within lo hi q) (Some m) None
+  cut-by : (lo : List ℕ) (hi : Option (List ℕ)) (m : Msg U V) (q : List ℕ) → point_key m ≡ Some q → cut_to lo hi m ≡ cond (within lo hi q) (Some m) None
   cut-by lo hi (Put p v) q e = ap (λ x. cond (within lo hi x) (Some (Put p v)) None) (ap or_empty e)
   cut-by lo hi (Del p) q e = ap (λ x. cond (within lo hi x) (Some (Del p)) None) (ap or_empty e)
   cut-by lo hi (DelRange r) q e = (cc)
   cut-by lo hi (Edit p u) q e = ap (λ x. cond (within lo hi x) (Some (Edit p u)) None) (ap or_empty e)
 
-  out : (lo : List ℕ) (hi : Option (List ℕ)) (m : Msg U V) (q : List ℕ) (p : List (Msg U V)) → point m ≡ Some q → within lo hi q ≡ false → p ++ option_to_list (cut_to lo hi m) ≡ p
+  out : (lo : List ℕ) (hi : Option (List ℕ)) (m : Msg U V) (q : List ℕ) (p : List (Msg U V)) → point_key m ≡ Some q → within lo hi q ≡ false → p ++ option_to_list (cut_to lo hi m) ≡ p
   out lo hi m q p e f = ap (λ o. p ++ option_to_list o) (cut-by lo hi m q e ∙ ap (λ b. cond b (Some m) None) f) ∙ append-nil p
 
-  inside : (lo : List ℕ) (hi : Option (List ℕ)) (m : Msg U V) (q : List ℕ) (p : List (Msg U V)) → point m ≡ Some q → within lo hi q ≡ true → p ++ option_to_list (cut_to lo hi m) ≡ p ++ m ∷ []
+  inside : (lo : List ℕ) (hi : Option (List ℕ)) (m : Msg U V) (q : List ℕ) (p : List (Msg U V)) → point_key m ≡ Some q → within lo hi q ≡ true → p ++ option_to_list (cut_to lo hi m) ≡ p ++ m ∷ []
   inside lo hi m q p e f = ap (λ o. p ++ option_to_list o) (cut-by lo hi m q e ∙ ap (λ b. cond b (Some m) None) f)
 
-  below_all : (hi : Option (List ℕ)) (m : Msg U V) (q : List ℕ) (ss : PSlots U V) (ps : List (List (Msg U V))) → point m ≡ Some q → AreRising ss → begins_by ss q ≡ false → placed hi m ss ps ≡ ps
+  below_all : (hi : Option (List ℕ)) (m : Msg U V) (q : List ℕ) (ss : PSlots U V) (ps : List (List (Msg U V))) → point_key m ≡ Some q → AreRising ss → begins_by ss q ≡ false → placed hi m ss ps ≡ ps
   below_all hi m q none ps e r f = refl
   below_all hi m q (more lo old n ss) [] e r f = refl
   below_all hi m q (more lo old n none) (p ∷ ps) e r f = ap (λ z. z ∷ ps) (out lo hi m q p e (ap (λ b. b && is_below q hi) f))
@@ -91,16 +91,16 @@ module _ {U V : Type 0} where
       let rest = below_all hi m q (more lp o k ss) ps e r.1 (next_above (reaches lp q) lo lp q refl r.0 f) in
       λ i. here i ∷ rest i
 
-  first_taken : (hi : Option (List ℕ)) (m : Msg U V) (q lo : List ℕ) (ss : PSlots U V) (p : List (Msg U V)) → point m ≡ Some q → reaches lo q ≡ true → is_below q hi ≡ true → begins_by ss q ≡ false → p ++ option_to_list (cut_to lo (next_lo hi ss) m) ≡ p ++ m ∷ []
+  first_taken : (hi : Option (List ℕ)) (m : Msg U V) (q lo : List ℕ) (ss : PSlots U V) (p : List (Msg U V)) → point_key m ≡ Some q → reaches lo q ≡ true → is_below q hi ≡ true → begins_by ss q ≡ false → p ++ option_to_list (cut_to lo (next_lo hi ss) m) ≡ p ++ m ∷ []
   first_taken hi m q lo none p e a b f = inside lo hi m q p e (ap (λ c. c && is_below q hi) a ∙ b)
   first_taken hi m q lo (more lp o k ss) p e a b f = inside lo (Some lp) m q p e (ap (λ c. c && before q lp) a ∙ before_from_not_reaches lp q f)
 
-  not_taken : (hi : Option (List ℕ)) (m : Msg U V) (q lo : List ℕ) (ss : PSlots U V) (p : List (Msg U V)) → point m ≡ Some q → begins_by ss q ≡ true → p ++ option_to_list (cut_to lo (next_lo hi ss) m) ≡ p
+  not_taken : (hi : Option (List ℕ)) (m : Msg U V) (q lo : List ℕ) (ss : PSlots U V) (p : List (Msg U V)) → point_key m ≡ Some q → begins_by ss q ≡ true → p ++ option_to_list (cut_to lo (next_lo hi ss) m) ≡ p
   not_taken hi m q lo none p e f = (cc)
   not_taken hi m q lo (more lp o k ss) p e f = out lo (Some lp) m q p e (and_right (reaches lo q) (before q lp) (not_before_from_reaches lp q f))
 
   -- a message for one key goes to the slot that holds it, and to no other
-  pub placed-at : (hi : Option (List ℕ)) (m : Msg U V) (q : List ℕ) (ss : PSlots U V) (ps : List (List (Msg U V))) → point m ≡ Some q → AreRising ss → begins_by ss q ≡ true → is_below q hi ≡ true → length ps ≡ slot_count ss → placed hi m ss ps ≡ set ps (slot_number ss q) (get_or ps (slot_number ss q) [] ++ m ∷ [])
+  pub placed-at : (hi : Option (List ℕ)) (m : Msg U V) (q : List ℕ) (ss : PSlots U V) (ps : List (List (Msg U V))) → point_key m ≡ Some q → AreRising ss → begins_by ss q ≡ true → is_below q hi ≡ true → length ps ≡ slot_count ss → placed hi m ss ps ≡ set ps (slot_number ss q) (get_or ps (slot_number ss q) [] ++ m ∷ [])
   placed-at hi m q none ps e r b l h = (cc)
   placed-at hi m q (more lo old n ss) [] e r b l h = absurd (omega arith)
   placed-at hi m q (more lo old n ss) (p ∷ ps) e r b l h =
@@ -115,13 +115,13 @@ module _ {U V : Type 0} where
             λ i. here i ∷ rest i
       ]) refl
 
-  touched_itself : (m : Msg U V) (q : List ℕ) → point m ≡ Some q → touches m q ≡ true
+  touched_itself : (m : Msg U V) (q : List ℕ) → point_key m ≡ Some q → touches m q ≡ true
   touched_itself (Put p v) q e = ap (λ x. same x q) (ap or_empty e) ∙ same_itself q
   touched_itself (Del p) q e = ap (λ x. same x q) (ap or_empty e) ∙ same_itself q
   touched_itself (DelRange r) q e = (cc)
   touched_itself (Edit p u) q e = ap (λ x. same x q) (ap or_empty e) ∙ same_itself q
 
-  begins : (q lo : List ℕ) (m : Msg U V) (hi : Option (List ℕ)) → point m ≡ Some q → TouchOnly lo hi (m ∷ []) → within lo hi q ≡ true
+  begins : (q lo : List ℕ) (m : Msg U V) (hi : Option (List ℕ)) → point_key m ≡ Some q → TouchOnly lo hi (m ∷ []) → within lo hi q ≡ true
   begins q lo m hi e only = elim (within lo hi q) as (λ b. within lo hi q ≡ b → within lo hi q ≡ true) [
     | true ↦ λ f. f
     | false ↦ λ f. absurd (let g : (touches m q || false) ≡ false = only q f in let h : touches m q ≡ true = touched_itself m q e in let k : (true || false) ≡ false = sym (ap (λ b. b || false) h) ∙ g in cc)
@@ -132,7 +132,7 @@ module _ {U V : Type 0} where
   slot_count-slots (x ∷ xs) = ap (λ n. n + 1) (slot_count-slots xs) ∙ add-one (length xs)
 
   -- the same in the words of the code: v is what the slot's part becomes
-  pub placed-set : (hi : Option (List ℕ)) (m : Msg U V) (q : List ℕ) (xs : List (Slot U V)) (ps : List (Vec (Msg U V))) (i : ℕ) (d v : Vec (Msg U V)) → Some q ≡ point m → AreRising (seen_slots xs) → Fits hi (seen_slots xs) m → length ps ≡ length xs → i < length xs → i ≡ slot_number (seen_slots xs) q → v.items ≡ (get_or ps i d).items ++ m ∷ [] → map see_list (set ps i v) ≡ placed hi m (seen_slots xs) (map see_list ps)
+  pub placed-set : (hi : Option (List ℕ)) (m : Msg U V) (q : List ℕ) (xs : List (Slot U V)) (ps : List (Vec (Msg U V))) (i : ℕ) (d v : Vec (Msg U V)) → Some q ≡ point_key m → AreRising (seen_slots xs) → Fits hi (seen_slots xs) m → length ps ≡ length xs → i < length xs → i ≡ slot_number (seen_slots xs) q → v.items ≡ (get_or ps i d).items ++ m ∷ [] → map see_list (set ps i v) ≡ placed hi m (seen_slots xs) (map see_list ps)
   placed-set hi m q [] ps i d v e r f l b n h = absurd f
   placed-set hi m q (x ∷ xs) ps i d v e r f l b n h =
       let ss = seen_slots (x ∷ xs) in

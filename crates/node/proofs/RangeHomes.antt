@@ -13,7 +13,7 @@ use Rattle.message.specs.Ranges.{reaches, before, later_key, earlier_end, ends_w
 use Rattle.message.proofs.RangeEnds.{later_same, later_pivot, first_end}
 use Rattle.message.proofs.KeyOrder.{cut_within, below_next}
 use Rattle.node.specs.declared.node.Slot.{Slot}
-use Rattle.node.specs.Appended.{parts, all_at}
+use Rattle.node.specs.Appended.{batches_by_slot, all_at}
 use Rattle.node.specs.Homes.{IsHome}
 use Rattle.node.specs.Meaning.{begins_by, slot_number}
 use Rattle.node.specs.Pure.{PNode, PSlots, inner, none, more}
@@ -73,14 +73,14 @@ module _ {U V : Type 0} where
 
   -- ---- all slots
 
-  none_behind : (r : KeyRange) (lo : List ℕ) (old : List (Msg U V)) (n : PNode U V) (ss : PSlots U V) → before r.lo lo ≡ true → is_below lo r.hi ≡ false → AreRising (more lo old n ss) → parts None (DelRange r ∷ []) (more lo old n ss) ≡ parts None [] (more lo old n ss)
+  none_behind : (r : KeyRange) (lo : List ℕ) (old : List (Msg U V)) (n : PNode U V) (ss : PSlots U V) → before r.lo lo ≡ true → is_below lo r.hi ≡ false → AreRising (more lo old n ss) → batches_by_slot None (DelRange r ∷ []) (more lo old n ss) ≡ batches_by_slot None [] (more lo old n ss)
   none_behind r lo old n none b h rising = ap (λ o. (option_to_list o ++ []) ∷ []) (behind_range lo None r b h)
   none_behind r lo old n (more lp o k ss) b h rising =
       let here = behind_range lo (Some lp) r b h in
       let later = none_behind r lp o k ss (le_lt r.lo lo lp (reaches-from_before r.lo lo b) rising.0) (false_from_ne_true (is_below lp r.hi) (λ y. let g : is_below lo r.hi ≡ true = below_next lo lp r.hi rising.0 y in (cc))) rising.1 in
       λ i. (option_to_list (here i) ++ []) ∷ later i
 
-  range_at : (r : KeyRange) (ss : PSlots U V) → AreRising ss → begins_by ss r.lo ≡ true → is_below r.lo r.hi ≡ true → ends_within r.hi (end_of None ss (slot_number ss r.lo)) ≡ true → all_at (slot_number ss r.lo) (DelRange r ∷ []) ss ≡ parts None (DelRange r ∷ []) ss
+  range_at : (r : KeyRange) (ss : PSlots U V) → AreRising ss → begins_by ss r.lo ≡ true → is_below r.lo r.hi ≡ true → ends_within r.hi (end_of None ss (slot_number ss r.lo)) ≡ true → all_at (slot_number ss r.lo) (DelRange r ∷ []) ss ≡ batches_by_slot None (DelRange r ∷ []) ss
   range_at r none rising b s w = absurd (cc)
   range_at r (more lo old n none) rising b s w = ap (λ o. (option_to_list o ++ []) ∷ []) (sym (around_range lo None r b w s))
   range_at r (more lo old n (more lp o k ss)) rising b s w =
@@ -88,7 +88,7 @@ module _ {U V : Type 0} where
       let rest = more lp o k ss in
       let all = more lo old n rest in
       let number = slot_number rest r.lo in
-      (elim (reaches lp r.lo) as (λ c. reaches lp r.lo ≡ c → ends_within r.hi (end_of None all (cond c (number + 1) 0)) ≡ true → all_at (cond c (number + 1) 0) (m ∷ []) all ≡ parts None (m ∷ []) all) [
+      (elim (reaches lp r.lo) as (λ c. reaches lp r.lo ≡ c → ends_within r.hi (end_of None all (cond c (number + 1) 0)) ≡ true → all_at (cond c (number + 1) 0) (m ∷ []) all ≡ batches_by_slot None (m ∷ []) all) [
         | true ↦ λ f v.
             let here = before_range lo lp r f in
             let later = range_at r (more lp o k ss) rising.1 f s (subst (λ j. ends_within r.hi (end_of None all j) ≡ true) (add-one number) v) in

@@ -25,11 +25,11 @@ module _ {U V : Type 0} (S : Shape) where
   abbrev pub tree_of : PNode U V → PTree U V
   tree_of n = record { shape = S; root = n }
 
-  pub lent_is_root : (old now : PNode U V) → IsLawful (tree_of old) → now ≡ old → IsRoot now
-  lent_is_root old now l e = subst (λ (n : PNode U V). IsRoot n) (sym e) (is_root S l.levels old l.root)
+  pub borrowed_is_root : (old now : PNode U V) → IsLawful (tree_of old) → now ≡ old → IsRoot now
+  borrowed_is_root old now l e = subst (λ (n : PNode U V). IsRoot n) (sym e) (is_root S l.levels old l.root)
 
-  pub lent_is_searchable : (old now : PNode U V) → IsLawful (tree_of old) → now ≡ old → IsSearchable now
-  lent_is_searchable old now l e = subst (λ (n : PNode U V). IsSearchable n) (sym e) (searchable_root S l.levels old l.root)
+  pub borrowed_is_searchable : (old now : PNode U V) → IsLawful (tree_of old) → now ≡ old → IsSearchable now
+  borrowed_is_searchable old now l e = subst (λ (n : PNode U V). IsSearchable n) (sym e) (searchable_root S l.levels old l.root)
 
   pub lawful_same : (old now seen : PNode U V) → IsLawful (tree_of old) → now ≡ old → seen ≡ now → IsLawful (tree_of seen)
   lawful_same old now seen l e s = subst (λ (n : PNode U V). IsLawful (tree_of n)) (sym (s ∙ e)) l

@@ -15,7 +15,7 @@ use Rattle.message.proofs.CutFacts.{cut_outside}
 use Rattle.node.specs.declared.shape.Shape.{Shape}
 use Rattle.node.specs.Pure.{PNode, PSlots, none, more}
 use Rattle.node.specs.Lawful.{next_lo, pending, TouchOnly, IsLawfulNode, AreLawfulSlots}
-use Rattle.node.specs.Appended.{parts, HaveTaken}
+use Rattle.node.specs.Appended.{batches_by_slot, HaveTaken}
 use Rattle.node.specs.StepRows.{piece_count, emptied}
 use Rattle.node.proofs.Appending.{pieces_outside, next_lo-taken}
 
@@ -82,7 +82,7 @@ module _ {U V : Type 0} where
 
 module _ {U V : Type 0} (means : U → Option V → Option V) where
   -- messages of a range go into slots that end with it as they go into slots without an end
-  pub lawful-sunk : (S : Shape) (h : ℕ) (l : List ℕ) (e : Option (List ℕ)) (ms : List (Msg U V)) (ss new : PSlots U V) → TouchOnly l e ms → HaveTaken means ss (parts None ms ss) new → AreLawfulSlots S ss h e → AreLawfulSlots S new h e
+  pub lawful-sunk : (S : Shape) (h : ℕ) (l : List ℕ) (e : Option (List ℕ)) (ms : List (Msg U V)) (ss new : PSlots U V) → TouchOnly l e ms → HaveTaken means ss (batches_by_slot None ms ss) new → AreLawfulSlots S ss h e → AreLawfulSlots S new h e
   lawful-sunk S h l e ms none none only t w = tt
   lawful-sunk S h l e ms none (more lo' new' n' ss') only t w = absurd t
   lawful-sunk S h l e ms (more lo old n ss) none only t w = absurd t
@@ -90,7 +90,7 @@ module _ {U V : Type 0} (means : U → Option V → Option V) where
       let next : next_lo e ss ≡ next_lo e ss' = sym (next_lo-taken means None e ms ss ss' t.3) in
       let low : lo ≡ lo' = sym t.0 in
       let child : n ≡ n' = sym t.2 in
-      let taken : TouchOnly lo (next_lo e ss) (pieces lo (next_lo None ss) ms) = part ss lo in
+      let taken : TouchOnly lo (next_lo e ss) (pieces lo (next_lo None ss) ms) = slot_batch ss lo in
       let here : TouchOnly lo (next_lo e ss) new' = λ k out. t.1.touched k (w.1 k out) (taken k out) in (
         subst (λ (x : List ℕ). is_below x (next_lo e ss') ≡ true) low (subst (λ (x : Option (List ℕ)). is_below lo x ≡ true) next w.0),
         subst (λ (x : List ℕ). TouchOnly x (next_lo e ss') new') low (subst (λ (x : Option (List ℕ)). TouchOnly lo x new') next here),
@@ -99,19 +99,19 @@ module _ {U V : Type 0} (means : U → Option V → Option V) where
       )
     where
       -- the part of a slot touches only its range
-      part : (ss : PSlots U V) (lo : List ℕ) → TouchOnly lo (next_lo e ss) (pieces lo (next_lo None ss) ms)
-      part none lo = pieces_end l lo e ms only
-      part (more lp o p ss) lo = pieces_outside lo (Some lp) ms
+      slot_batch : (ss : PSlots U V) (lo : List ℕ) → TouchOnly lo (next_lo e ss) (pieces lo (next_lo None ss) ms)
+      slot_batch none lo = pieces_end l lo e ms only
+      slot_batch (more lp o p ss) lo = pieces_outside lo (Some lp) ms
 
   -- the pieces grow by no more than those of the messages
-  pub pending-taken : (ms : List (Msg U V)) (ss new : PSlots U V) → HaveTaken means ss (parts None ms ss) new → pending new ≤ pending ss + piece_count ms ss
+  pub pending-taken : (ms : List (Msg U V)) (ss new : PSlots U V) → HaveTaken means ss (batches_by_slot None ms ss) new → pending new ≤ pending ss + piece_count ms ss
   pending-taken ms none none t = omega arith
   pending-taken ms none (more lo' new' n' ss') t = absurd t
   pending-taken ms (more lo old n ss) none t = absurd t
   pending-taken ms (more lo old n ss) (more lo' new' n' ss') t = omega (arith, t.1.bound, pending-taken ms ss ss' t.3)
 
   -- ranges and children stay
-  pub emptied-taken : (ms : List (Msg U V)) (ss new : PSlots U V) → HaveTaken means ss (parts None ms ss) new → emptied new ≡ emptied ss
+  pub emptied-taken : (ms : List (Msg U V)) (ss new : PSlots U V) → HaveTaken means ss (batches_by_slot None ms ss) new → emptied new ≡ emptied ss
   emptied-taken ms none none t = refl
   emptied-taken ms none (more lo' new' n' ss') t = absurd t
   emptied-taken ms (more lo old n ss) none t = absurd t

@@ -14,9 +14,9 @@ use Rattle.pathkey.proofs.KeyOrder.{reaches-from_before, le_le}
 
 module _ {U V : Type 0} where
   -- slots that were lent as a whole and mean what they meant: where there is an error, the node is as it was
-  pub lent_back : {T E : Type 0} (r : Result T E) (n : ℕ) (items lent new : List (Slot U V)) (node : PNode U V) → length lent ≡ n → lent ≡ items → map see_slot new ≡ map see_slot lent → inner (seen_slots items) ≡ node → OnErr r (inner (seen_slots (take n (new ++ drop (length new) items))) ≡ node)
-  lent_back (Ok x) n items lent new node l is same e = tt
-  lent_back (Err x) n items lent new node l is same e =
+  pub borrowed_back : {T E : Type 0} (r : Result T E) (n : ℕ) (items borrowed new : List (Slot U V)) (node : PNode U V) → length borrowed ≡ n → borrowed ≡ items → map see_slot new ≡ map see_slot borrowed → inner (seen_slots items) ≡ node → OnErr r (inner (seen_slots (take n (new ++ drop (length new) items))) ≡ node)
+  borrowed_back (Ok x) n items borrowed new node l is same e = tt
+  borrowed_back (Err x) n items borrowed new node l is same e =
       let seen : map see_slot new ≡ map see_slot items = same ∙ ap (map see_slot) is in
       let long : length new ≡ length items = sym (length-map new see_slot) ∙ ap length seen ∙ length-map items see_slot in
       let all : length items ≡ n = sym (ap length is) ∙ l in

@@ -1,7 +1,7 @@
 -- How a weight grows with each slot.
 use Rattle.std.proofs.Common.{◌≡◌, ℕ, zero, suc, ◌+◌, ◌<◌, ◌≤◌, ◌^◌, max, List, [], ◌∷◌, length, get_or, take, ap, arith, add-one}
 use Rattle.node.specs.declared.node.Slot.{Slot}
-use Rattle.node.specs.declared.node.weight.Weight.{Weight}
+use Rattle.node.specs.declared.node.pending_weight.PendingWeight.{PendingWeight}
 use Rattle.node.specs.declared.report.Quantity.TheVariants.{Pending}
 use Rattle.node.specs.Lawful.{pending, slot_count}
 use Rattle.node.specs.Pure.{inner}
@@ -30,7 +30,7 @@ module _ {U V : Type 0} where
   longest-one_more (x ∷ xs) (suc i) d h = omega (arith, longest-one_more xs i d (omega arith))
 
   -- the weight of the first slots and of the child below the next make that of one slot more
-  pub weight-more : (xs : List (Slot U V)) (i : ℕ) (s : Slot U V) (count : ℕ) (w v r : Weight) → i < length xs → s ≡ get_or xs i s → count ≡ length s.pending.0 → count ≤ 18446744073709551615 → IsWeight w (inner (seen_slots (take i xs))) → IsWeight v s.child.value → r.longest ≡ max (max count v.longest) w.longest → r.pending ≤ w.pending + count + v.pending → (r.pending < 2 ^ 127 → r.pending ≡ w.pending + count + v.pending) → IsWeight r (inner (seen_slots (take (i + 1) xs)))
+  pub weight-more : (xs : List (Slot U V)) (i : ℕ) (s : Slot U V) (count : ℕ) (w v r : PendingWeight) → i < length xs → s ≡ get_or xs i s → count ≡ length s.pending.0 → count ≤ 18446744073709551615 → IsWeight w (inner (seen_slots (take i xs))) → IsWeight v s.child.value → r.longest ≡ max (max count v.longest) w.longest → r.pending ≤ w.pending + count + v.pending → (r.pending < 2 ^ 127 → r.pending ≡ w.pending + count + v.pending) → IsWeight r (inner (seen_slots (take (i + 1) xs)))
   weight-more xs i s count w v r h at here small_count before below long most exact =
       let total_more = total_below-take Pending xs i s h in
       let pending_more : pending (seen_slots (take (i + 1) xs)) ≡ pending (seen_slots (take i xs)) + length (get_or xs i s).pending.0 = rw add-one (pending-one_more xs i s h) in

@@ -5,22 +5,22 @@ use Rattle.std.proofs.lemmas.List.{append-nil}
 use Rattle.std.proofs.lemmas.Option.{same_Some}
 use Rattle.pathkey.proofs.KeyOrder.{from_start}
 use Rattle.message.specs.declared.msg.Msg.{Msg}
-use Rattle.message.specs.Effects.{point, Takes}
+use Rattle.message.specs.Effects.{point_key, Takes}
 use Rattle.message.specs.Ranges.{reaches}
 use Rattle.message.proofs.Composing.{takes-none}
 use Rattle.node.specs.declared.node.Slot.{Slot}
-use Rattle.node.specs.Appended.{parts, all_at, HaveTaken}
+use Rattle.node.specs.Appended.{batches_by_slot, all_at, HaveTaken}
 use Rattle.node.specs.Grafts.{KeepLists}
 use Rattle.node.specs.Lawful.{starts_at}
 use Rattle.node.specs.Meaning.{begins_by, slot_number, holder}
 use Rattle.node.specs.Pure.{PSlots, inner, none, more}
 use Rattle.node.specs.Searchable.{AreRising, HasRoomAt, IsRoot}
 use Rattle.node.specs.See.{see_slot, seen_slots}
-use Rattle.node.proofs.Placing.{placed-parts, placed-at, length-parts, slot_count-slots}
+use Rattle.node.proofs.Placing.{placed-batches_by_slot, placed-at, length-batches_by_slot, slot_count-slots}
 
 module _ {U V : Type 0} where
   -- all messages for one slot are those that no slot takes, with all messages in that slot's place
-  set_at : (i : ℕ) (ms : List (Msg U V)) (ss : PSlots U V) → set (parts None [] ss) i (get_or (parts None [] ss) i [] ++ ms) ≡ all_at i ms ss
+  set_at : (i : ℕ) (ms : List (Msg U V)) (ss : PSlots U V) → set (batches_by_slot None [] ss) i (get_or (batches_by_slot None [] ss) i [] ++ ms) ≡ all_at i ms ss
   set_at i ms none = refl
   set_at zero ms (more lo old n ss) = refl
   set_at (suc i) ms (more lo old n ss) = ap (λ z. [] ∷ z) (set_at i ms ss)
@@ -31,24 +31,24 @@ module _ {U V : Type 0} where
   root_holds (more lo old n ss) q h = ap (λ x. reaches x q) h ∙ from_start q
 
   -- a message for one key is for the slot that holds the key, whole
-  at_number : (m : Msg U V) (q : List ℕ) (xs : List (Slot U V)) (i : ℕ) → Some q ≡ point m → AreRising (seen_slots xs) → begins_by (seen_slots xs) q ≡ true → i ≡ slot_number (seen_slots xs) q → all_at i (m ∷ []) (seen_slots xs) ≡ parts None (m ∷ []) (seen_slots xs)
+  at_number : (m : Msg U V) (q : List ℕ) (xs : List (Slot U V)) (i : ℕ) → Some q ≡ point_key m → AreRising (seen_slots xs) → begins_by (seen_slots xs) q ≡ true → i ≡ slot_number (seen_slots xs) q → all_at i (m ∷ []) (seen_slots xs) ≡ batches_by_slot None (m ∷ []) (seen_slots xs)
   at_number m q xs i e r f h =
       let ss = seen_slots xs in
-      let ps = parts None [] ss in
-      let len = length-parts None [] xs ∙ sym (slot_count-slots xs) in
+      let ps = batches_by_slot None [] ss in
+      let len = length-batches_by_slot None [] xs ∙ sym (slot_count-slots xs) in
       sym (set_at i (m ∷ []) ss)
       ∙ ap (λ j. set ps j (get_or ps j [] ++ m ∷ [])) h
       ∙ sym (placed-at None m q ss ps (sym e) r f refl len)
-      ∙ placed-parts None [] m ss
+      ∙ placed-batches_by_slot None [] m ss
 
   -- the same of a root, which holds each key
-  pub at_slot : (m : Msg U V) (q : List ℕ) (xs : List (Slot U V)) (i : ℕ) → Some q ≡ point m → IsRoot (inner (seen_slots xs)) → i ≡ slot_number (seen_slots xs) q → all_at i (m ∷ []) (seen_slots xs) ≡ parts None (m ∷ []) (seen_slots xs)
+  pub at_slot : (m : Msg U V) (q : List ℕ) (xs : List (Slot U V)) (i : ℕ) → Some q ≡ point_key m → IsRoot (inner (seen_slots xs)) → i ≡ slot_number (seen_slots xs) q → all_at i (m ∷ []) (seen_slots xs) ≡ batches_by_slot None (m ∷ []) (seen_slots xs)
   at_slot m q xs i e r h = at_number m q xs i e r.1 (root_holds (seen_slots xs) q r.0) h
 
   -- and of slots that were asked which of them holds the key
-  pub at_holder : (m : Msg U V) (q : List ℕ) (xs : List (Slot U V)) (i : ℕ) → Some q ≡ point m → AreRising (seen_slots xs) → Some i ≡ holder (seen_slots xs) q → all_at i (m ∷ []) (seen_slots xs) ≡ parts None (m ∷ []) (seen_slots xs)
+  pub at_holder : (m : Msg U V) (q : List ℕ) (xs : List (Slot U V)) (i : ℕ) → Some q ≡ point_key m → AreRising (seen_slots xs) → Some i ≡ holder (seen_slots xs) q → all_at i (m ∷ []) (seen_slots xs) ≡ batches_by_slot None (m ∷ []) (seen_slots xs)
   at_holder m q xs i e r h =
-      (elim (begins_by (seen_slots xs) q) as (λ b. begins_by (seen_slots xs) q ≡ b → Some i ≡ cond b (Some (slot_number (seen_slots xs) q)) None → all_at i (m ∷ []) (seen_slots xs) ≡ parts None (m ∷ []) (seen_slots xs)) [
+      (elim (begins_by (seen_slots xs) q) as (λ b. begins_by (seen_slots xs) q ≡ b → Some i ≡ cond b (Some (slot_number (seen_slots xs) q)) None → all_at i (m ∷ []) (seen_slots xs) ≡ batches_by_slot None (m ∷ []) (seen_slots xs)) [
         | true ↦ λ f n. at_number m q xs i e r f (same_Some i (slot_number (seen_slots xs) q) n)
         | false ↦ λ f n. absurd (cc)
       ]) refl h
@@ -71,7 +71,7 @@ module _ {U V : Type 0} where
   room-get (x ∷ xs) (suc i) n d h = room-get xs i n d h
 
   -- lists that take nothing stay
-  pub kept-none : (ks : List ℕ) (ss : PSlots U V) → KeepLists ks (parts None [] ss) ss ss
+  pub kept-none : (ks : List ℕ) (ss : PSlots U V) → KeepLists ks (batches_by_slot None [] ss) ss ss
   kept-none [] none = tt
   kept-none (k ∷ ks) none = tt
   kept-none [] (more lo ms n ss) = tt
@@ -87,7 +87,7 @@ module _ {U V : Type 0} where
 
 module _ {U V : Type 0} (means : U → Option V → Option V) where
   -- slots that take nothing stay
-  pub taken-none : (ss : PSlots U V) → HaveTaken means ss (parts None [] ss) ss
+  pub taken-none : (ss : PSlots U V) → HaveTaken means ss (batches_by_slot None [] ss) ss
   taken-none none = tt
   taken-none (more lo old n ss) = (refl, takes-none means old, refl, taken-none ss)
 

@@ -11,14 +11,14 @@ use Rattle.node.specs.Meaning.{value}
 
 module _ {U V : Type 0} where
   -- the parts of messages that each slot takes, cut at the pivots; hi is the end of the last slot
-  abbrev pub parts : Option (List ℕ) → List (Msg U V) → PSlots U V → List (List (Msg U V))
-  parts hi ms none = []
-  parts hi ms (more lo old n ss) = pieces lo (next_lo hi ss) ms ∷ parts hi ms ss
+  abbrev pub batches_by_slot : Option (List ℕ) → List (Msg U V) → PSlots U V → List (List (Msg U V))
+  batches_by_slot hi ms none = []
+  batches_by_slot hi ms (more lo old n ss) = pieces lo (next_lo hi ss) ms ∷ batches_by_slot hi ms ss
 
   -- all messages for the slot with this number, and none for the others
   abbrev pub all_at : ℕ → List (Msg U V) → PSlots U V → List (List (Msg U V))
   all_at i ms none = []
-  all_at zero ms (more lo old n ss) = ms ∷ parts None [] ss
+  all_at zero ms (more lo old n ss) = ms ∷ batches_by_slot None [] ss
   all_at (suc i) ms (more lo old n ss) = [] ∷ all_at i ms ss
 
   -- the parts with what each slot takes of m put behind
@@ -37,7 +37,7 @@ module _ {U V : Type 0} (means : U → Option V → Option V) where
 
   -- only the root's pending lists have changed: each slot's has taken the pieces of the messages that touch its range
   abbrev pub IsAppended : List (Msg U V) → PNode U V → PNode U V → Type 0
-  IsAppended ms (inner ss) (inner new) = HaveTaken ss (parts None ms ss) new
+  IsAppended ms (inner ss) (inner new) = HaveTaken ss (batches_by_slot None ms ss) new
   IsAppended ms _ _ = ⊥
 
 -- a tree after an append: its shape and its root's slots stay, but for what their lists have taken, and at each

@@ -4,7 +4,7 @@ use Rattle.message.specs.declared.msg.Msg.{Msg}
 use Rattle.node.specs.declared.node.Slot.{Slot}
 use Rattle.node.specs.declared.node.batch.Batch.{Batch}
 use Rattle.node.specs.declared.node.batch.Batch.TheVariants.{Whole, Parts}
-use Rattle.node.specs.Appended.{parts}
+use Rattle.node.specs.Appended.{batches_by_slot}
 use Rattle.node.specs.Homes.{IsHome}
 use Rattle.node.specs.Pure.{PSlots}
 use Rattle.node.specs.Searchable.{HasRoom, HasRoomAt, see_list}
@@ -13,7 +13,7 @@ use Rattle.node.specs.See.{seen_slots}
 module _ {U V : Type 0} where
   -- the part of each slot
   abbrev pub batch_parts : Batch U V → PSlots U V → List (List (Msg U V))
-  batch_parts (Whole v homes) ss = parts None v.items ss
+  batch_parts (Whole v homes) ss = batches_by_slot None v.items ss
   batch_parts (Parts v) ss = map see_list v.items
 
   -- for each message a number stands in its place, of the slot that takes it as it is and has room for so many messages

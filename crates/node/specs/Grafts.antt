@@ -6,7 +6,7 @@ use Rattle.message.specs.Ranges.{within}
 use Rattle.message.specs.Effects.{effects}
 use Rattle.node.specs.declared.shape.Shape.{Shape}
 use Rattle.node.specs.Pure.{PNode, leaf, inner, PSlots, none, more, PTree}
-use Rattle.node.specs.Appended.{parts}
+use Rattle.node.specs.Appended.{batches_by_slot}
 use Rattle.node.specs.Lawful.{IsLawfulNode, next_lo}
 use Rattle.node.specs.Meaning.{value}
 use Rattle.node.specs.Site.{Spliced}
@@ -42,7 +42,7 @@ module _ {U V : Type 0} where
 
   -- the same of a root that has taken messages
   abbrev pub KeepsLists : List ℕ → List (Msg U V) → PNode U V → PNode U V → Type 0
-  KeepsLists ks ms (inner ss) (inner new) = KeepLists ks (parts None ms ss) ss new
+  KeepsLists ks ms (inner ss) (inner new) = KeepLists ks (batches_by_slot None ms ss) ss new
   KeepsLists ks ms _ _ = ⊤
 
 -- the subtree is lawful where the child is, and means at each key of the range what the oldest `count` messages make of

@@ -28,11 +28,11 @@ module _ {U V : Type 0} where
   -- a node with these slots has room for one more, and, once so many messages have left, for so many others; a root
   -- has room for any
   abbrev pub CanPart : Shape → Bool → PSlots U V → ℕ → ℕ → Type 0
-  CanPart shape root ss gone added = (slot_count ss < shape.fanout) × (root ≡ false → pending ss + added ≤ shape.pending + gone)
+  CanPart shape root ss consumed added = (slot_count ss < shape.fanout) × (root ≡ false → pending ss + added ≤ shape.pending + consumed)
 
   -- it has not
   abbrev pub CannotPart : Shape → Bool → PSlots U V → ℕ → ℕ → Type 0
-  CannotPart shape root ss gone added = (shape.fanout ≤ slot_count ss) ⊎ ((root ≡ false) × (shape.pending < (pending ss - gone) + added))
+  CannotPart shape root ss consumed added = (shape.fanout ≤ slot_count ss) ⊎ ((root ≡ false) × (shape.pending < (pending ss - consumed) + added))
 
   -- ---- flush_inner
 

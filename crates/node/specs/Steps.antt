@@ -26,15 +26,15 @@ width DropCovered = 1
 
 module _ {U V : Type 0} where
   -- the step can be done at the first of these slots, which end at hi
-  abbrev pub can : StepKind → Option (List ℕ) → PSlots U V → Bool
-  can FlushInner hi ss = can_flush_inner ss
-  can FlushLeaf hi ss = can_flush_leaf ss
-  can SplitInner hi ss = can_split_inner ss
-  can MergeLeaves hi ss = can_merge_leaves ss
-  can MergeInner hi ss = can_merge_inner ss
-  can RootUp hi ss = false
-  can RootDown hi ss = false
-  can DropCovered hi ss = can_drop_covered hi ss
+  abbrev pub applies : StepKind → Option (List ℕ) → PSlots U V → Bool
+  applies FlushInner hi ss = can_flush_inner ss
+  applies FlushLeaf hi ss = can_flush_leaf ss
+  applies SplitInner hi ss = can_split_inner ss
+  applies MergeLeaves hi ss = can_merge_leaves ss
+  applies MergeInner hi ss = can_merge_inner ss
+  applies RootUp hi ss = false
+  applies RootDown hi ss = false
+  applies DropCovered hi ss = can_drop_covered hi ss
 
   -- only doing the step tells whether there is room for it at the first of these slots
   abbrev pub OnlyDoingTells : StepKind → PSlots U V → Type 0
@@ -88,8 +88,8 @@ Done means kind shape n i hi a b = Spliced (λ e old new. Sinks means n e old ne
 
 -- what a step's reply says of the node's slots before and after: Did of slots where it can be done and may have room
 abbrev pub Replies : {U V : Type 0} → (U → Option V → Option V) → StepKind → Shape → Bool → ℕ → StepReply → PSlots U V → PSlots U V → Type 0
-Replies means kind shape root i (Did n) a b = (h : ℕ) (lo : List ℕ) (hi : Option (List ℕ)) → LawfulSlots shape root h lo hi a → can kind hi (slots_from i a) ≡ true → MayHaveRoom means kind shape root i a → Done means kind shape n i hi a b × LawfulSlots shape root h lo hi b × (HasNoRoom means kind shape root i a → ⊥)
-Replies means kind shape root i NotThere a b = (b ≡ a) × ((hi : Option (List ℕ)) → can kind hi (slots_from i a) ≡ false)
+Replies means kind shape root i (Did n) a b = (h : ℕ) (lo : List ℕ) (hi : Option (List ℕ)) → LawfulSlots shape root h lo hi a → applies kind hi (slots_from i a) ≡ true → MayHaveRoom means kind shape root i a → Done means kind shape n i hi a b × LawfulSlots shape root h lo hi b × (HasNoRoom means kind shape root i a → ⊥)
+Replies means kind shape root i NotThere a b = (b ≡ a) × ((hi : Option (List ℕ)) → applies kind hi (slots_from i a) ≡ false)
 Replies means kind shape root i NoRoom a b = (b ≡ a) × HasNoRoom means kind shape root i a
 Replies means kind shape root i NoMemory a b = b ≡ a
 
@@ -107,7 +107,7 @@ At {U} {V} p r R a b = MatchOption (slots_at p a) ((b ≡ a) × IsMissing r) (λ
 -- the step can be done at the slot with this number of these slots, which end at hi
 abbrev pub can_from : {U V : Type 0} → StepKind → ℕ → Option (List ℕ) → Option (PSlots U V) → Bool
 can_from kind i hi None = false
-can_from kind i hi (Some ss) = can kind hi (slots_from i ss)
+can_from kind i hi (Some ss) = applies kind hi (slots_from i ss)
 
 -- the step can be done at the slot with number i of the node at the place
 abbrev pub there : {U V : Type 0} → StepKind → ℕ → List ℕ → Option (List ℕ) → PNode U V → Bool
@@ -122,12 +122,12 @@ abbrev pub IsAdmitted : {U V : Type 0} → (U → Option V → Option V) → Ste
 IsAdmitted means kind shape root i hi ss = (can_from kind i hi ss ≡ true) × IfSome ss (λ a. (h : ℕ) (lo : List ℕ) → LawfulSlots shape root h lo hi a → MayHaveRoom means kind shape root i a)
 
 -- what reading alone answers: the reply that refuses the step at the slot with this number of these slots, or none
-abbrev pub Refusal : {U V : Type 0} → (U → Option V → Option V) → StepKind → Shape → Bool → ℕ → Option (List ℕ) → Option (PSlots U V) → Option StepReply → Type 0
-Refusal means kind shape root i hi ss None = IsAdmitted means kind shape root i hi ss
-Refusal means kind shape root i hi ss (Some (Did n)) = ⊥
-Refusal means kind shape root i hi ss (Some NotThere) = can_from kind i hi ss ≡ false
-Refusal means kind shape root i hi ss (Some NoRoom) = IsRefused means kind shape root i hi ss
-Refusal means kind shape root i hi ss (Some NoMemory) = ⊥
+abbrev pub Precheck : {U V : Type 0} → (U → Option V → Option V) → StepKind → Shape → Bool → ℕ → Option (List ℕ) → Option (PSlots U V) → Option StepReply → Type 0
+Precheck means kind shape root i hi ss None = IsAdmitted means kind shape root i hi ss
+Precheck means kind shape root i hi ss (Some (Did n)) = ⊥
+Precheck means kind shape root i hi ss (Some NotThere) = can_from kind i hi ss ≡ false
+Precheck means kind shape root i hi ss (Some NoRoom) = IsRefused means kind shape root i hi ss
+Precheck means kind shape root i hi ss (Some NoMemory) = ⊥
 
 -- whether a place is that of the root
 abbrev pub is_top : List ℕ → Bool
@@ -188,5 +188,5 @@ pub record Answers {U V : Type 0} (means : U → Option V → Option V) (kind : 
   pub others_stay : IfDid r (λ n. OthersStay kind p i a.root b.root)
   pub not_there : (r ≡ NotThere) ↔ (there kind i p None a.root ≡ false)
   pub no_room : r ≡ NoRoom → LacksRoom means kind p i a
-  pub no_room_told : LacksRoom means kind p i a → (r ≡ NoRoom) ⊎ ((r ≡ NoMemory) × TellsByDoing kind p i a)
+  pub no_room_resolved : LacksRoom means kind p i a → (r ≡ NoRoom) ⊎ ((r ≡ NoMemory) × TellsByDoing kind p i a)
   pub unchanged : UnlessDid r (b ≡ a)

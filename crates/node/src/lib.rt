@@ -17,7 +17,7 @@ pub mod step;
 pub mod tree;
 
 pub use node::below::step_subtree;
-pub use node::change::Change;
+pub use node::change::SlotStep;
 pub use node::{Body, Node, Slot, append, copy, count, cut, leaf, search};
 pub use place::{Place, TreeStep};
 pub use report::ShapeReport;

@@ -2,12 +2,12 @@
 //!
 //! Contracts see a node as a pure tree (`PNode`): no pointer, no capacity and no sharing stands in it.
 
-use message::Changes;
+use message::UpdateTarget;
 use pathkey::Key;
 use pending::Pending;
+use pending_weight::PendingWeight;
 use std::marker::Model;
 use std::sync::Arc;
-use weight::Weight;
 
 pub mod append;
 pub mod batch;
@@ -19,24 +19,24 @@ pub mod cut;
 pub mod descend;
 pub mod leaf;
 pub mod make;
+pub mod pending_weight;
 pub mod search;
-pub mod weight;
 
 /// A node.
 #[cycle(node)]
 #[derive(Drop)]
-pub struct Node<U: Changes> {
+pub struct Node<U: UpdateTarget> {
     /// What it holds.
     body: Body<U>,
     /// What waits at or below it, where that is known. Many places make a slot and few make a node, so it stands here and
     /// not in the slot above.
-    weight: Option<Weight>,
+    weight: Option<PendingWeight>,
 }
 
 /// A leaf of entries that rise by key, or an inner node of slots that rise by pivot.
 #[cycle(node)]
 #[derive(Drop)]
-pub enum Body<U: Changes> {
+pub enum Body<U: UpdateTarget> {
     /// A leaf.
     Leaf(Vec<(Key, U::Value)>),
     /// An inner node.
@@ -46,7 +46,7 @@ pub enum Body<U: Changes> {
 /// A part of an inner node's range of keys.
 #[cycle(node)]
 #[derive(Drop)]
-pub struct Slot<U: Changes> {
+pub struct Slot<U: UpdateTarget> {
     /// The pivot: the least key of the slot's range, which ends where the next slot begins.
     pub lo: Key,
     /// The messages that wait for the child.
@@ -55,7 +55,7 @@ pub struct Slot<U: Changes> {
     pub child: Arc<Node<U>>,
 }
 
-impl<U: Changes> Model for Node<U> {
+impl<U: UpdateTarget> Model for Node<U> {
     ghost use Rattle.node.specs.Pure.{PNode, depth};
     ghost use Rattle.node.specs.Codes.{coded_tree};
 

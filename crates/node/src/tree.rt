@@ -14,30 +14,30 @@ use crate::node::count::{height, total};
 use crate::report::{Quantity, ShapeReport};
 use crate::shape::Shape;
 use append::append_both_kept;
-use message::{Changes, Msg, Update};
+use message::{Msg, Update, UpdateTarget};
 use pathkey::NoMemory;
 use std::alloc::Global;
 use std::marker::Model;
 use std::sync::Arc;
 
 pub mod append;
-pub mod graft;
+pub mod install_subtree;
 pub mod step;
 
 /// A buffered tree. Every tree is lawful, which its type keeps.
-pub struct Tree<U: Changes> {
+pub struct Tree<U: UpdateTarget> {
     shape: Shape,
     root: Arc<Node<U>>,
 }
 
 // Written out, as that of `pathkey::Key`.
-impl<U: Changes + Drop> Drop for Tree<U> {
+impl<U: UpdateTarget + Drop> Drop for Tree<U> {
     fn drop(self) {
         let Tree { shape: _, root: _ } = self;
     }
 }
 
-impl<U: Changes> Model for Tree<U> {
+impl<U: UpdateTarget> Model for Tree<U> {
     ghost use Rattle.node.specs.Pure.{PTree};
     ghost use Rattle.node.specs.Codes.{coded_whole};
     ghost use Rattle.node.specs.Lawful.{IsLawful};

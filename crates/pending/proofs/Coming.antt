@@ -12,34 +12,34 @@ use Rattle.std.proofs.lemmas.Map.Entries.{lookup-filter-keys}
 use Rattle.pathkey.specs.Order.{by_bytes, same}
 use Rattle.pathkey.specs.Keys.{is_below, is_in}
 use Rattle.pathkey.specs.declared.range.KeyRange.{KeyRange}
-use Rattle.rows.specs.Places.{Rises, at_key}
+use Rattle.cow_map.specs.Places.{Rises, at_key}
 use Rattle.message.specs.declared.msg.Msg.{Msg}
 use Rattle.message.specs.declared.msg.Msg.TheVariants as msg
 use Rattle.message.specs.Ranges.{within}
-use Rattle.message.specs.Effects.{touches, point, effects, made_of, Takes}
+use Rattle.message.specs.Effects.{touches, point_key, effects, made_of, Takes}
 use Rattle.message.specs.Oldest.{first_point}
 use Rattle.message.proofs.Composing.{untouched_first, untouched_second}
 use Rattle.message.proofs.KeyOrder.{within-same, empty_by}
 use Rattle.message.proofs.Lists.{effects-append, any_touches-append, takes-append}
 use Rattle.message.proofs.NextKey.{by_bool}
-use Rattle.points.specs.Changes.{Change, run_msgs, run_effect}
-use Rattle.points.specs.Points.{point_msgs, point_count, found_effect, AreRuns, Lays, TakesFirst}
-use Rattle.ranges.specs.Apart.{Span, covered, range_msgs, CoversMore, TakesFirst as TakesRange}
-use Rattle.pending.specs.Sorted.{sorted_msgs}
+use Rattle.point_ops.specs.Changes.{KeyOp, run_msgs, run_effect}
+use Rattle.point_ops.specs.PointOps.{point_msgs, point_count, found_effect, AreRuns, Inserts, TakesFirst}
+use Rattle.range_set.specs.Disjoint.{Span, covered, range_msgs, CoversMore, TakesFirst as TakesRange}
+use Rattle.pending.specs.SortedMsgs.{sorted_msgs}
 use Rattle.pending.proofs.Runs.{run_alike, run_first, length-run, effects-run_here, effects-run_apart, apart_from_untouched, none_from_untouched, untouched_from_none, length-points}
 use Rattle.pending.proofs.Meaning.{effects-points, effects-sorted, length-sorted, touches-ranges}
 
 module _ {U V : Type 0} where
   -- the points that a range leaves
-  abbrev pub left_by : KeyRange → List (List ℕ × List (Change U V)) → List (List ℕ × List (Change U V))
+  abbrev pub left_by : KeyRange → List (List ℕ × List (KeyOp U V)) → List (List ℕ × List (KeyOp U V))
   left_by r es = filter (λ e. not (is_in r e.0)) es
 
 module _ {U V : Type 0} (means : U → Option V → Option V) where
   -- ---- a message for one key
 
   -- the points take a message that they mean
-  pub takes_lays : (m : Msg U V) (es fs : List (List ℕ × List (Change U V))) (k : List ℕ) → Rises es → Rises fs → AreRuns es → ((q : List ℕ) → touches m q ≡ same k q) → Lays means k (made_of means m) es fs → point_count fs ≤ point_count es + 1 → Takes means (point_msgs es) (m ∷ []) (point_msgs fs)
-  takes_lays m es fs k s t r w l b = record {
+  pub takes_inserts : (m : Msg U V) (es fs : List (List ℕ × List (KeyOp U V))) (k : List ℕ) → Rises es → Rises fs → AreRuns es → ((q : List ℕ) → touches m q ≡ same k q) → Inserts means k (made_of means m) es fs → point_count fs ≤ point_count es + 1 → Takes means (point_msgs es) (m ∷ []) (point_msgs fs)
+  takes_inserts m es fs k s t r w l b = record {
     meaning = λ q o.
         effects-points means fs q o t
         ∙ l.meaning q o
@@ -60,28 +60,28 @@ module _ {U V : Type 0} (means : U → Option V → Option V) where
   }
 
   -- the whole list takes a message that its points take
-  pub lays_point : {E : Type 0} (r : Result Unit E) (m n : Msg U V) (rs : List Span) (es fs : List (List ℕ × List (Change U V))) → n ≡ m → OnOk r (Takes means (point_msgs es) (m ∷ []) (point_msgs fs)) → OnOk r (Takes means (sorted_msgs rs es) (n ∷ []) (sorted_msgs rs fs))
-  lays_point r m n rs es fs e t = subst (λ x. OnOk r (Takes means (sorted_msgs rs es) (x ∷ []) (sorted_msgs rs fs))) (sym e) (on_ok_weaker r (λ l. takes_behind (range_msgs rs) (point_msgs es) (m ∷ []) (point_msgs fs) l) t)
+  pub inserts_point : {E : Type 0} (r : Result Unit E) (m n : Msg U V) (rs : List Span) (es fs : List (List ℕ × List (KeyOp U V))) → n ≡ m → OnOk r (Takes means (point_msgs es) (m ∷ []) (point_msgs fs)) → OnOk r (Takes means (sorted_msgs rs es) (n ∷ []) (sorted_msgs rs fs))
+  inserts_point r m n rs es fs e t = subst (λ x. OnOk r (Takes means (sorted_msgs rs es) (x ∷ []) (sorted_msgs rs fs))) (sym e) (on_ok_weaker r (λ l. takes_behind (range_msgs rs) (point_msgs es) (m ∷ []) (point_msgs fs) l) t)
 
   -- a message that finds no place stands behind what stayed
-  pub lays_none : (m : Msg U V) (old new : List (Msg U V)) → new ≡ old → Takes means old (m ∷ []) (new ++ m ∷ [])
-  lays_none m old new e = subst (λ t. Takes means old (m ∷ []) (t ++ m ∷ [])) (sym e) (takes-append means old (m ∷ []))
+  pub inserts_none : (m : Msg U V) (old new : List (Msg U V)) → new ≡ old → Takes means old (m ∷ []) (new ++ m ∷ [])
+  inserts_none m old new e = subst (λ t. Takes means old (m ∷ []) (t ++ m ∷ [])) (sym e) (takes-append means old (m ∷ []))
 
   -- what takes a message or keeps it behind itself is one message longer at most
-  pub laid_few : {E : Type 0} (r : Result Unit E) (m : Msg U V) (old new : List (Msg U V)) → OnOk r (Takes means old (m ∷ []) new) → OnErr r (Takes means old (m ∷ []) (new ++ m ∷ [])) → length new ≤ length old + 1
-  laid_few (Ok x) m old new t f = omega (arith, t.bound)
-  laid_few (Err x) m old new t f = omega (arith, f.bound, length-append new (m ∷ []))
+  pub inserted_few : {E : Type 0} (r : Result Unit E) (m : Msg U V) (old new : List (Msg U V)) → OnOk r (Takes means old (m ∷ []) new) → OnErr r (Takes means old (m ∷ []) (new ++ m ∷ [])) → length new ≤ length old + 1
+  inserted_few (Ok x) m old new t f = omega (arith, t.bound)
+  inserted_few (Err x) m old new t f = omega (arith, f.bound, length-append new (m ∷ []))
 
   -- ---- a range-delete
 
-  at_key-left : (r : KeyRange) (q : List ℕ) (es : List (List ℕ × List (Change U V))) → at_key q (left_by r es) ≡ cond (not (is_in r q)) (at_key q es) None
+  at_key-left : (r : KeyRange) (q : List ℕ) (es : List (List ℕ × List (KeyOp U V))) → at_key q (left_by r es) ≡ cond (not (is_in r q)) (at_key q es) None
   at_key-left r q es = lookup-filter-keys (is_at (by_bytes q)) (λ k. not (is_in r k)) (not (is_in r q)) (λ k h. ap not (sym (within-same r.lo q k r.hi h))) es
 
-  cleared : (a b : Bool) (t : Option (List (Change U V))) (o : Option V) → found_effect means (cond (not a) t None) (cond (a || b) None o) ≡ cond a None (found_effect means t (cond b None o))
+  cleared : (a b : Bool) (t : Option (List (KeyOp U V))) (o : Option V) → found_effect means (cond (not a) t None) (cond (a || b) None o) ≡ cond a None (found_effect means t (cond b None o))
   cleared true b t o = refl
   cleared false b t o = refl
 
-  pub takes_range : (rs ss : List Span) (es fs : List (List ℕ × List (Change U V))) (r : KeyRange) → Rises es → Rises fs → AreRuns es → CoversMore r.lo r.hi rs ss → length ss ≤ length rs + 1 → fs ≡ left_by r es → point_count fs ≤ point_count es → Takes means (sorted_msgs rs es) (msg.DelRange r ∷ []) (sorted_msgs ss fs)
+  pub takes_range : (rs ss : List Span) (es fs : List (List ℕ × List (KeyOp U V))) (r : KeyRange) → Rises es → Rises fs → AreRuns es → CoversMore r.lo r.hi rs ss → length ss ≤ length rs + 1 → fs ≡ left_by r es → point_count fs ≤ point_count es → Takes means (sorted_msgs rs es) (msg.DelRange r ∷ []) (sorted_msgs ss fs)
   takes_range rs ss es fs r s t runs a l b few = record {
     meaning = λ q o.
         let found : at_key q fs ≡ cond (not (is_in r q)) (at_key q es) None = ap (at_key q) b ∙ at_key-left r q es in
@@ -95,8 +95,8 @@ module _ {U V : Type 0} (means : U → Option V → Option V) where
         let apart : is_in r q ≡ false = (or_parts (is_in r q) false i).0 in
         let others : covered rs q ≡ false = sym (touches-ranges U V rs q) ∙ untouched_first (range_msgs rs) (point_msgs es) q h in
         let ranges : covered ss q ≡ false = a q ∙ ap (λ w. w || covered rs q) apart ∙ others in
-        let gone : at_key q es ≡ None = none_from_untouched es q runs (untouched_second (range_msgs rs) (point_msgs es) q h) in
-        let found : at_key q fs ≡ None = ap (at_key q) b ∙ at_key-left r q es ∙ ap (λ w. cond (not w) (at_key q es) None) apart ∙ gone in
+        let consumed : at_key q es ≡ None = none_from_untouched es q runs (untouched_second (range_msgs rs) (point_msgs es) q h) in
+        let found : at_key q fs ≡ None = ap (at_key q) b ∙ at_key-left r q es ∙ ap (λ w. cond (not w) (at_key q es) None) apart ∙ consumed in
         any_touches-append (range_msgs ss) (point_msgs fs) q (touches-ranges U V ss q ∙ ranges) (untouched_from_none fs q found);
   }
 
@@ -109,13 +109,13 @@ module _ {U V : Type 0} (means : U → Option V → Option V) where
   }
 
   -- what a range takes away means nothing before its range-delete
-  pub takes_cleared : (rs : List Span) (es fs : List (List ℕ × List (Change U V))) (r : KeyRange) → Rises es → Rises fs → AreRuns es → fs ≡ left_by r es → point_count fs ≤ point_count es → Takes means (sorted_msgs rs es) (msg.DelRange r ∷ []) (sorted_msgs rs fs ++ msg.DelRange r ∷ [])
+  pub takes_cleared : (rs : List Span) (es fs : List (List ℕ × List (KeyOp U V))) (r : KeyRange) → Rises es → Rises fs → AreRuns es → fs ≡ left_by r es → point_count fs ≤ point_count es → Takes means (sorted_msgs rs es) (msg.DelRange r ∷ []) (sorted_msgs rs fs ++ msg.DelRange r ∷ [])
   takes_cleared rs es fs r s t runs b few = record {
     meaning = λ q o.
         let found : at_key q fs ≡ cond (not (is_in r q)) (at_key q es) None = ap (at_key q) b ∙ at_key-left r q es in
         effects-append means (sorted_msgs rs fs) (msg.DelRange r ∷ []) q o
         ∙ ap (λ w. cond (is_in r q) None w) (effects-sorted means rs fs q o t ∙ ap (λ w. found_effect means w (cond (covered rs q) None o)) found)
-        ∙ gone (is_in r q) (at_key q es) (cond (covered rs q) None o)
+        ∙ consumed (is_in r q) (at_key q es) (cond (covered rs q) None o)
         ∙ ap (λ w. cond (is_in r q) None w) (sym (effects-sorted means rs es q o s));
     bound = omega (arith, length-sorted rs es, length-sorted rs fs, few, length-append (sorted_msgs rs fs) (msg.DelRange r ∷ []));
     touched = λ q h i.
@@ -125,20 +125,20 @@ module _ {U V : Type 0} (means : U → Option V → Option V) where
         any_touches-append (sorted_msgs rs fs) (msg.DelRange r ∷ []) q (any_touches-append (range_msgs rs) (point_msgs fs) q (untouched_first (range_msgs rs) (point_msgs es) q h) (untouched_from_none fs q found)) i;
   }
     where
-      gone : (a : Bool) (t : Option (List (Change U V))) (o : Option V) → cond a None (found_effect means (cond (not a) t None) o) ≡ cond a None (found_effect means t o)
-      gone true t o = refl
-      gone false t o = refl
+      consumed : (a : Bool) (t : Option (List (KeyOp U V))) (o : Option V) → cond a None (found_effect means (cond (not a) t None) o) ≡ cond a None (found_effect means t o)
+      consumed true t o = refl
+      consumed false t o = refl
 
   -- ---- the first messages of another list
 
-  effects-run : (k q : List ℕ) (cs : List (Change U V)) (o : Option V) → effects means (run_msgs k cs) q o ≡ cond (same k q) (run_effect means cs o) o
+  effects-run : (k q : List ℕ) (cs : List (KeyOp U V)) (o : Option V) → effects means (run_msgs k cs) q o ≡ cond (same k q) (run_effect means cs o) o
   effects-run k q cs o =
       by_bool (same k q) (effects means (run_msgs k cs) q o ≡ cond (same k q) (run_effect means cs o) o)
       (λ h. effects-run_here means k q cs o h ∙ sym (ap (λ b. cond b (run_effect means cs o) o) h))
       (λ h. effects-run_apart means k q cs o h ∙ sym (ap (λ b. cond b (run_effect means cs o) o) h))
 
   -- the whole list with the messages of a run more, where the points mean them
-  takes_run : (rs : List Span) (es fs : List (List ℕ × List (Change U V))) (k : List ℕ) (cs : List (Change U V)) → Rises es → Rises fs → AreRuns es → 0 < length cs → Lays means k (run_effect means cs) es fs → point_count fs ≤ point_count es + length cs → Takes means (sorted_msgs rs es) (run_msgs k cs) (sorted_msgs rs fs)
+  takes_run : (rs : List Span) (es fs : List (List ℕ × List (KeyOp U V))) (k : List ℕ) (cs : List (KeyOp U V)) → Rises es → Rises fs → AreRuns es → 0 < length cs → Inserts means k (run_effect means cs) es fs → point_count fs ≤ point_count es + length cs → Takes means (sorted_msgs rs es) (run_msgs k cs) (sorted_msgs rs fs)
   takes_run rs es fs k cs s t runs some l b = record {
     meaning = λ q o.
         effects-sorted means rs fs q o t
@@ -154,57 +154,57 @@ module _ {U V : Type 0} (means : U → Option V → Option V) where
 
   -- ---- what follows where the first run of one list has gone to another
 
-  module _ (gs rs : List Span) (from rest es fs : List (List ℕ × List (Change U V))) (come most : ℕ) (given : List (Msg U V)) (none : gs ≡ []) (v : sorted_msgs gs from ≡ given) (h : TakesFirst means come most from es rest fs) where
-    front : given ≡ run_msgs h.key h.run ++ point_msgs rest
+  module _ (gs rs : List Span) (from rest es fs : List (List ℕ × List (KeyOp U V))) (come most : ℕ) (created_key : List (Msg U V)) (none : gs ≡ []) (v : sorted_msgs gs from ≡ created_key) (h : TakesFirst means come most from es rest fs) where
+    front : created_key ≡ run_msgs h.key h.run ++ point_msgs rest
     front = sym v ∙ ap (λ t. range_msgs t ++ point_msgs from) none ∙ ap (λ t. point_msgs t) h.parts
 
     all : come ≡ length (run_msgs h.key h.run)
     all = h.all ∙ sym (length-run h.key h.run)
 
-    taken : take come given ≡ run_msgs h.key h.run
+    taken : take come created_key ≡ run_msgs h.key h.run
     taken = ap (λ t. take come t) front ∙ ap (λ i. take i (run_msgs h.key h.run ++ point_msgs rest)) all ∙ take-append_seam (run_msgs h.key h.run) (point_msgs rest)
 
     some : 0 < length h.run
     some = omega (arith, h.some, h.all)
 
-    pub first_taken : Rises es → Rises fs → AreRuns es → Takes means (sorted_msgs rs es) (take come given) (sorted_msgs rs fs)
-    first_taken s t r = subst (λ ms. Takes means (sorted_msgs rs es) ms (sorted_msgs rs fs)) (sym taken) (takes_run rs es fs h.key h.run s t r some h.lays (omega (arith, h.bound, h.all)))
+    pub first_taken : Rises es → Rises fs → AreRuns es → Takes means (sorted_msgs rs es) (take come created_key) (sorted_msgs rs fs)
+    first_taken s t r = subst (λ ms. Takes means (sorted_msgs rs es) ms (sorted_msgs rs fs)) (sym taken) (takes_run rs es fs h.key h.run s t r some h.inserts (omega (arith, h.bound, h.all)))
 
-    pub first_left : sorted_msgs gs rest ≡ drop come given
+    pub first_left : sorted_msgs gs rest ≡ drop come created_key
     first_left = ap (λ t. range_msgs t ++ point_msgs rest) none ∙ sym (ap (λ t. drop come t) front ∙ ap (λ i. drop i (run_msgs h.key h.run ++ point_msgs rest)) all ∙ drop-append_seam (run_msgs h.key h.run) (point_msgs rest))
 
-    pub first_alike : All (λ m. point m ≡ first_point given) (take come given)
+    pub first_alike : All (λ m. point_key m ≡ first_point created_key) (take come created_key)
     first_alike =
-        let key : Some h.key ≡ first_point given = sym (ap (λ t. first_point t) front ∙ run_first h.key h.run (point_msgs rest) some) in
-        subst (λ ms. All (λ m. point m ≡ first_point given) ms) (sym taken) (subst (λ (o : Option (List ℕ)). All (λ m. point m ≡ o) (run_msgs h.key h.run)) key (run_alike h.key h.run))
+        let key : Some h.key ≡ first_point created_key = sym (ap (λ t. first_point t) front ∙ run_first h.key h.run (point_msgs rest) some) in
+        subst (λ ms. All (λ m. point_key m ≡ first_point created_key) ms) (sym taken) (subst (λ (o : Option (List ℕ)). All (λ m. point_key m ≡ o) (run_msgs h.key h.run)) key (run_alike h.key h.run))
 
-    pub first_few : come ≤ length given
+    pub first_few : come ≤ length created_key
     first_few = omega (arith, all, ap (λ t. length t) front, length-append (run_msgs h.key h.run) (point_msgs rest))
 
     pub first_fewer : point_count rest + come ≡ point_count from
-    first_fewer = omega (arith, ap (λ (t : List (List ℕ × List (Change U V))). point_count t) h.parts, sum_by-cons (λ (x : List ℕ × List (Change U V)). length x.1) (h.key, h.run) rest, h.all)
+    first_fewer = omega (arith, ap (λ (t : List (List ℕ × List (KeyOp U V))). point_count t) h.parts, sum_by-cons (λ (x : List ℕ × List (KeyOp U V)). length x.1) (h.key, h.run) rest, h.all)
 
   -- the first range-delete has gone to another
-  module _ (gs hs rs ss : List Span) (from : List (List ℕ × List (Change U V))) (given : List (Msg U V)) (v : sorted_msgs gs from ≡ given) (h : TakesRange gs hs rs ss) where
-    range_front : given ≡ msg.DelRange (record { lo = h.first.0; hi = h.first.1 }) ∷ sorted_msgs hs from
+  module _ (gs hs rs ss : List Span) (from : List (List ℕ × List (KeyOp U V))) (created_key : List (Msg U V)) (v : sorted_msgs gs from ≡ created_key) (h : TakesRange gs hs rs ss) where
+    range_front : created_key ≡ msg.DelRange (record { lo = h.first.0; hi = h.first.1 }) ∷ sorted_msgs hs from
     range_front = sym v ∙ ap (λ t. range_msgs t ++ point_msgs from) h.parts
 
-    pub range_taken : (es : List (List ℕ × List (Change U V))) → Rises es → AreRuns es → left_by (record { lo = h.first.0; hi = h.first.1 }) es ≡ es → Takes means (sorted_msgs rs es) (take 1 given) (sorted_msgs ss es)
+    pub range_taken : (es : List (List ℕ × List (KeyOp U V))) → Rises es → AreRuns es → left_by (record { lo = h.first.0; hi = h.first.1 }) es ≡ es → Takes means (sorted_msgs rs es) (take 1 created_key) (sorted_msgs ss es)
     range_taken es s r l = subst (λ ms. Takes means (sorted_msgs rs es) ms (sorted_msgs ss es)) (sym (ap (λ t. take 1 t) range_front)) (takes_range rs ss es es (record { lo = h.first.0; hi = h.first.1 }) s s r h.covers h.bound (sym l) (omega arith))
 
-    pub range_left : sorted_msgs hs from ≡ drop 1 given
+    pub range_left : sorted_msgs hs from ≡ drop 1 created_key
     range_left = sym (ap (λ t. drop 1 t) range_front)
 
-    pub range_some : 1 ≤ length given
+    pub range_some : 1 ≤ length created_key
     range_some = omega (arith, ap (λ t. length t) range_front)
 
-    pub range_alike : All (λ m. point m ≡ first_point given) (take 1 given)
+    pub range_alike : All (λ m. point_key m ≡ first_point created_key) (take 1 created_key)
     range_alike =
-        let none : None ≡ first_point given = sym (ap (λ t. first_point t) range_front) in
-        subst (λ ms. All (λ m. point m ≡ first_point given) ms) (sym (ap (λ t. take 1 t) range_front)) (alone (msg.DelRange (record { lo = h.first.0; hi = h.first.1 })) (first_point given) none)
+        let none : None ≡ first_point created_key = sym (ap (λ t. first_point t) range_front) in
+        subst (λ ms. All (λ m. point_key m ≡ first_point created_key) ms) (sym (ap (λ t. take 1 t) range_front)) (alone (msg.DelRange (record { lo = h.first.0; hi = h.first.1 })) (first_point created_key) none)
       where
-        alone : (m : Msg U V) (o : Option (List ℕ)) → point m ≡ o → All (λ x. point x ≡ o) (m ∷ [])
-        alone m o e = All-cons (λ (x : Msg U V). point x ≡ o) m [] e (All-nil (λ (x : Msg U V). point x ≡ o))
+        alone : (m : Msg U V) (o : Option (List ℕ)) → point_key m ≡ o → All (λ x. point_key x ≡ o) (m ∷ [])
+        alone m o e = All-cons (λ (x : Msg U V). point_key x ≡ o) m [] e (All-nil (λ (x : Msg U V). point_key x ≡ o))
 
 -- the range that leaves is the first one
 pub first_is : (gs hs : List Span) (e : Span) (lo : List ℕ) (hi end : Option (List ℕ)) → gs ≡ e ∷ hs → Some (lo, hi) ≡ slice_get gs 0 → end ≡ hi → let range : KeyRange = record { lo = lo; hi = end } in range ≡ record { lo = e.0; hi = e.1 }

@@ -8,21 +8,21 @@ use Rattle.std.proofs.lemmas.Map.{lookup-none}
 use Rattle.std.proofs.lemmas.Map.Keys.{IsDistinct-from_sorted, sorted_tail}
 use Rattle.std.proofs.lemmas.Map.Entries.{none_past_head, lookup_head, lookup_tail}
 use Rattle.pathkey.specs.Order.{by_bytes, same, by_bytes_equiv}
-use Rattle.rows.specs.Places.{Rises, at_key}
+use Rattle.cow_map.specs.Places.{Rises, at_key}
 use Rattle.message.specs.declared.msg.Msg.{Msg}
 use Rattle.message.specs.declared.msg.Msg.TheVariants as msg
-use Rattle.message.specs.declared.told.Told.{Told}
-use Rattle.message.specs.declared.told.Told.TheVariants.{Nothing, Value, Change as MayChange}
+use Rattle.message.specs.declared.resolution.Resolution.{Resolution}
+use Rattle.message.specs.declared.resolution.Resolution.TheVariants.{Untouched, Value, NeedsBase}
 use Rattle.message.specs.Ranges.{within}
 use Rattle.message.specs.Effects.{any_touches, effects, range_count}
-use Rattle.message.specs.Told.{IsTold}
+use Rattle.message.specs.Resolution.{IsResolved}
 use Rattle.message.proofs.Lists.{effects-append, any_touches-append}
 use Rattle.message.proofs.NextKey.{by_bool}
-use Rattle.points.specs.Changes.{Change, msg_at, run_msgs, run_effect}
-use Rattle.points.specs.Points.{point_msgs, point_count, found_effect, left}
-use Rattle.points.specs.Runs.{IsToldOf}
-use Rattle.ranges.specs.Apart.{Span, covered, range_msgs}
-use Rattle.pending.specs.Sorted.{sorted_msgs}
+use Rattle.point_ops.specs.Changes.{KeyOp, msg_at, run_msgs, run_effect}
+use Rattle.point_ops.specs.PointOps.{point_msgs, point_count, found_effect, left}
+use Rattle.point_ops.specs.KeyOps.{IsResolvedOf}
+use Rattle.range_set.specs.Disjoint.{Span, covered, range_msgs}
+use Rattle.pending.specs.SortedMsgs.{sorted_msgs}
 use Rattle.pending.proofs.Runs.{effects-run_here, effects-run_apart, untouched_from_none, length-points, points_count}
 
 module _ (U V : Type 0) where
@@ -35,10 +35,10 @@ module _ (U V : Type 0) where
   length-ranges (r ∷ rs) = ap suc (length-ranges rs)
 
 module _ {U V : Type 0} where
-  pub length-sorted : (rs : List Span) (es : List (List ℕ × List (Change U V))) → length (sorted_msgs rs es) ≡ length rs + point_count es
+  pub length-sorted : (rs : List Span) (es : List (List ℕ × List (KeyOp U V))) → length (sorted_msgs rs es) ≡ length rs + point_count es
   length-sorted rs es = omega (arith, length-append (range_msgs {U = U} {V = V} rs) (point_msgs es), length-ranges U V rs, length-points es)
 
-  none_counted : (n : ℕ) (es : List (List ℕ × List (Change U V))) → range_count (drop n (point_msgs es)) ≡ 0
+  none_counted : (n : ℕ) (es : List (List ℕ × List (KeyOp U V))) → range_count (drop n (point_msgs es)) ≡ 0
   none_counted n es = counted n (point_msgs es) (points_count es)
     where
       counted : (n : ℕ) (ms : List (Msg U V)) → range_count ms ≡ 0 → range_count (drop n ms) ≡ 0
@@ -50,33 +50,33 @@ module _ {U V : Type 0} where
       counted (suc n) (msg.Edit q u ∷ ms) z = counted n ms z
 
   -- how many range-deletes there are without the oldest messages
-  pub count_sorted : (n : ℕ) (rs : List Span) (es : List (List ℕ × List (Change U V))) → range_count (drop n (sorted_msgs rs es)) ≡ length rs - n
+  pub count_sorted : (n : ℕ) (rs : List Span) (es : List (List ℕ × List (KeyOp U V))) → range_count (drop n (sorted_msgs rs es)) ≡ length rs - n
   count_sorted n [] es = none_counted n es ∙ omega arith
   count_sorted zero (r ∷ rs) es = omega (arith, count_sorted zero rs es)
   count_sorted (suc n) (r ∷ rs) es = count_sorted n rs es ∙ omega arith
 
   -- ---- what stands first
 
-  pub first_range : (rs : List Span) (es : List (List ℕ × List (Change U V))) (lo : List ℕ) (hi : Option (List ℕ)) → slice_get rs 0 ≡ Some (lo, hi) → Some (msg.DelRange (record { lo = lo; hi = hi })) ≡ slice_get (sorted_msgs rs es) 0
+  pub first_range : (rs : List Span) (es : List (List ℕ × List (KeyOp U V))) (lo : List ℕ) (hi : Option (List ℕ)) → slice_get rs 0 ≡ Some (lo, hi) → Some (msg.DelRange (record { lo = lo; hi = hi })) ≡ slice_get (sorted_msgs rs es) 0
   first_range [] es lo hi h = absurd (cc)
   first_range (r ∷ rs) es lo hi h = (let is : r ≡ (lo, hi) = cc in ap (λ (e : Span). Some (msg.DelRange (record { lo = e.0; hi = e.1 }))) (sym is))
 
-  pub first_none : (rs : List Span) (es : List (List ℕ × List (Change U V))) (n : ℕ) → None ≡ slice_get rs 0 → None ≡ slice_get es 0 → None ≡ slice_get (sorted_msgs rs (left n es)) 0
+  pub first_none : (rs : List Span) (es : List (List ℕ × List (KeyOp U V))) (n : ℕ) → None ≡ slice_get rs 0 → None ≡ slice_get es 0 → None ≡ slice_get (sorted_msgs rs (left n es)) 0
   first_none (r ∷ rs) es n h g = absurd (cc)
   first_none [] [] n h g = refl
   first_none [] (e ∷ es) n h g = absurd (cc)
 
-  first_change : (n : ℕ) (k : List ℕ) (cs : List (Change U V)) (c : Change U V) (ms : List (Msg U V)) → Some c ≡ slice_get cs n → Some (msg_at k c) ≡ slice_get (run_msgs k (drop n cs) ++ ms) 0
+  first_change : (n : ℕ) (k : List ℕ) (cs : List (KeyOp U V)) (c : KeyOp U V) (ms : List (Msg U V)) → Some c ≡ slice_get cs n → Some (msg_at k c) ≡ slice_get (run_msgs k (drop n cs) ++ ms) 0
   first_change n k [] c ms h = absurd (cc)
   first_change zero k (d ∷ cs) c ms h = (let is : c ≡ d = cc in ap (λ x. Some (msg_at k x)) is)
   first_change (suc n) k (d ∷ cs) c ms h = first_change n k cs c ms h
 
-  pub first_point : (rs : List Span) (es : List (List ℕ × List (Change U V))) (n : ℕ) (k : List ℕ) (cs : List (Change U V)) (c : Change U V) → None ≡ slice_get rs 0 → slice_get es 0 ≡ Some (k, cs) → Some c ≡ slice_get cs n → Some (msg_at k c) ≡ slice_get (sorted_msgs rs (left n es)) 0
+  pub first_point : (rs : List Span) (es : List (List ℕ × List (KeyOp U V))) (n : ℕ) (k : List ℕ) (cs : List (KeyOp U V)) (c : KeyOp U V) → None ≡ slice_get rs 0 → slice_get es 0 ≡ Some (k, cs) → Some c ≡ slice_get cs n → Some (msg_at k c) ≡ slice_get (sorted_msgs rs (left n es)) 0
   first_point (r ∷ rs) es n k cs c none h g = absurd (cc)
   first_point [] [] n k cs c none h g = absurd (cc)
   first_point [] (e ∷ es) n k cs c none h g =
       let is : (k, cs) ≡ e = cc in
-      first_change n k cs c (point_msgs es) g ∙ ap (λ (x : List ℕ × List (Change U V)). slice_get (run_msgs x.0 (drop n x.1) ++ point_msgs es) 0) is
+      first_change n k cs c (point_msgs es) g ∙ ap (λ (x : List ℕ × List (KeyOp U V)). slice_get (run_msgs x.0 (drop n x.1) ++ point_msgs es) 0) is
 
 module _ {U V : Type 0} (means : U → Option V → Option V) where
   cond_or : (a b : Bool) (o : Option V) → cond b None (cond a None o) ≡ cond (a || b) None o
@@ -88,7 +88,7 @@ module _ {U V : Type 0} (means : U → Option V → Option V) where
   effects-ranges [] q o = refl
   effects-ranges (r ∷ rs) q o = effects-ranges rs q (cond (within r.0 r.1 q) None o) ∙ cond_or (within r.0 r.1 q) (covered rs q) o
 
-  pub effects-points : (es : List (List ℕ × List (Change U V))) (q : List ℕ) (o : Option V) → Rises es → effects means (point_msgs es) q o ≡ found_effect means (at_key q es) o
+  pub effects-points : (es : List (List ℕ × List (KeyOp U V))) (q : List ℕ) (o : Option V) → Rises es → effects means (point_msgs es) q o ≡ found_effect means (at_key q es) o
   effects-points [] q o s = refl
   effects-points (e ∷ es) q o s =
       effects-append means (run_msgs e.0 e.1) (point_msgs es) q o
@@ -106,7 +106,7 @@ module _ {U V : Type 0} (means : U → Option V → Option V) where
       ∙ effects-points es q o (sorted_tail by_bytes e.0 (keys_of es) s)
       ∙ sym (ap (λ t. found_effect means t o) (lookup_tail (is_at (by_bytes q)) e es h)))
 
-  pub effects-sorted : (rs : List Span) (es : List (List ℕ × List (Change U V))) (q : List ℕ) (o : Option V) → Rises es → effects means (sorted_msgs rs es) q o ≡ found_effect means (at_key q es) (cond (covered rs q) None o)
+  pub effects-sorted : (rs : List Span) (es : List (List ℕ × List (KeyOp U V))) (q : List ℕ) (o : Option V) → Rises es → effects means (sorted_msgs rs es) q o ≡ found_effect means (at_key q es) (cond (covered rs q) None o)
   effects-sorted rs es q o s =
       effects-append means (range_msgs rs) (point_msgs es) q o
       ∙ ap (λ w. effects means (point_msgs es) q w) (effects-ranges rs q o)
@@ -114,22 +114,22 @@ module _ {U V : Type 0} (means : U → Option V → Option V) where
 
   -- ---- what is told
 
-  pub found_at : (rs : List Span) (es : List (List ℕ × List (Change U V))) (msgs : List (Msg U V)) (k : List ℕ) (b : Bool) (t : Option (List (Change U V))) → Rises es → sorted_msgs rs es ≡ msgs → b ≡ covered rs k → t ≡ at_key k es → (o : Option V) → found_effect means t (cond b None o) ≡ effects means msgs k o
+  pub found_at : (rs : List Span) (es : List (List ℕ × List (KeyOp U V))) (msgs : List (Msg U V)) (k : List ℕ) (b : Bool) (t : Option (List (KeyOp U V))) → Rises es → sorted_msgs rs es ≡ msgs → b ≡ covered rs k → t ≡ at_key k es → (o : Option V) → found_effect means t (cond b None o) ≡ effects means msgs k o
   found_at rs es msgs k b t s v c f o =
       ap (λ w. found_effect means w (cond b None o)) f
       ∙ ap (λ w. found_effect means (at_key k es) (cond w None o)) c
       ∙ sym (effects-sorted rs es k o s)
       ∙ ap (λ w. effects means w k o) v
 
-  pub told_some : (msgs : List (Msg U V)) (k : List ℕ) (cs : List (Change U V)) (b : Bool) → ((o : Option V) → run_effect means cs (cond b None o) ≡ effects means msgs k o) → (t : Told V) → IsToldOf (λ o. run_effect means cs (cond b None o)) t → IsTold means msgs k t
-  told_some msgs k cs b f Nothing h = absurd h
-  told_some msgs k cs b f (Value v) h = λ o. sym (f o) ∙ h o
-  told_some msgs k cs b f MayChange h = tt
+  pub resolved_some : (msgs : List (Msg U V)) (k : List ℕ) (cs : List (KeyOp U V)) (b : Bool) → ((o : Option V) → run_effect means cs (cond b None o) ≡ effects means msgs k o) → (t : Resolution V) → IsResolvedOf (λ o. run_effect means cs (cond b None o)) t → IsResolved means msgs k t
+  resolved_some msgs k cs b f Untouched h = absurd h
+  resolved_some msgs k cs b f (Value v) h = λ o. sym (f o) ∙ h o
+  resolved_some msgs k cs b f NeedsBase h = tt
 
-  none_by : (msgs : List (Msg U V)) (k : List ℕ) (b : Bool) → ((o : Option V) → cond b None o ≡ effects means msgs k o) → (b ≡ false → any_touches msgs k ≡ false) → IsTold means msgs k (cond b (Value None) Nothing)
+  none_by : (msgs : List (Msg U V)) (k : List ℕ) (b : Bool) → ((o : Option V) → cond b None o ≡ effects means msgs k o) → (b ≡ false → any_touches msgs k ≡ false) → IsResolved means msgs k (cond b (Value None) Untouched)
   none_by msgs k true f g = λ o. sym (f o)
   none_by msgs k false f g = (g refl, λ o. sym (f o))
 
-  pub told_none : (rs : List Span) (es : List (List ℕ × List (Change U V))) (msgs : List (Msg U V)) (k : List ℕ) (b : Bool) (t : Told V) → Rises es → sorted_msgs rs es ≡ msgs → b ≡ covered rs k → None ≡ at_key k es → t ≡ cond b (Value None) Nothing → IsTold means msgs k t
-  told_none rs es msgs k b t s v c f e = subst (λ x. IsTold means msgs k x) (sym e) (none_by msgs k b (found_at rs es msgs k b None s v c f)
+  pub resolved_none : (rs : List Span) (es : List (List ℕ × List (KeyOp U V))) (msgs : List (Msg U V)) (k : List ℕ) (b : Bool) (t : Resolution V) → Rises es → sorted_msgs rs es ≡ msgs → b ≡ covered rs k → None ≡ at_key k es → t ≡ cond b (Value None) Untouched → IsResolved means msgs k t
+  resolved_none rs es msgs k b t s v c f e = subst (λ x. IsResolved means msgs k x) (sym e) (none_by msgs k b (found_at rs es msgs k b None s v c f)
       (λ n. sym (ap (λ ms. any_touches ms k) v) ∙ any_touches-append (range_msgs rs) (point_msgs es) k (touches-ranges U V rs k ∙ sym c ∙ n) (untouched_from_none es k (sym f))))

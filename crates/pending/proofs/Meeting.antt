@@ -22,11 +22,11 @@ use Rattle.message.proofs.KeyOrder.{split_bool}
 use Rattle.message.proofs.NextKey.{reaches-next, before-next}
 use Rattle.message.proofs.Parting.{second_false}
 use Rattle.message.proofs.PointKeys.{next_some, next_none}
-use Rattle.rows.specs.Places.{Rises, at_key, place, reaches}
-use Rattle.rows.proofs.Parts.{weaker}
-use Rattle.points.specs.Changes.{Change, run_effect}
-use Rattle.points.specs.Points.{first_from, first_where}
-use Rattle.points.proofs.Nearby.{from_place}
+use Rattle.cow_map.specs.Places.{Rises, at_key, place, reaches}
+use Rattle.cow_map.proofs.Parts.{weaker}
+use Rattle.point_ops.specs.Changes.{KeyOp, run_effect}
+use Rattle.point_ops.specs.PointOps.{first_from, first_where}
+use Rattle.point_ops.proofs.Nearby.{from_place}
 use Rattle.pending.specs.Ahead.{AreFrom, WaitAt, StandsAt, IsMet, IsPassed, BeginPast, entries_left}
 use Rattle.pending.proofs.Meaning.{found_at}
 use Rattle.pending.proofs.Runs.{some_at}
@@ -84,18 +84,18 @@ module _ {X : Type 0} where
       at_later n es rest e (sorted_tail by_bytes x.0 (keys_of es) r) h ∙ sym (lookup_tail (is_at (by_bytes e.0)) x es apart)
 
 abbrev Entries : Type 0 → Type 0 → Type 0
-Entries U V = List (List ℕ × List (Change U V))
+Entries U V = List (List ℕ × List (KeyOp U V))
 
 -- what was met, if anything was
 abbrev Met : Type 0 → Type 0 → Type 0
-Met U V = List ℕ × Option (List (Change U V))
+Met U V = List ℕ × Option (List (KeyOp U V))
 
 module _ {U V : Type 0} where
   -- where the walk stands, the first entry that is left has the next key
-  first_left : (ms : List (Msg U V)) (from : List ℕ) (rest : Entries U V) (a : AreFrom ms from rest) → option_map (λ (e : List ℕ × List (Change U V)). e.0) (slice_get rest 0) ≡ first_from from a.entries
-  first_left ms from rest a = ap (λ es. option_map (λ (e : List ℕ × List (Change U V)). e.0) (slice_get es 0)) a.from_here ∙ from_place from a.entries
+  first_left : (ms : List (Msg U V)) (from : List ℕ) (rest : Entries U V) (a : AreFrom ms from rest) → option_map (λ (e : List ℕ × List (KeyOp U V)). e.0) (slice_get rest 0) ≡ first_from from a.entries
+  first_left ms from rest a = ap (λ es. option_map (λ (e : List ℕ × List (KeyOp U V)). e.0) (slice_get es 0)) a.from_here ∙ from_place from a.entries
 
-  stop_is : (ms : List (Msg U V)) (from : List ℕ) (end : Option (List ℕ)) (rest : Entries U V) (next : Option (List ℕ)) → AreFrom ms from rest → next ≡ option_map (λ (e : List ℕ × List (Change U V)). e.0) (slice_get rest 0) → IsPointStop ms from end (point_stop next from end)
+  stop_is : (ms : List (Msg U V)) (from : List ℕ) (end : Option (List ℕ)) (rest : Entries U V) (next : Option (List ℕ)) → AreFrom ms from rest → next ≡ option_map (λ (e : List ℕ × List (KeyOp U V)). e.0) (slice_get rest 0) → IsPointStop ms from end (point_stop next from end)
   stop_is ms from end rest next a n = subst (λ t. IsPointStop t from end (point_stop next from end)) a.is (sorted_stop a.spans a.entries from end (point_stop next from end) a.rises a.runs (ap (λ o. point_stop o from end) (n ∙ first_left ms from rest a)))
 
   -- the first key that is left stands at `from` or behind it
@@ -105,7 +105,7 @@ module _ {U V : Type 0} where
       (λ t. let is : Some q ≡ Some e.0 = h ∙ ap (λ c. cond c (Some e.0) (first_where p es)) t in let same_key : q ≡ e.0 = cc in ap p same_key ∙ t)
       (λ f. reached_where p q es (h ∙ ap (λ c. cond c (Some e.0) (first_where p es)) f))
 
-  reached_by : (ms : List (Msg U V)) (from : List ℕ) (rest : Entries U V) (q : List ℕ) → AreFrom ms from rest → Some q ≡ option_map (λ (e : List ℕ × List (Change U V)). e.0) (slice_get rest 0) → reaches from q ≡ true
+  reached_by : (ms : List (Msg U V)) (from : List ℕ) (rest : Entries U V) (q : List ℕ) → AreFrom ms from rest → Some q ≡ option_map (λ (e : List ℕ × List (KeyOp U V)). e.0) (slice_get rest 0) → reaches from q ≡ true
   reached_by ms from rest q a h = reached_where (reaches from) q a.entries (h ∙ first_left ms from rest a)
 
   pub passed_waits : (ms : List (Msg U V)) (from : List ℕ) (end : Option (List ℕ)) (old new : Entries U V) (met : Met U V) → AreFrom ms from old → (p : IsPassed end old new met) → WaitAt ms met.0 p.run
@@ -129,16 +129,16 @@ module _ {U V : Type 0} where
   }
 
   -- changes that wait at a key act as the list does
-  pub run_acts : (means : U → Option V → Option V) (ms : List (Msg U V)) (k : List ℕ) (run : List (Change U V)) (b : Bool) (o : Option V) → WaitAt ms k run → b ≡ is_cleared ms k → run_effect means run (cond b None o) ≡ effects means ms k o
+  pub run_acts : (means : U → Option V → Option V) (ms : List (Msg U V)) (k : List ℕ) (run : List (KeyOp U V)) (b : Bool) (o : Option V) → WaitAt ms k run → b ≡ is_cleared ms k → run_effect means run (cond b None o) ≡ effects means ms k o
   run_acts means ms k run b o w c = found_at means w.spans w.entries ms k b (Some run) w.rises w.is (c ∙ ap (λ t. is_cleared t k) (sym w.is) ∙ sorted_clears w.spans w.entries k) w.here o
 
-  pub waits_some : (ms : List (Msg U V)) (k : List ℕ) (run : List (Change U V)) → WaitAt ms k run → 0 < length run
+  pub waits_some : (ms : List (Msg U V)) (k : List ℕ) (run : List (KeyOp U V)) → WaitAt ms k run → 0 < length run
   waits_some ms k run w = subst (λ t. IfSome t (λ cs. 0 < length cs)) (sym w.here) (some_at w.entries k w.runs)
 
   -- the next key that the walk meets, or none
   pub met_next : (ms : List (Msg U V)) (from : List ℕ) (end : Option (List ℕ)) (old new : Entries U V) (met : Met U V) → AreFrom ms from old → IsPassed end old new met → IsNextPoint ms from end (Some met.0)
   met_next ms from end old new met a p =
-      let first : Some met.0 ≡ option_map (λ (e : List ℕ × List (Change U V)). e.0) (slice_get old 0) = sym (ap (λ es. option_map (λ (e : List ℕ × List (Change U V)). e.0) (slice_get es 0)) p.parts) in
+      let first : Some met.0 ≡ option_map (λ (e : List ℕ × List (KeyOp U V)). e.0) (slice_get old 0) = sym (ap (λ es. option_map (λ (e : List ℕ × List (KeyOp U V)). e.0) (slice_get es 0)) p.parts) in
       let here : within from end met.0 ≡ true = and_from (reaches from met.0) (is_below met.0 end) (reached_by ms from old met.0 a first) p.before in
       next_some ms from end (point_stop (Some met.0) from end) met.0 (stop_is ms from end old (Some met.0) a first) (ap (λ b. cond b (Some met.0) end) here) p.before
 

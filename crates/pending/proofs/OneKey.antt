@@ -7,7 +7,7 @@ use Rattle.pathkey.specs.Order.{same}
 use Rattle.pathkey.specs.Keys.{is_below}
 use Rattle.message.specs.declared.msg.Msg.{Msg}
 use Rattle.message.specs.declared.msg.Msg.TheVariants.{Put, Del, DelRange, Edit}
-use Rattle.message.specs.Effects.{touches, point, range_count}
+use Rattle.message.specs.Effects.{touches, point_key, range_count}
 use Rattle.message.specs.Oldest.{first_point}
 use Rattle.message.specs.PointKeys.{has_point, is_cleared}
 use Rattle.message.specs.Ranges.{earlier_end}
@@ -20,13 +20,13 @@ or_same true = refl
 or_same false = refl
 
 module _ {U V : Type 0} where
-  touches_key : (k q : List ℕ) (m : Msg U V) → point m ≡ Some k → touches m q ≡ same k q
+  touches_key : (k q : List ℕ) (m : Msg U V) → point_key m ≡ Some k → touches m q ≡ same k q
   touches_key k q (Put p v) h = (let e : p ≡ k = cc in ap (λ x. same x q) e)
   touches_key k q (Del p) h = (let e : p ≡ k = cc in ap (λ x. same x q) e)
   touches_key k q (DelRange r) h = absurd (cc)
   touches_key k q (Edit p u) h = (let e : p ≡ k = cc in ap (λ x. same x q) e)
 
-  key_is_end : (k : List ℕ) (m : Msg U V) → point m ≡ Some k → Contains (ends_of m) k
+  key_is_end : (k : List ℕ) (m : Msg U V) → point_key m ≡ Some k → Contains (ends_of m) k
   key_is_end k (Put p v) h = (let e : p ≡ k = cc in (0, omega arith, e))
   key_is_end k (Del p) h = (let e : p ≡ k = cc in (0, omega arith, e))
   key_is_end k (DelRange r) h = absurd (cc)
@@ -34,14 +34,14 @@ module _ {U V : Type 0} where
 
   -- each of the messages is for the key
   abbrev pub AreFor : List ℕ → List (Msg U V) → Type 0
-  AreFor k ms = All (λ m. point m ≡ Some k) ms
+  AreFor k ms = All (λ m. point_key m ≡ Some k) ms
 
   pub key_points : (k q : List ℕ) (ms : List (Msg U V)) → AreFor k ms → first_point ms ≡ Some k → has_point ms q ≡ same k q
   key_points k q [] a f = absurd (cc)
-  key_points k q (m ∷ []) a f = or_none (is_key (point m) q) ∙ ap (λ o. is_key o q) f
+  key_points k q (m ∷ []) a f = or_none (is_key (point_key m) q) ∙ ap (λ o. is_key o q) f
   key_points k q (m ∷ (n ∷ ms)) a f =
-      let tail : AreFor k (n ∷ ms) = All-tail (λ m. point m ≡ Some k) m (n ∷ ms) a in
-      let next : has_point (n ∷ ms) q ≡ same k q = key_points k q (n ∷ ms) tail (All-head (λ m. point m ≡ Some k) n ms tail) in
+      let tail : AreFor k (n ∷ ms) = All-tail (λ m. point_key m ≡ Some k) m (n ∷ ms) a in
+      let next : has_point (n ∷ ms) q ≡ same k q = key_points k q (n ∷ ms) tail (All-head (λ m. point_key m ≡ Some k) n ms tail) in
       ap (λ o. is_key o q || has_point (n ∷ ms) q) f ∙ ap (λ b. same k q || b) next ∙ or_same (same k q)
 
   key_ends : (k : List ℕ) (ms : List (Msg U V)) → first_point ms ≡ Some k → Contains (all_ends ms) k

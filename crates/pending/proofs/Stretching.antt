@@ -11,7 +11,7 @@ use Rattle.std.proofs.lemmas.Map.Keys.{sorted_head, sorted_tail}
 use Rattle.pathkey.specs.Order.{by_bytes, by_bytes_equiv, same}
 use Rattle.pathkey.specs.Keys.{is_below, next_key}
 use Rattle.pathkey.proofs.KeyOrder.{le_le, le_lt, lt_le, reaches-from_before, reaches-from_not_before, not_reaches_from_before, not_before_from_reaches, before_from_not_reaches}
-use Rattle.rows.specs.Places.{Rises}
+use Rattle.cow_map.specs.Places.{Rises}
 use Rattle.message.specs.declared.msg.Msg.{Msg}
 use Rattle.message.specs.Effects.{touches, any_touches}
 use Rattle.message.specs.Ranges.{reaches, before, within, earlier_end}
@@ -23,10 +23,10 @@ use Rattle.message.proofs.NextKey.{by_bool}
 use Rattle.message.proofs.PointKeys.{has_point-append, is_cleared-append, or_none, point_end, stop_none, stop_one, stop_then}
 use Rattle.message.proofs.SortedStretches.{no_stretch, stretch_then}
 use Rattle.message.proofs.StretchEnds.{below_earlier, weaker, all_ends-append}
-use Rattle.points.specs.Changes.{Change, run_msgs}
-use Rattle.points.specs.Points.{point_msgs, first_from, AreRuns}
-use Rattle.ranges.specs.Apart.{Span, covered, range_msgs}
-use Rattle.pending.specs.Sorted.{sorted_msgs}
+use Rattle.point_ops.specs.Changes.{KeyOp, run_msgs}
+use Rattle.point_ops.specs.PointOps.{point_msgs, first_from, AreRuns}
+use Rattle.range_set.specs.Disjoint.{Span, covered, range_msgs}
+use Rattle.pending.specs.SortedMsgs.{sorted_msgs}
 use Rattle.pending.proofs.OneKey.{key_points, key_alike, none_clears}
 use Rattle.pending.proofs.Runs.{run_alike, run_first, points_count}
 use Rattle.pending.proofs.Meaning.{touches-ranges}
@@ -70,17 +70,17 @@ module _ {X : Type 0} where
 module _ {U V : Type 0} where
   -- ---- where the points act alike
 
-  run_stretch : (k : List ℕ) (cs : List (Change U V)) (from : List ℕ) (end ahead : Option (List ℕ)) → 0 < length cs → same k from ≡ false → is_below from end ≡ true → ahead_of from (Some k) ≡ ahead → IsStretch (run_msgs k cs) from end (earlier_end end ahead)
+  run_stretch : (k : List ℕ) (cs : List (KeyOp U V)) (from : List ℕ) (end ahead : Option (List ℕ)) → 0 < length cs → same k from ≡ false → is_below from end ≡ true → ahead_of from (Some k) ≡ ahead → IsStretch (run_msgs k cs) from end (earlier_end end ahead)
   run_stretch k cs from end ahead some other low is = subst (λ o. IsStretch (run_msgs k cs) from end (earlier_end end o)) is (key_alike k (run_msgs k cs) from end (run_alike k cs) (first k cs some) other low)
     where
-      first : (k : List ℕ) (cs : List (Change U V)) → 0 < length cs → first_point (run_msgs k cs) ≡ Some k
+      first : (k : List ℕ) (cs : List (KeyOp U V)) → 0 < length cs → first_point (run_msgs k cs) ≡ Some k
       first k cs some = ap (λ (ms : List (Msg U V)). first_point ms) (sym (append-nil (run_msgs k cs))) ∙ run_first k cs [] some
 
-  pub points_from : (from : List ℕ) (end : Option (List ℕ)) (es : List (List ℕ × List (Change U V))) → Rises es → AreRuns es → is_key (first_from from es) from ≡ false → is_below from end ≡ true → IsStretch (point_msgs es) from end (earlier_end end (first_from from es))
+  pub points_from : (from : List ℕ) (end : Option (List ℕ)) (es : List (List ℕ × List (KeyOp U V))) → Rises es → AreRuns es → is_key (first_from from es) from ≡ false → is_below from end ≡ true → IsStretch (point_msgs es) from end (earlier_end end (first_from from es))
   points_from from end [] s r other low = subst (IsStretch {U = U} {V = V} [] from end) (sym (end_alone end)) (no_stretch from end low)
   points_from from end (e ∷ es) s r other low =
-      let some : 0 < length e.1 = All-head (λ (x : List ℕ × List (Change U V)). 0 < length x.1) e es r in
-      let runs : AreRuns es = All-tail (λ (x : List ℕ × List (Change U V)). 0 < length x.1) e es r in
+      let some : 0 < length e.1 = All-head (λ (x : List ℕ × List (KeyOp U V)). 0 < length x.1) e es r in
+      let runs : AreRuns es = All-tail (λ (x : List ℕ × List (KeyOp U V)). 0 < length x.1) e es r in
       let rises : Rises es = sorted_tail by_bytes e.0 (keys_of es) s in
       by_bool (reaches from e.0) (IsStretch (point_msgs (e ∷ es)) from end (earlier_end end (first_from from (e ∷ es))))
       (λ t.
@@ -106,38 +106,38 @@ module _ {U V : Type 0} where
       same_not : (a b : List ℕ) → same a b ≡ false → same b a ≡ false
       same_not a b h = by_bytes_equiv.symm b a ∙ h
 
-  run_points : (k : List ℕ) (cs : List (Change U V)) (q : List ℕ) → 0 < length cs → has_point (run_msgs k cs) q ≡ same k q
+  run_points : (k : List ℕ) (cs : List (KeyOp U V)) (q : List ℕ) → 0 < length cs → has_point (run_msgs k cs) q ≡ same k q
   run_points k cs q some = key_points k q (run_msgs k cs) (run_alike k cs) (ap (λ (ms : List (Msg U V)). first_point ms) (sym (append-nil (run_msgs k cs))) ∙ run_first k cs [] some)
 
   -- a message is for the key alone, where that is the first from it on
-  points_at : (from : List ℕ) (es : List (List ℕ × List (Change U V))) → AreRuns es → is_key (first_from from es) from ≡ true → has_point (point_msgs es) from ≡ true
+  points_at : (from : List ℕ) (es : List (List ℕ × List (KeyOp U V))) → AreRuns es → is_key (first_from from es) from ≡ true → has_point (point_msgs es) from ≡ true
   points_at from [] r h = absurd (cc)
   points_at from (e ∷ es) r h =
-      let some : 0 < length e.1 = All-head (λ (x : List ℕ × List (Change U V)). 0 < length x.1) e es r in
+      let some : 0 < length e.1 = All-head (λ (x : List ℕ × List (KeyOp U V)). 0 < length x.1) e es r in
       has_point-append (run_msgs e.0 e.1) (point_msgs es) from
       ∙ by_bool (reaches from e.0) ((has_point (run_msgs e.0 e.1) from || has_point (point_msgs es) from) ≡ true)
       (λ t. or_left (has_point (run_msgs e.0 e.1) from) (has_point (point_msgs es) from) (run_points e.0 e.1 from some ∙ sym (ap (λ c. is_key (cond c (Some e.0) (first_from from es)) from) t) ∙ h))
-      (λ f. or_right (has_point (run_msgs e.0 e.1) from) (has_point (point_msgs es) from) (points_at from es (All-tail (λ (x : List ℕ × List (Change U V)). 0 < length x.1) e es r) (sym (ap (λ c. is_key (cond c (Some e.0) (first_from from es)) from) f) ∙ h)))
+      (λ f. or_right (has_point (run_msgs e.0 e.1) from) (has_point (point_msgs es) from) (points_at from es (All-tail (λ (x : List ℕ × List (KeyOp U V)). 0 < length x.1) e es r) (sym (ap (λ c. is_key (cond c (Some e.0) (first_from from es)) from) f) ∙ h)))
 
-  pub sorted_next : (rs : List Span) (k : List ℕ) (es : List (List ℕ × List (Change U V))) → AreRuns es → is_key (first_from k es) k ≡ true → Contains (all_ends (sorted_msgs rs es)) (next_key k)
+  pub sorted_next : (rs : List Span) (k : List ℕ) (es : List (List ℕ × List (KeyOp U V))) → AreRuns es → is_key (first_from k es) k ≡ true → Contains (all_ends (sorted_msgs rs es)) (next_key k)
   sorted_next rs k es r h = point_end (sorted_msgs rs es) k (has_point-append (range_msgs rs) (point_msgs es) k ∙ or_right (has_point {U = U} {V = V} (range_msgs rs) k) (has_point (point_msgs es) k) (points_at k es r h))
 
   -- ---- where the next key with a message stands
 
   -- messages of later keys alone
-  none_ahead : (k x : List ℕ) (es : List (List ℕ × List (Change U V))) → AreRuns es → before k x ≡ true → AllByRecursion (λ y. by_bytes x y ≡ Less) (keys_of es) → has_point (point_msgs es) k ≡ false
+  none_ahead : (k x : List ℕ) (es : List (List ℕ × List (KeyOp U V))) → AreRuns es → before k x ≡ true → AllByRecursion (λ y. by_bytes x y ≡ Less) (keys_of es) → has_point (point_msgs es) k ≡ false
   none_ahead k x [] r b a = refl
   none_ahead k x (e ∷ es) r b a =
-      let some : 0 < length e.1 = All-head (λ (x : List ℕ × List (Change U V)). 0 < length x.1) e es r in
+      let some : 0 < length e.1 = All-head (λ (x : List ℕ × List (KeyOp U V)). 0 < length x.1) e es r in
       let later : before k e.0 ≡ true = lt_le k x e.0 b (reaches-from_before x e.0 (ap is_lt a.0)) in
-      has_point-append (run_msgs e.0 e.1) (point_msgs es) k ∙ or_from (has_point (run_msgs e.0 e.1) k) (has_point (point_msgs es) k) (run_points e.0 e.1 k some ∙ unlike_later e.0 k later) (none_ahead k x es (All-tail (λ (x : List ℕ × List (Change U V)). 0 < length x.1) e es r) b a.1)
+      has_point-append (run_msgs e.0 e.1) (point_msgs es) k ∙ or_from (has_point (run_msgs e.0 e.1) k) (has_point (point_msgs es) k) (run_points e.0 e.1 k some ∙ unlike_later e.0 k later) (none_ahead k x es (All-tail (λ (x : List ℕ × List (KeyOp U V)). 0 < length x.1) e es r) b a.1)
 
   -- the stop is the first key from the first on
-  points_stop : (from : List ℕ) (end : Option (List ℕ)) (es : List (List ℕ × List (Change U V))) → Rises es → AreRuns es → IsPointStop (point_msgs es) from end (point_stop (first_from from es) from end)
+  points_stop : (from : List ℕ) (end : Option (List ℕ)) (es : List (List ℕ × List (KeyOp U V))) → Rises es → AreRuns es → IsPointStop (point_msgs es) from end (point_stop (first_from from es) from end)
   points_stop from end [] s r = stop_none from end
   points_stop from end (e ∷ es) s r =
-      let some : 0 < length e.1 = All-head (λ (x : List ℕ × List (Change U V)). 0 < length x.1) e es r in
-      let runs : AreRuns es = All-tail (λ (x : List ℕ × List (Change U V)). 0 < length x.1) e es r in
+      let some : 0 < length e.1 = All-head (λ (x : List ℕ × List (KeyOp U V)). 0 < length x.1) e es r in
+      let runs : AreRuns es = All-tail (λ (x : List ℕ × List (KeyOp U V)). 0 < length x.1) e es r in
       let here : IsPointStop (run_msgs e.0 e.1) from end (point_stop (Some e.0) from end) = stop_one (run_msgs e.0 e.1) (Some e.0) from end (λ k. run_points e.0 e.1 k some) in
       by_bool (reaches from e.0) (IsPointStop (point_msgs (e ∷ es)) from end (point_stop (first_from from (e ∷ es)) from end))
       (λ t.
@@ -156,7 +156,7 @@ module _ {U V : Type 0} where
       let skips : IsPointStop (run_msgs e.0 e.1) from end end = subst (IsPointStop (run_msgs e.0 e.1) from end) out here in
       subst (IsPointStop (point_msgs (e ∷ es)) from end) (sym is) (stop_then (run_msgs e.0 e.1) (point_msgs es) from end end stop skips (points_stop from end es (sorted_tail by_bytes e.0 (keys_of es) s) runs)))
 
-  pub sorted_stop : (rs : List Span) (es : List (List ℕ × List (Change U V))) (from : List ℕ) (end stop : Option (List ℕ)) → Rises es → AreRuns es → stop ≡ point_stop (first_from from es) from end → IsPointStop (sorted_msgs rs es) from end stop
+  pub sorted_stop : (rs : List Span) (es : List (List ℕ × List (KeyOp U V))) (from : List ℕ) (end stop : Option (List ℕ)) → Rises es → AreRuns es → stop ≡ point_stop (first_from from es) from end → IsPointStop (sorted_msgs rs es) from end stop
   sorted_stop rs es from end stop s r is =
       subst (IsPointStop (sorted_msgs rs es) from end) (sym is) (stop_then (range_msgs rs) (point_msgs es) from end end (point_stop (first_from from es) from end) (stop_one (range_msgs rs) None from end (λ k. none rs k)) (points_stop from end es s r))
     where
@@ -167,7 +167,7 @@ module _ {U V : Type 0} where
   -- ---- range-deletes
 
   -- the range-deletes of a sorted list are all that clears
-  pub sorted_clears : (rs : List Span) (es : List (List ℕ × List (Change U V))) (k : List ℕ) → is_cleared (sorted_msgs rs es) k ≡ covered rs k
+  pub sorted_clears : (rs : List Span) (es : List (List ℕ × List (KeyOp U V))) (k : List ℕ) → is_cleared (sorted_msgs rs es) k ≡ covered rs k
   sorted_clears rs es k = is_cleared-append (range_msgs rs) (point_msgs es) k ∙ ap (λ b. is_cleared {U = U} {V = V} (range_msgs rs) k || b) (none_clears (point_msgs es) k (points_count es)) ∙ or_none (is_cleared {U = U} {V = V} (range_msgs rs) k) ∙ ranges rs k
     where
       ranges : (rs : List Span) (k : List ℕ) → is_cleared {U = U} {V = V} (range_msgs rs) k ≡ covered rs k
@@ -178,7 +178,7 @@ module _ {U V : Type 0} where
   touched_alike [] k from a = refl
   touched_alike (m ∷ ms) k from a = (λ i. All-head (λ (x : Msg U V). touches x k ≡ touches x from) m ms a i || touched_alike ms k from (All-tail (λ (x : Msg U V). touches x k ≡ touches x from) m ms a) i)
 
-  pub sorted_stretch : (rs : List Span) (es : List (List ℕ × List (Change U V))) (from : List ℕ) (end stop : Option (List ℕ)) → IsStretch (range_msgs {U = U} {V = V} rs) from end stop → IsClearStretch (sorted_msgs rs es) from end stop
+  pub sorted_stretch : (rs : List Span) (es : List (List ℕ × List (KeyOp U V))) (from : List ℕ) (end stop : Option (List ℕ)) → IsStretch (range_msgs {U = U} {V = V} rs) from end stop → IsClearStretch (sorted_msgs rs es) from end stop
   sorted_stretch rs es from end stop s = record {
     alike = λ k h. sorted_clears rs es k ∙ sym (touches-ranges U V rs k) ∙ touched_alike (range_msgs rs) k from (s.alike k h) ∙ touches-ranges U V rs from ∙ sym (sorted_clears rs es from);
     after = s.after;

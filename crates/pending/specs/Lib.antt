@@ -1,5 +1,5 @@
 pub mod Ahead
-pub mod Lent
-pub mod Parts
-pub mod Sorted
-pub mod Waiting
+pub mod MsgRef
+pub mod SharedRange
+pub mod SortedMsgs
+pub mod BufferedMsg

@@ -10,21 +10,21 @@
 //! - some of the oldest messages of the first key may have left: these are counted, since other lists may share the row in which
 //!   they stand.
 //!
-//! `pending` is what callers see, and `ahead` a walk through its keys. `sorted` is the sorted part, and `lay` what is laid over it. `tail` has messages as they came,
-//! and `list` goes through them; `waiting` is one of them, and `part` a range-delete of which a part is left. `lent` is a message
-//! where it stands, and `stretch` says where messages begin and end to touch keys.
+//! `pending` is what callers see, and `point_cursor` a walk through its keys. `sorted_msgs` is the sorted part, and `insert` what is laid over it. `tail` has messages as they came,
+//! and `list` goes through them; `buffered_msg` is one of them, and `shared_range` a range-delete of which a part is left. `msg` is a message
+//! where it stands, and `segment` says where messages begin and end to touch keys.
 #![tactic(auto)]
 
-pub mod ahead;
-pub(crate) mod lay;
-pub mod lent;
+pub mod buffered_msg;
+pub(crate) mod insert;
 pub(crate) mod list;
-pub mod part;
+pub mod msg_ref;
 pub mod pending;
-pub mod sorted;
-pub(crate) mod stretch;
+pub mod point_cursor;
+pub(crate) mod segment;
+pub mod shared_range;
+pub mod sorted_msgs;
 pub(crate) mod tail;
-pub mod waiting;
 
-pub use ahead::{MetPoint, PointWalk, next_met};
 pub use pending::Pending;
+pub use point_cursor::{PointCursor, PointHit, advance};

@@ -5,33 +5,33 @@ ghost use Rattle.message.specs.Cuts.{LieIn};
 ghost use Rattle.message.specs.Effects.{any_touches, effects, range_count};
 ghost use Rattle.message.specs.PointKeys.{is_cleared};
 
-use crate::waiting::Waiting;
+use crate::buffered_msg::BufferedMsg;
 use message::{Msg, Update};
 use pathkey::{Key, NoMemory};
 use std::alloc::Global;
 
 /// Whether a message touches the key.
-pub(crate) fn is_touched<U: Update>(msgs: &[Waiting<U>], key: &Key) -> bool
+pub(crate) fn is_touched<U: Update>(msgs: &[BufferedMsg<U>], key: &Key) -> bool
     ensures { result ≡ any_touches msgs.now key.now }
 {
-    msgs.iter().any(|waiting| waiting.lent().touches(key))
+    msgs.iter().any(|waiting| waiting.as_msg().touches(key))
 }
 
 /// Whether a range-delete among the messages holds the key.
-pub(crate) fn is_cleared<U: Update>(msgs: &[Waiting<U>], key: &Key) -> bool
+pub(crate) fn is_range_deleted<U: Update>(msgs: &[BufferedMsg<U>], key: &Key) -> bool
     ensures { result ≡ is_cleared msgs.now key.now }
 {
-    msgs.iter().any(|waiting| waiting.lent().clears(key))
+    msgs.iter().any(|waiting| waiting.as_msg().deletes_key(key))
 }
 
 /// How many of the messages are range-deletes.
-pub(crate) fn ranges_in<U: Update>(msgs: &[Waiting<U>]) -> usize
+pub(crate) fn ranges_in<U: Update>(msgs: &[BufferedMsg<U>]) -> usize
     ensures count { result ≡ range_count msgs.now }
     ensures few { result ≤ length msgs.now }
 {
     let mut count = 0;
     for waiting in msgs {
-        if waiting.lent().is_range() {
+        if waiting.as_msg().is_range() {
             count += 1;
         }
     }
@@ -39,9 +39,9 @@ pub(crate) fn ranges_in<U: Update>(msgs: &[Waiting<U>]) -> usize
 }
 
 /// The value at `key` after the messages, the oldest first, where `old` was there.
-pub(crate) fn lay_all<U: Update>(
+pub(crate) fn apply_msgs<U: Update>(
     alloc: Global,
-    msgs: &[Waiting<U>],
+    msgs: &[BufferedMsg<U>],
     key: &Key,
     old: Option<U::Value>,
 ) -> Result<Option<U::Value>, NoMemory>
@@ -49,7 +49,7 @@ pub(crate) fn lay_all<U: Update>(
 {
     let mut value = old;
     for waiting in msgs {
-        value = waiting.lent().lay(alloc, key, value)?;
+        value = waiting.as_msg().insert(alloc, key, value)?;
     }
     Ok(value)
 }
@@ -57,13 +57,13 @@ pub(crate) fn lay_all<U: Update>(
 /// Copies of messages, put behind those in `front`.
 pub(crate) fn copy_behind<U: Update>(
     alloc: Global,
-    msgs: &[Waiting<U>],
+    msgs: &[BufferedMsg<U>],
     front: &mut Vec<Msg<U>>,
 ) -> Result<(), NoMemory>
     ensures { OnOk result (front.new.items ≡ front.old.items ++ msgs.now) }
 {
     for waiting in msgs {
-        front.push(waiting.lent().copy(alloc)?)?;
+        front.push(waiting.as_msg().copy(alloc)?)?;
     }
     Ok(())
 }
@@ -71,8 +71,8 @@ pub(crate) fn copy_behind<U: Update>(
 /// The same messages for another list, put behind those in `back`.
 pub(crate) fn share_behind<U: Update>(
     alloc: Global,
-    msgs: &[Waiting<U>],
-    back: &mut Vec<Waiting<U>>,
+    msgs: &[BufferedMsg<U>],
+    back: &mut Vec<BufferedMsg<U>>,
 ) -> Result<(), NoMemory>
     ensures { OnOk result (back.new.items ≡ back.old.items ++ msgs.now) }
 {
@@ -83,11 +83,11 @@ pub(crate) fn share_behind<U: Update>(
 }
 
 /// Whether each message lies whole from `lo` up to and without `hi`; `None` is no end.
-pub(crate) fn lie_in<U: Update>(msgs: &[Waiting<U>], lo: &Key, hi: Option<&Key>) -> bool
+pub(crate) fn lie_in<U: Update>(msgs: &[BufferedMsg<U>], lo: &Key, hi: Option<&Key>) -> bool
     ensures { result ≡ true → LieIn lo.now (option_copied hi.entry) msgs.now }
 {
     for waiting in msgs {
-        if !waiting.lent().lies_in(lo, hi) {
+        if !waiting.as_msg().lies_in(lo, hi) {
             return false;
         }
     }

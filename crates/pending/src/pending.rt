@@ -7,54 +7,54 @@ ghost use Rattle.std.specs.Prelude.{◌≡◌, ◌+◌, ◌≤◌, ◌<◌, ◌+
 ghost use Rattle.std.specs.Option.{option_copied, option_map};
 ghost use Rattle.std.specs.List.{All, slice_get};
 ghost use Rattle.message.specs.Cuts.{pieces, IsJoined, IsUpTo, LieIn};
-ghost use Rattle.message.specs.Effects.{effects, point, range_count, Takes};
-ghost use Rattle.pending.specs.Lent.{lent_msg};
+ghost use Rattle.message.specs.Effects.{effects, point_key, range_count, Takes};
+ghost use Rattle.pending.specs.MsgRef.{borrowed_msg};
 ghost use Rattle.message.specs.Oldest.{first_point, first_put, first_given, meets_first, covers_first};
 ghost use Rattle.message.specs.PointKeys.{is_cleared, IsNextPoint, IsClearStretch};
 ghost use Rattle.message.specs.Stretches.{IsStretch};
-ghost use Rattle.message.specs.Told.{IsTold};
+ghost use Rattle.message.specs.Resolution.{IsResolved};
 ghost use Rattle.pathkey.specs.Keys.{is_below};
 ghost use Rattle.pending.specs.Ahead.{StandsAt};
 
-use crate::ahead::PointWalk;
-use crate::lent::Lent;
-use crate::sorted::Sorted;
+use crate::msg_ref::MsgRef;
+use crate::point_cursor::PointCursor;
+use crate::sorted_msgs::SortedMsgs;
 use crate::tail::Tail;
 use message::ends::is_before_end;
-use message::{Changes, Msg, Taken, Told, Update};
+use message::{Msg, MsgDrain, Resolution, Update, UpdateTarget};
 use pathkey::{Key, NoMemory};
 use std::alloc::Global;
 use std::marker::Model;
 
 /// So many messages of a tail are folded at once: as many as a node may hold.
-const FOLDS: usize = 1024;
+const CONDENSE_AT: usize = 1024;
 
 /// A pending list: a sorted part, and a tail of newer messages as they came.
 ///
 /// A message comes into the tail where the slot has a mark, or where it found no memory for its place. The next message that
 /// comes without a mark first folds the tail into the sorted part, so a list whose mark is gone condenses again.
-pub struct Pending<U: Changes> {
-    sorted: Sorted<U>,
-    fresh: Tail<U>,
+pub struct Pending<U: UpdateTarget> {
+    sorted: SortedMsgs<U>,
+    tail_msgs: Tail<U>,
 }
 
 // Written out, as that of `pathkey::Key`.
-impl<U: Changes + Drop> Drop for Pending<U> {
+impl<U: UpdateTarget + Drop> Drop for Pending<U> {
     fn drop(self) {
         let Pending {
             sorted: _,
-            fresh: _,
+            tail_msgs: _,
         } = self;
     }
 }
 
-impl<U: Changes> Model for Pending<U> {
+impl<U: UpdateTarget> Model for Pending<U> {
     ghost use Rattle.std.specs.Prelude.{List, ℕ, ◌++◌};
     ghost use Rattle.message.specs.declared.msg.Msg.{Msg};
 
     ghost Value = { List (Msg U U.Value) × ℕ };
 
-    ghost view = { λ p. (p.sorted ++ p.fresh.0, p.fresh.1) };
+    ghost view = { λ p. (p.sorted ++ p.tail_msgs.0, p.tail_msgs.1) };
 }
 
 // ---- what comes in
@@ -65,8 +65,8 @@ impl<U: Update> Pending<U> {
         ensures { result.0 ≡ [] }
     {
         Pending {
-            sorted: Sorted::new(alloc),
-            fresh: Tail::new(alloc),
+            sorted: SortedMsgs::new(alloc),
+            tail_msgs: Tail::new(alloc),
         }
     }
 
@@ -78,7 +78,7 @@ impl<U: Update> Pending<U> {
         ensures room { OnOk result (more ≤ self.new.1) }
         ensures refused { OnErr result (self.old.1 < more) }
     {
-        self.fresh.reserve(more)
+        self.tail_msgs.reserve(more)
     }
 
     /// Adds a message, newer than all others, into reserved room. What it makes idle goes, and an update joins those of its key
@@ -89,7 +89,7 @@ impl<U: Update> Pending<U> {
         ensures takes { Takes U.means self.old.0 (msg ∷ []) self.new.0 }
         ensures room { self.old.1 ≤ self.new.1 + 1 }
     {
-        lay(&mut self.sorted, &mut self.fresh, msg);
+        insert(&mut self.sorted, &mut self.tail_msgs, msg);
     }
 
     /// Adds all messages of `newer`, in their order and newer than all others, into reserved room, and
@@ -101,29 +101,29 @@ impl<U: Update> Pending<U> {
         ensures room { self.old.1 ≤ self.new.1 + length newer.old.items }
     {
         let empty = Vec::new(*newer.allocator());
-        let mut taken = Taken::of(std::mem::replace(newer, empty));
+        let mut taken = MsgDrain::of(std::mem::replace(newer, empty));
         while let Some(msg) = taken.next() {
             self.push_reserved(msg);
         }
     }
 
     /// The same, with the messages that were there and the new ones left as they are, for a slot with a mark.
-    pub fn append_kept(&mut self, newer: &mut Vec<Msg<U>>)
+    pub fn append_uncondensed(&mut self, newer: &mut Vec<Msg<U>>)
         requires { length newer.old.items ≤ self.old.1 }
         ensures messages { self.new.0 ≡ self.old.0 ++ newer.old.items }
         ensures moved { newer.new.items ≡ [] }
         ensures room { self.old.1 ≤ self.new.1 + length newer.old.items }
     {
-        self.fresh.append(newer);
+        self.tail_msgs.append(newer);
     }
 
     /// The same for one message.
-    pub fn push_kept(&mut self, msg: Msg<U>)
+    pub fn push_uncondensed(&mut self, msg: Msg<U>)
         requires { 0 < self.old.1 }
         ensures messages { self.new.0 ≡ self.old.0 ++ msg ∷ [] }
         ensures room { self.old.1 ≤ self.new.1 + 1 }
     {
-        self.fresh.push_reserved(msg);
+        self.tail_msgs.push_reserved(msg);
     }
 
     // ---- what is counted
@@ -133,28 +133,28 @@ impl<U: Update> Pending<U> {
     pub fn len(&self) -> usize
         ensures { result ≡ length self.now.0 }
     {
-        self.sorted.len() + self.fresh.len()
+        self.sorted.len() + self.tail_msgs.len()
     }
 
-    /// How many of the messages are range-deletes, without the `gone` oldest.
-    pub fn range_deletes(&self, gone: usize) -> usize
-        requires { gone ≤ length self.now.0 }
-        ensures { result ≡ range_count (drop gone self.now.0) }
+    /// How many of the messages are range-deletes, without the `consumed` oldest.
+    pub fn range_deletes(&self, consumed: usize) -> usize
+        requires { consumed ≤ length self.now.0 }
+        ensures { result ≡ range_count (drop consumed self.now.0) }
     {
-        let sorted = gone.min(self.sorted.len());
-        self.sorted.range_deletes(sorted) + self.fresh.count_ranges(gone - sorted)
+        let sorted = consumed.min(self.sorted.len());
+        self.sorted.range_deletes(sorted) + self.tail_msgs.count_ranges(consumed - sorted)
     }
 
     // ---- the oldest message
 
     /// The oldest message, if there is one.
     #[inline(always)]
-    fn oldest(&self) -> Option<Lent<'_, U>>
-        ensures { option_map lent_msg result ≡ slice_get self.now.0 0 }
+    fn oldest(&self) -> Option<MsgRef<'_, U>>
+        ensures { option_map borrowed_msg result ≡ slice_get self.now.0 0 }
     {
         match self.sorted.oldest() {
-            Some(lent) => Some(lent),
-            None => self.fresh.oldest(),
+            Some(msg) => Some(msg),
+            None => self.tail_msgs.oldest(),
         }
     }
 
@@ -164,7 +164,7 @@ impl<U: Update> Pending<U> {
     {
         match self.oldest() {
             None => None,
-            Some(lent) => lent.point(),
+            Some(msg) => msg.point_key(),
         }
     }
 
@@ -174,17 +174,17 @@ impl<U: Update> Pending<U> {
     {
         match self.oldest() {
             None => None,
-            Some(lent) => lent.put(),
+            Some(msg) => msg.put(),
         }
     }
 
     /// The key to which the oldest message may give a value, if it is a put or an edit.
-    pub fn oldest_given(&self) -> Option<&Key>
+    pub fn oldest_created_key(&self) -> Option<&Key>
         ensures { option_copied result ≡ first_given self.now.0 }
     {
         match self.oldest() {
             None => None,
-            Some(lent) => lent.given(),
+            Some(msg) => msg.created_key(),
         }
     }
 
@@ -194,7 +194,7 @@ impl<U: Update> Pending<U> {
     {
         match self.oldest() {
             None => false,
-            Some(lent) => lent.meets(lo, hi),
+            Some(msg) => msg.overlaps_range(lo, hi),
         }
     }
 
@@ -204,7 +204,7 @@ impl<U: Update> Pending<U> {
     {
         match self.oldest() {
             None => false,
-            Some(lent) => lent.covers(lo, hi),
+            Some(msg) => msg.covers(lo, hi),
         }
     }
 
@@ -217,7 +217,8 @@ impl<U: Update> Pending<U> {
     {
         let mut front = self.sorted.copy_front(alloc, count)?;
         let sorted = count.min(self.sorted.len());
-        self.fresh.copy_oldest(alloc, count - sorted, &mut front)?;
+        self.tail_msgs
+            .copy_oldest(alloc, count - sorted, &mut front)?;
         Ok(front)
     }
 
@@ -226,25 +227,25 @@ impl<U: Update> Pending<U> {
         ensures { IfOk result (λ p. p.0 ≡ self.now.0) }
     {
         let sorted = self.sorted.copy()?;
-        let fresh = self.fresh.copy(alloc)?;
-        Ok(Pending { sorted, fresh })
+        let tail_msgs = self.tail_msgs.copy(alloc)?;
+        Ok(Pending { sorted, tail_msgs })
     }
 
-    /// A list of the messages but the `gone` oldest, cut from `lo` up to and without `hi`.
+    /// A list of the messages but the `consumed` oldest, cut from `lo` up to and without `hi`.
     pub fn copy_between(
         &self,
         alloc: Global,
-        gone: usize,
+        consumed: usize,
         lo: &Key,
         hi: Option<&Key>,
     ) -> Result<Pending<U>, NoMemory>
-        requires { gone ≤ length self.now.0 }
-        ensures { IfOk result (λ p. Takes U.means [] (pieces lo.now (option_copied hi.entry) (drop gone self.now.0)) p.0) }
+        requires { consumed ≤ length self.now.0 }
+        ensures { IfOk result (λ p. Takes U.means [] (pieces lo.now (option_copied hi.entry) (drop consumed self.now.0)) p.0) }
     {
         let mut rest = self.copy(alloc)?;
-        rest.drop_front(gone);
+        rest.drop_front(consumed);
         rest.keep_before(alloc, hi)?;
-        let (_, list) = rest.cut_at(alloc, lo)?;
+        let (_, list) = rest.split_at(alloc, lo)?;
         Ok(list)
     }
 
@@ -256,128 +257,128 @@ impl<U: Update> Pending<U> {
             return Ok(());
         };
         let all = std::mem::replace(self, Pending::new(alloc));
-        let (front, _) = all.cut_at(alloc, end)?;
+        let (front, _) = all.split_at(alloc, end)?;
         *self = front;
         Ok(())
     }
 
     /// The parts of the messages before the pivot, and those from it on. No message is copied but a range-delete over the pivot.
-    fn cut_at(self, alloc: Global, pivot: &Key) -> Result<(Pending<U>, Pending<U>), NoMemory>
+    fn split_at(self, alloc: Global, pivot: &Key) -> Result<(Pending<U>, Pending<U>), NoMemory>
         ensures front { IfOk result (λ r. r.0.0 ≡ pieces [] (Some pivot.now) self.0) }
         ensures back { IfOk result (λ r. r.1.0 ≡ pieces pivot.now None self.0) }
     {
-        let Pending { sorted, fresh } = self;
-        let (front, back) = sorted.cut_at(alloc, pivot)?;
-        let (before, behind) = fresh.cut_at(alloc, pivot)?;
+        let Pending { sorted, tail_msgs } = self;
+        let (front, back) = sorted.split_at(alloc, pivot)?;
+        let (before, behind) = tail_msgs.split_at(alloc, pivot)?;
         let front = Pending {
             sorted: front,
-            fresh: before,
+            tail_msgs: before,
         };
         let back = Pending {
             sorted: back,
-            fresh: behind,
+            tail_msgs: behind,
         };
         Ok((front, back))
     }
 
-    /// Cuts the list at the pivot, without its `gone` oldest messages: it keeps what lies from `lo` up to the pivot, and answers
+    /// Cuts the list at the pivot, without its `consumed` oldest messages: it keeps what lies from `lo` up to the pivot, and answers
     /// what lies from the pivot on. A range-delete over the pivot is cut too. On want of memory the list is as it was.
     pub fn split_off(
         &mut self,
         alloc: Global,
-        gone: usize,
+        consumed: usize,
         lo: &Key,
         pivot: &Key,
     ) -> Result<Pending<U>, NoMemory>
-        requires { gone ≤ length self.old.0 }
-        ensures front { OnOk result (Takes U.means [] (pieces lo.now (Some pivot.now) (drop gone self.old.0)) self.new.0) }
-        ensures back { IfOk result (λ p. Takes U.means [] (pieces pivot.now None (drop gone self.old.0)) p.0) }
+        requires { consumed ≤ length self.old.0 }
+        ensures front { OnOk result (Takes U.means [] (pieces lo.now (Some pivot.now) (drop consumed self.old.0)) self.new.0) }
+        ensures back { IfOk result (λ p. Takes U.means [] (pieces pivot.now None (drop consumed self.old.0)) p.0) }
         ensures err { OnErr result (self.new ≡ self.old) }
     {
-        if let Some(back) = self.move_off(alloc, gone, lo, pivot)? {
+        if let Some(back) = self.move_tail_off(alloc, consumed, lo, pivot)? {
             return Ok(back);
         }
         let mut rest = self.copy(alloc)?;
-        rest.drop_front(gone);
-        let (front, back) = rest.cut_at(alloc, pivot)?;
-        let (_, front) = front.cut_at(alloc, lo)?;
+        rest.drop_front(consumed);
+        let (front, back) = rest.split_at(alloc, pivot)?;
+        let (_, front) = front.split_at(alloc, lo)?;
         *self = front;
         Ok(back)
     }
 
     /// The same by moves, where that can be: where the list has no tail and no range-delete, and no message lies before `lo`.
-    fn move_off(
+    fn move_tail_off(
         &mut self,
         alloc: Global,
-        gone: usize,
+        consumed: usize,
         lo: &Key,
         pivot: &Key,
     ) -> Result<Option<Pending<U>>, NoMemory>
-        requires { gone ≤ length self.old.0 }
-        ensures front { IfOk result (λ o. MatchOption o (self.new ≡ self.old) (λ _. self.new.0 ≡ pieces lo.now (Some pivot.now) (drop gone self.old.0))) }
-        ensures back { IfOk result (λ o. IfSome o (λ p. p.0 ≡ pieces pivot.now None (drop gone self.old.0))) }
+        requires { consumed ≤ length self.old.0 }
+        ensures front { IfOk result (λ o. MatchOption o (self.new ≡ self.old) (λ _. self.new.0 ≡ pieces lo.now (Some pivot.now) (drop consumed self.old.0))) }
+        ensures back { IfOk result (λ o. IfSome o (λ p. p.0 ≡ pieces pivot.now None (drop consumed self.old.0))) }
         ensures err { OnErr result (self.new ≡ self.old) }
     {
-        if self.fresh.len() > 0 {
+        if self.tail_msgs.len() > 0 {
             return Ok(None);
         }
         let Some(sorted) = self.sorted.split_off(alloc, lo, pivot)? else {
             return Ok(None);
         };
-        let fresh = Tail::new(alloc);
-        let mut back = Pending { sorted, fresh };
-        let first = gone.min(self.len());
+        let tail_msgs = Tail::new(alloc);
+        let mut back = Pending { sorted, tail_msgs };
+        let first = consumed.min(self.len());
         self.drop_front(first);
-        back.drop_front(gone - first);
+        back.drop_front(consumed - first);
         Ok(Some(back))
     }
 
     /// Moves the oldest messages to another list, where they are newer than all others, and counts them: all of one key as they
     /// lie in memory, where there are at most `most` and that can be, else the first. On want of memory both lists are as they
     /// were.
-    pub fn sink_oldest(&mut self, to: &mut Pending<U>, most: usize) -> Result<usize, NoMemory>
+    pub fn flush_oldest(&mut self, to: &mut Pending<U>, most: usize) -> Result<usize, NoMemory>
         ensures takes { IfOk result (λ n. Takes U.means to.old.0 (take n self.old.0) to.new.0) }
         ensures left { IfOk result (λ n. self.new.0 ≡ drop n self.old.0) }
         ensures within { IfOk result (λ n. (n ≤ most) × (n ≤ length self.old.0)) }
         ensures some { IfOk result (λ n. 0 < most → 0 < length self.old.0 → 0 < n) }
         ensures still { IfOk result (λ n. n ≡ 0 → to.new.0 ≡ to.old.0) }
-        ensures alike { IfOk result (λ n. All (λ m. point m ≡ first_point self.old.0) (take n self.old.0)) }
+        ensures alike { IfOk result (λ n. All (λ m. point_key m ≡ first_point self.old.0) (take n self.old.0)) }
         ensures err { OnErr result ((self.new.0 ≡ self.old.0) × (to.new.0 ≡ to.old.0)) }
     {
         if most == 0 {
             return Ok(0);
         }
-        match self.sink_run(to, most) {
+        match self.flush_key(to, most) {
             Some(count) => Ok(count),
-            None => self.sink_one(to),
+            None => self.flush_one(to),
         }
     }
 
     /// Moves the oldest messages, those of one key and at most `most`, as they lie in memory, and counts them. None move where
     /// the other list has a tail, or where its sorted part takes none.
-    fn sink_run(&mut self, to: &mut Pending<U>, most: usize) -> Option<usize>
+    fn flush_key(&mut self, to: &mut Pending<U>, most: usize) -> Option<usize>
         ensures takes { IfSome result (λ n. Takes U.means to.old.0 (take n self.old.0) to.new.0) }
         ensures left { IfSome result (λ n. self.new.0 ≡ drop n self.old.0) }
         ensures within { IfSome result (λ n. (0 < n) × (n ≤ most) × (n ≤ length self.old.0)) }
-        ensures alike { IfSome result (λ n. All (λ m. point m ≡ first_point self.old.0) (take n self.old.0)) }
+        ensures alike { IfSome result (λ n. All (λ m. point_key m ≡ first_point self.old.0) (take n self.old.0)) }
         ensures none { IfNone result ((self.new.0 ≡ self.old.0) × (to.new.0 ≡ to.old.0)) }
     {
-        if to.fresh.len() > 0 {
+        if to.tail_msgs.len() > 0 {
             return None;
         }
-        let alloc = to.fresh.allocator();
+        let alloc = to.tail_msgs.allocator();
         let count = to.sorted.take_first(alloc, &mut self.sorted, most)?;
         Some(count)
     }
 
     /// Moves the oldest message, if there is one, and answers how many moved.
-    fn sink_one(&mut self, to: &mut Pending<U>) -> Result<usize, NoMemory>
+    fn flush_one(&mut self, to: &mut Pending<U>) -> Result<usize, NoMemory>
         ensures takes { IfOk result (λ n. Takes U.means to.old.0 (take n self.old.0) to.new.0) }
         ensures left { IfOk result (λ n. self.new.0 ≡ drop n self.old.0) }
         ensures within { IfOk result (λ n. (n ≤ 1) × (n ≤ length self.old.0)) }
         ensures some { IfOk result (λ n. 0 < length self.old.0 → 0 < n) }
         ensures still { IfOk result (λ n. n ≡ 0 → to.new.0 ≡ to.old.0) }
-        ensures alike { IfOk result (λ n. All (λ m. point m ≡ first_point self.old.0) (take n self.old.0)) }
+        ensures alike { IfOk result (λ n. All (λ m. point_key m ≡ first_point self.old.0) (take n self.old.0)) }
         ensures err { OnErr result ((self.new.0 ≡ self.old.0) × (to.new.0 ≡ to.old.0)) }
     {
         to.reserve(1)?;
@@ -395,7 +396,7 @@ impl<U: Update> Pending<U> {
     {
         match self.oldest() {
             None => Ok(None),
-            Some(lent) => Ok(Some(lent.copy(self.fresh.allocator())?)),
+            Some(msg) => Ok(Some(msg.copy(self.tail_msgs.allocator())?)),
         }
     }
 
@@ -405,7 +406,7 @@ impl<U: Update> Pending<U> {
     /// An empty list takes the other as it is. Else most messages move as they lie in memory. Copied are those of the other list's
     /// tail that further lists share; those in rows that further lists share; updates of a key that has messages in the other list;
     /// and a range-delete that holds a key with messages there.
-    pub fn sink_all(&mut self, to: &mut Pending<U>) -> Result<(), NoMemory>
+    pub fn flush_all(&mut self, to: &mut Pending<U>) -> Result<(), NoMemory>
         ensures ok { OnOk result (Takes U.means to.old.0 self.old.0 to.new.0) }
         ensures moved { OnOk result (self.new.0 ≡ []) }
         ensures some { OnErr result (Takes U.means (to.old.0 ++ self.old.0) [] (to.new.0 ++ self.new.0)) }
@@ -414,14 +415,14 @@ impl<U: Update> Pending<U> {
             std::mem::swap(self, to);
             return Ok(());
         }
-        fold_all(&mut to.sorted, &mut to.fresh);
-        while !self.sink_more(to)? {}
+        condense_all(&mut to.sorted, &mut to.tail_msgs);
+        while !self.flush_more(to)? {}
         Ok(())
     }
 
     /// Moves the oldest messages of the sorted part, or where it has none the tail, and says whether that was all. On want of
     /// memory both lists are as they were.
-    fn sink_more(&mut self, to: &mut Pending<U>) -> Result<bool, NoMemory>
+    fn flush_more(&mut self, to: &mut Pending<U>) -> Result<bool, NoMemory>
         ensures same { OnOk result (Takes U.means (to.old.0 ++ self.old.0) [] (to.new.0 ++ self.new.0)) }
         ensures all { IfOk result (λ all. all ≡ true → self.new.0 ≡ []) }
         ensures fewer { IfOk result (λ all. all ≡ false → length self.new.0 < length self.old.0) }
@@ -429,16 +430,16 @@ impl<U: Update> Pending<U> {
     {
         let most = self.sorted.len();
         if most > 0 {
-            self.sink_oldest(to, most)?;
+            self.flush_oldest(to, most)?;
             return Ok(false);
         }
-        to.fresh.join(&mut self.fresh)?;
+        to.tail_msgs.join(&mut self.tail_msgs)?;
         Ok(true)
     }
 
     /// A list of the messages of both lists, those of `newer` newer than all others. Where one list lies before the pivot and the
-    /// newer one from it on, the messages are moved as they lie in memory; else they sink as [`Pending::sink_all`] lets them.
-    pub fn joined(
+    /// newer one from it on, the messages are moved as they lie in memory; else they sink as [`Pending::flush_all`] lets them.
+    pub fn merged(
         self,
         alloc: Global,
         newer: Pending<U>,
@@ -451,7 +452,7 @@ impl<U: Update> Pending<U> {
         }
         let mut all = self;
         let mut rest = newer;
-        rest.sink_all(&mut all)?;
+        rest.flush_all(&mut all)?;
         Ok(all)
     }
 
@@ -459,14 +460,14 @@ impl<U: Update> Pending<U> {
     fn lies_before(&self, alloc: Global, pivot: &Key) -> bool
         ensures { result ≡ true → LieIn [] (Some pivot.now) self.now.0 }
     {
-        self.sorted.lies_before(pivot) && self.fresh.lies_before(alloc, pivot)
+        self.sorted.lies_before(pivot) && self.tail_msgs.lies_before(alloc, pivot)
     }
 
     /// Whether each message lies whole from the pivot on.
     fn lies_from(&self, pivot: &Key) -> bool
         ensures { result ≡ true → LieIn pivot.now None self.now.0 }
     {
-        self.sorted.lies_from(pivot) && self.fresh.lies_from(pivot)
+        self.sorted.lies_from(pivot) && self.tail_msgs.lies_from(pivot)
     }
 
     /// A list of the messages of both lists, as they lie in memory.
@@ -480,14 +481,17 @@ impl<U: Update> Pending<U> {
         requires from { LieIn pivot.now None newer.0 }
         ensures { IfOk result (λ p. IsJoined pivot.now self.0 newer.0 p.0) }
     {
-        let Pending { sorted, mut fresh } = self;
+        let Pending {
+            sorted,
+            mut tail_msgs,
+        } = self;
         let Pending {
             sorted: later,
-            fresh: mut behind,
+            tail_msgs: mut behind,
         } = newer;
-        fresh.join(&mut behind)?;
-        let sorted = sorted.joined(alloc, later, pivot)?;
-        Ok(Pending { sorted, fresh })
+        tail_msgs.join(&mut behind)?;
+        let sorted = sorted.merged(alloc, later, pivot)?;
+        Ok(Pending { sorted, tail_msgs })
     }
 
     /// Takes the `count` oldest messages away.
@@ -498,20 +502,20 @@ impl<U: Update> Pending<U> {
     {
         let sorted = count.min(self.sorted.len());
         self.sorted.drop_front(sorted);
-        self.fresh.drop_oldest(count - sorted);
+        self.tail_msgs.drop_oldest(count - sorted);
     }
 
     // ---- what is asked
 
     /// What the list says of the value at the key. It copies nothing but a value that it settles. Where a message of
     /// the tail touches the key, it settles none.
-    pub fn told(&self, alloc: Global, key: &Key) -> Result<Told<U::Value>, NoMemory>
-        ensures { IfOk result (IsTold U.means self.now.0 key.now) }
+    pub fn resolve(&self, alloc: Global, key: &Key) -> Result<Resolution<U::Value>, NoMemory>
+        ensures { IfOk result (IsResolved U.means self.now.0 key.now) }
     {
-        if self.fresh.is_touched(key) {
-            return Ok(Told::Change);
+        if self.tail_msgs.is_touched(key) {
+            return Ok(Resolution::NeedsBase);
         }
-        self.sorted.told(alloc, key)
+        self.sorted.resolve(alloc, key)
     }
 
     /// The value at `key` after the messages, where `old` was there.
@@ -524,12 +528,12 @@ impl<U: Update> Pending<U> {
         ensures { IfOk result (λ v. v ≡ effects U.means self.now.0 key.now old) }
     {
         let value = self.sorted.value_after(alloc, key, old)?;
-        self.fresh.lay_over(alloc, key, value)
+        self.tail_msgs.apply_msgs(alloc, key, value)
     }
 
     /// Where the stretch of keys that begins at `from` ends: up to there, at `end` or before it, each message touches all
     /// keys or none.
-    pub fn stretch_end(
+    pub fn segment_end(
         &self,
         alloc: Global,
         from: &Key,
@@ -538,9 +542,9 @@ impl<U: Update> Pending<U> {
         requires { is_below from.now (option_copied end) ≡ true }
         ensures { IfOk result (λ stop. IsStretch self.now.0 from.now (option_copied end.entry) stop) }
     {
-        match self.sorted.stretch_end(from, end) {
+        match self.sorted.segment_end(from, end) {
             None => Ok(Some(from.next(alloc)?)),
-            Some(stop) => self.fresh.stretch_stop(alloc, from, stop),
+            Some(stop) => self.tail_msgs.stretch_stop(alloc, from, stop),
         }
     }
 
@@ -549,7 +553,7 @@ impl<U: Update> Pending<U> {
         ensures { IsNextPoint self.now.0 from.now (option_copied end.entry) (option_copied result) }
     {
         let stop = self.sorted.next_point(from, end);
-        let Some(key) = self.fresh.next_point(from, stop) else {
+        let Some(key) = self.tail_msgs.next_point(from, stop) else {
             return None;
         };
         if !is_before_end(key, end) {
@@ -559,27 +563,27 @@ impl<U: Update> Pending<U> {
     }
 
     /// A walk through the keys from `from` on that have messages for them alone.
-    pub fn walk_points(&self, from: &Key) -> PointWalk<'_, U>
+    pub fn walk_points(&self, from: &Key) -> PointCursor<'_, U>
         ensures list { result.0 ≡ self.now.0 }
         ensures stands { StandsAt from.now result }
     {
-        let rest = if self.fresh.len() > 0 {
+        let rest = if self.tail_msgs.len() > 0 {
             None
         } else {
             self.sorted.walk_from(from)
         };
-        PointWalk { list: self, rest }
+        PointCursor { list: self, rest }
     }
 
     /// Whether a range-delete holds the key: then no older value is left there.
-    pub fn is_cleared(&self, key: &Key) -> bool
+    pub fn is_range_deleted(&self, key: &Key) -> bool
         ensures { result ≡ is_cleared self.now.0 key.now }
     {
-        self.sorted.is_cleared(key) || self.fresh.is_cleared(key)
+        self.sorted.is_range_deleted(key) || self.tail_msgs.is_range_deleted(key)
     }
 
     /// Up to where the range-deletes hold all keys from `from` on, or none: at `end` or before it.
-    pub fn cleared_end(
+    pub fn range_deleted_until(
         &self,
         alloc: Global,
         from: &Key,
@@ -588,63 +592,63 @@ impl<U: Update> Pending<U> {
         requires { is_below from.now (option_copied end) ≡ true }
         ensures { IfOk result (λ stop. IsClearStretch self.now.0 from.now (option_copied end.entry) stop) }
     {
-        let first = self.sorted.cleared_end(from, end);
-        self.fresh.stretch_stop(alloc, from, first)
+        let first = self.sorted.range_deleted_until(from, end);
+        self.tail_msgs.stretch_stop(alloc, from, first)
     }
 }
 
 /// Lays a message over the sorted part, or puts it behind the others where it finds no place there.
 #[inline(always)]
-fn lay<U: Update>(sorted: &mut Sorted<U>, fresh: &mut Tail<U>, msg: Msg<U>)
-    requires { 0 < fresh.old.1 }
-    ensures takes { Takes U.means (sorted.old ++ fresh.old.0) (msg ∷ []) (sorted.new ++ fresh.new.0) }
-    ensures room { fresh.old.1 ≤ fresh.new.1 + 1 }
+fn insert<U: Update>(sorted: &mut SortedMsgs<U>, tail_msgs: &mut Tail<U>, msg: Msg<U>)
+    requires { 0 < tail_msgs.old.1 }
+    ensures takes { Takes U.means (sorted.old ++ tail_msgs.old.0) (msg ∷ []) (sorted.new ++ tail_msgs.new.0) }
+    ensures room { tail_msgs.old.1 ≤ tail_msgs.new.1 + 1 }
 {
-    fold(sorted, fresh);
-    if fresh.len() > 0 {
-        fresh.push_reserved(msg);
+    condense(sorted, tail_msgs);
+    if tail_msgs.len() > 0 {
+        tail_msgs.push_reserved(msg);
         return;
     }
-    if let Err(msg) = sorted.push(fresh.allocator(), msg) {
-        fresh.push_reserved(msg);
+    if let Err(msg) = sorted.push(tail_msgs.allocator(), msg) {
+        tail_msgs.push_reserved(msg);
     }
 }
 
-/// Folds the tail into the sorted part, the oldest message first, up to one that finds no place there, and at most [`FOLDS`]
+/// Folds the tail into the sorted part, the oldest message first, up to one that finds no place there, and at most [`CONDENSE_AT`]
 /// messages.
-fn fold<U: Update>(sorted: &mut Sorted<U>, fresh: &mut Tail<U>)
-    ensures same { Takes U.means (sorted.old ++ fresh.old.0) [] (sorted.new ++ fresh.new.0) }
-    ensures room { fresh.old.1 ≤ fresh.new.1 }
+fn condense<U: Update>(sorted: &mut SortedMsgs<U>, tail_msgs: &mut Tail<U>)
+    ensures same { Takes U.means (sorted.old ++ tail_msgs.old.0) [] (sorted.new ++ tail_msgs.new.0) }
+    ensures room { tail_msgs.old.1 ≤ tail_msgs.new.1 }
 {
-    if fresh.len() == 0 {
+    if tail_msgs.len() == 0 {
         return;
     }
-    let mut more = FOLDS;
-    while more > 0 && fold_oldest(sorted, fresh) {
+    let mut more = CONDENSE_AT;
+    while more > 0 && condense_oldest(sorted, tail_msgs) {
         more -= 1;
     }
 }
 
 /// Folds the tail into the sorted part, the oldest message first, up to one that finds no place there.
-fn fold_all<U: Update>(sorted: &mut Sorted<U>, fresh: &mut Tail<U>)
-    ensures same { Takes U.means (sorted.old ++ fresh.old.0) [] (sorted.new ++ fresh.new.0) }
+fn condense_all<U: Update>(sorted: &mut SortedMsgs<U>, tail_msgs: &mut Tail<U>)
+    ensures same { Takes U.means (sorted.old ++ tail_msgs.old.0) [] (sorted.new ++ tail_msgs.new.0) }
 {
-    while fold_oldest(sorted, fresh) {}
+    while condense_oldest(sorted, tail_msgs) {}
 }
 
 /// Lays the oldest message of the tail over the sorted part, and says whether it did; else both stay.
-fn fold_oldest<U: Update>(sorted: &mut Sorted<U>, fresh: &mut Tail<U>) -> bool
-    ensures same { Takes U.means (sorted.old ++ fresh.old.0) [] (sorted.new ++ fresh.new.0) }
-    ensures room { fresh.old.1 ≤ fresh.new.1 }
-    ensures fewer { result ≡ true → length fresh.new.0 < length fresh.old.0 }
+fn condense_oldest<U: Update>(sorted: &mut SortedMsgs<U>, tail_msgs: &mut Tail<U>) -> bool
+    ensures same { Takes U.means (sorted.old ++ tail_msgs.old.0) [] (sorted.new ++ tail_msgs.new.0) }
+    ensures room { tail_msgs.old.1 ≤ tail_msgs.new.1 }
+    ensures fewer { result ≡ true → length tail_msgs.new.0 < length tail_msgs.old.0 }
 {
-    let Some(msg) = fresh.pop() else {
+    let Some(msg) = tail_msgs.pop() else {
         return false;
     };
-    match sorted.push(fresh.allocator(), msg) {
+    match sorted.push(tail_msgs.allocator(), msg) {
         Ok(()) => true,
         Err(msg) => {
-            fresh.push_front_reserved(msg);
+            tail_msgs.push_front_reserved(msg);
             false
         }
     }

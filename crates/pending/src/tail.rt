@@ -6,16 +6,18 @@ ghost use Rattle.std.specs.Option.{option_copied, option_map, option_to_list};
 ghost use Rattle.std.specs.List.{slice_get};
 ghost use Rattle.message.specs.Cuts.{pieces, LieIn};
 ghost use Rattle.message.specs.Effects.{any_touches, effects, range_count};
-ghost use Rattle.pending.specs.Lent.{lent_msg};
+ghost use Rattle.pending.specs.MsgRef.{borrowed_msg};
 ghost use Rattle.message.specs.PointKeys.{is_cleared, IsPointStop};
 ghost use Rattle.message.specs.Stretches.{IsStretch};
 ghost use Rattle.pathkey.specs.Keys.{is_below};
 
-use crate::lent::Lent;
-use crate::list::{copy_behind, is_cleared, is_touched, lay_all, lie_in, ranges_in, share_behind};
-use crate::stretch::{next_point, stretch_end};
-use crate::waiting::Waiting;
-use message::{Changes, Msg, Taken, Update};
+use crate::buffered_msg::BufferedMsg;
+use crate::list::{
+    apply_msgs, copy_behind, is_range_deleted, is_touched, lie_in, ranges_in, share_behind,
+};
+use crate::msg_ref::MsgRef;
+use crate::segment::{next_point, segment_end};
+use message::{Msg, MsgDrain, Update, UpdateTarget};
 use pathkey::{Key, NoMemory};
 use std::alloc::Global;
 use std::collections::VecDeque;
@@ -24,11 +26,11 @@ use std::sync::Arc;
 
 /// Messages as they came, and room for more.
 #[derive(Drop)]
-pub struct Tail<U: Changes> {
-    msgs: VecDeque<Waiting<U>>,
+pub struct Tail<U: UpdateTarget> {
+    msgs: VecDeque<BufferedMsg<U>>,
 }
 
-impl<U: Changes> Model for Tail<U> {
+impl<U: UpdateTarget> Model for Tail<U> {
     ghost use Rattle.std.specs.Prelude.{List, ℕ, ◌-◌};
     ghost use Rattle.std.specs.VecDeque.{deque_len, deque_capacity};
     ghost use Rattle.message.specs.declared.msg.Msg.{Msg};
@@ -79,11 +81,11 @@ impl<U: Update> Tail<U> {
         ensures messages { self.new.0 ≡ self.old.0 ++ msg ∷ [] }
         ensures room { self.old.1 ≤ self.new.1 + 1 }
     {
-        self.push_waiting(Waiting::new(self.allocator(), msg));
+        self.push_waiting(BufferedMsg::new(self.allocator(), msg));
     }
 
     /// Puts a message as it lies in memory behind the others into reserved room.
-    fn push_waiting(&mut self, waiting: Waiting<U>)
+    fn push_waiting(&mut self, waiting: BufferedMsg<U>)
         requires { 0 < self.old.1 }
         ensures messages { self.new.0 ≡ self.old.0 ++ waiting ∷ [] }
         ensures room { self.old.1 ≤ self.new.1 + 1 }
@@ -97,7 +99,7 @@ impl<U: Update> Tail<U> {
         ensures messages { self.new.0 ≡ msg ∷ self.old.0 }
         ensures room { self.old.1 ≤ self.new.1 + 1 }
     {
-        let waiting = Waiting::new(self.allocator(), msg);
+        let waiting = BufferedMsg::new(self.allocator(), msg);
         self.msgs.push_front_reserved(waiting);
     }
 
@@ -109,14 +111,14 @@ impl<U: Update> Tail<U> {
         ensures room { self.old.1 ≤ self.new.1 + length newer.old.items }
     {
         let empty = Vec::new(*newer.allocator());
-        let mut come = Taken::of(std::mem::replace(newer, empty));
+        let mut come = MsgDrain::of(std::mem::replace(newer, empty));
         while let Some(msg) = come.next() {
             self.push_reserved(msg);
         }
     }
 
     /// Takes the oldest message out as it lies in memory.
-    fn take(&mut self) -> Option<Waiting<U>>
+    fn take(&mut self) -> Option<BufferedMsg<U>>
         ensures moved { self.old.0 ≡ option_to_list result ++ self.new.0 }
         ensures end { IfNone result (self.old.0 ≡ []) }
         ensures room { self.old.1 ≤ self.new.1 }
@@ -154,24 +156,24 @@ impl<U: Update> Tail<U> {
     }
 
     /// The oldest message, if there is one.
-    pub(crate) fn oldest(&self) -> Option<Lent<'_, U>>
-        ensures { option_map lent_msg result ≡ slice_get self.now.0 0 }
+    pub(crate) fn oldest(&self) -> Option<MsgRef<'_, U>>
+        ensures { option_map borrowed_msg result ≡ slice_get self.now.0 0 }
     {
         match self.msgs.front() {
-            Some(waiting) => Some(waiting.lent()),
+            Some(waiting) => Some(waiting.as_msg()),
             None => None,
         }
     }
 
-    /// How many of the messages are range-deletes, without the `gone` oldest.
-    pub(crate) fn count_ranges(&self, gone: usize) -> usize
-        requires { gone ≤ length self.now.0 }
-        ensures count { result ≡ range_count (drop gone self.now.0) }
+    /// How many of the messages are range-deletes, without the `consumed` oldest.
+    pub(crate) fn count_ranges(&self, consumed: usize) -> usize
+        requires { consumed ≤ length self.now.0 }
+        ensures count { result ≡ range_count (drop consumed self.now.0) }
         ensures small { result < 2 ^ 63 }
     {
         let (near, far) = self.msgs.as_slices();
-        let first = gone.min(near.len());
-        ranges_in(&near[first..]) + ranges_in(&far[gone - first..])
+        let first = consumed.min(near.len());
+        ranges_in(&near[first..]) + ranges_in(&far[consumed - first..])
     }
 
     /// Puts copies of the `count` oldest messages behind those in `front`.
@@ -204,8 +206,8 @@ impl<U: Update> Tail<U> {
         })
     }
 
-    /// The parts of the messages before the pivot, and those from it on, as [`Waiting::cut_at`] makes them.
-    pub(crate) fn cut_at(self, alloc: Global, pivot: &Key) -> Result<(Tail<U>, Tail<U>), NoMemory>
+    /// The parts of the messages before the pivot, and those from it on, as [`BufferedMsg::split_at`] makes them.
+    pub(crate) fn split_at(self, alloc: Global, pivot: &Key) -> Result<(Tail<U>, Tail<U>), NoMemory>
         ensures front { IfOk result (λ r. r.0.0 ≡ pieces [] (Some pivot.now) self.0) }
         ensures back { IfOk result (λ r. r.1.0 ≡ pieces pivot.now None self.0) }
     {
@@ -214,7 +216,7 @@ impl<U: Update> Tail<U> {
         let mut back = Vec::new(alloc);
         let mut rest = self;
         while let Some(waiting) = rest.take() {
-            let (before, behind) = waiting.cut_at(alloc, &pivot)?;
+            let (before, behind) = waiting.split_at(alloc, &pivot)?;
             push_some(&mut front, before)?;
             push_some(&mut back, behind)?;
         }
@@ -222,7 +224,7 @@ impl<U: Update> Tail<U> {
     }
 
     /// A tail of these messages.
-    fn of(msgs: Vec<Waiting<U>>) -> Tail<U>
+    fn of(msgs: Vec<BufferedMsg<U>>) -> Tail<U>
         ensures { result.0 ≡ msgs.items }
     {
         Tail {
@@ -269,7 +271,7 @@ impl<U: Update> Tail<U> {
     }
 
     /// The value at `key` after the messages, where `old` was there.
-    pub(crate) fn lay_over(
+    pub(crate) fn apply_msgs(
         &self,
         alloc: Global,
         key: &Key,
@@ -278,8 +280,8 @@ impl<U: Update> Tail<U> {
         ensures { IfOk result (λ v. v ≡ effects U.means self.now.0 key.now old) }
     {
         let (near, far) = self.msgs.as_slices();
-        let value = lay_all(alloc, near, key, old)?;
-        lay_all(alloc, far, key, value)
+        let value = apply_msgs(alloc, near, key, old)?;
+        apply_msgs(alloc, far, key, value)
     }
 
     /// Where the stretch that begins at `from` ends: at `end` or before it.
@@ -293,8 +295,8 @@ impl<U: Update> Tail<U> {
         ensures { IfOk result (λ stop. IsStretch self.now.0 from.now (option_copied end.entry) stop) }
     {
         let (near, far) = self.msgs.as_slices();
-        let stop = stretch_end(alloc, near, from, end)?;
-        stretch_end(alloc, far, from, stop.as_ref())
+        let stop = segment_end(alloc, near, from, end)?;
+        segment_end(alloc, far, from, stop.as_ref())
     }
 
     /// The first key from `from` on that has a message for it alone, if it stands before `end`; else `end`.
@@ -307,16 +309,19 @@ impl<U: Update> Tail<U> {
     }
 
     /// Whether a range-delete holds the key.
-    pub(crate) fn is_cleared(&self, key: &Key) -> bool
+    pub(crate) fn is_range_deleted(&self, key: &Key) -> bool
         ensures { result ≡ is_cleared self.now.0 key.now }
     {
         let (near, far) = self.msgs.as_slices();
-        is_cleared(near, key) || is_cleared(far, key)
+        is_range_deleted(near, key) || is_range_deleted(far, key)
     }
 }
 
 /// Puts a message behind others, if there is one.
-fn push_some<U: Update>(msgs: &mut Vec<Waiting<U>>, msg: Option<Waiting<U>>) -> Result<(), NoMemory>
+fn push_some<U: Update>(
+    msgs: &mut Vec<BufferedMsg<U>>,
+    msg: Option<BufferedMsg<U>>,
+) -> Result<(), NoMemory>
     ensures { OnOk result (msgs.new.items ≡ msgs.old.items ++ option_to_list msg) }
 {
     if let Some(msg) = msg {

@@ -7,17 +7,17 @@ use Rattle.reference.specs.declared.call.Call.{Call}
 use Rattle.reference.specs.declared.call.Call.TheVariants as ask
 use Rattle.reference.specs.declared.reply.Reply.TheVariants.{Fault}
 use Rattle.logs.specs.Entries.{RefusesBody, body_of}
-use Rattle.logs.specs.declared.change.Change.{Change}
-use Rattle.logs.specs.declared.change.Change.TheVariants.{OnPath, Rename, Truncate, Write, Punch, Keep}
-use Rattle.logs.specs.declared.change.Keeping.TheVariants.{Snapshot, Remove, Restore}
-use Rattle.logs.specs.declared.change.PathChange.{PathChange}
-use Rattle.logs.specs.declared.change.PathChange.TheVariants.{Mkdir, Create, Unlink, Rmdir, Rmtree}
+use Rattle.logs.specs.declared.wal_entry.WalEntry.{WalEntry}
+use Rattle.logs.specs.declared.wal_entry.WalEntry.TheVariants.{OnPath, Rename, Truncate, Write, Punch, Keep}
+use Rattle.logs.specs.declared.wal_entry.SnapshotCall.TheVariants.{Snapshot, Remove, Restore}
+use Rattle.logs.specs.declared.wal_entry.PathCall.{PathCall}
+use Rattle.logs.specs.declared.wal_entry.PathCall.TheVariants.{Mkdir, Create, Unlink, Rmdir, Rmtree}
 use Rattle.volume.specs.Holes.{hole_in}
 use Rattle.volume.specs.Volumes.{PVolume, Means}
-use Rattle.recovery.specs.declared.stopped.Stopped.{Stopped}
+use Rattle.recovery.specs.declared.replay_error.ReplayError.{ReplayError}
 
 -- the file call of a change that asks for a path alone
-abbrev pub call_at : PathChange → Path → Call
+abbrev pub call_at : PathCall → Path → Call
 call_at Mkdir p = ask.Mkdir p
 call_at Create p = ask.Create p
 call_at Unlink p = ask.Unlink p
@@ -25,7 +25,7 @@ call_at Rmdir p = ask.Rmdir p
 call_at Rmtree p = ask.Rmtree p
 
 -- what a change asks of a world
-abbrev pub event_in : World → Change → Event
+abbrev pub event_in : World → WalEntry → Event
 event_in w (OnPath what p at) = Ask (call_at what p) at
 event_in w (Rename o n at) = Ask (ask.Rename o n) at
 event_in w (Truncate p len at) = Ask (ask.Truncate p len) at
@@ -42,58 +42,58 @@ fault_of (Settled (Err e)) = Some e
 fault_of _ = None
 
 -- why a world refuses a change, if it does
-abbrev pub fault_in : World → Change → Option Errno
+abbrev pub fault_in : World → WalEntry → Option Errno
 fault_in w c = fault_of (outcome w (event_in w c)).1
 
 -- the world after a change
-abbrev pub made : World → Change → World
+abbrev pub made : World → WalEntry → World
 made w c = (outcome w (event_in w c)).0
 
 -- and after changes, one after the other
-abbrev pub after : World → List Change → World
+abbrev pub after : World → List WalEntry → World
 after w [] = w
 after w (c ∷ cs) = after (made w c) cs
 
 -- none of the changes is refused
-abbrev pub AllDone : World → List Change → Type 0
+abbrev pub AllDone : World → List WalEntry → Type 0
 AllDone w [] = ⊤
 AllDone w (c ∷ cs) = (fault_in w c ≡ None) × AllDone (made w c) cs
 
 -- ---- what became of a volume
 
 -- in each world that it meant, the changes are done, and it now means the world after them
-abbrev pub Reaches : List Change → PVolume → PVolume → Type 0
+abbrev pub Reaches : List WalEntry → PVolume → PVolume → Type 0
 Reaches cs old new = (w : World) → Means old w → AllDone w cs × Means new (after w cs)
 
 -- each world that the volume means answers the change with this fault: its own, or want of memory where that may be
-abbrev pub IsRefused : Change → Errno → PVolume → Type 0
+abbrev pub IsRefused : WalEntry → Errno → PVolume → Type 0
 IsRefused c e v = (w : World) → Means v w → (a : Answer) × Fits w (event_in w c) a × (fault_of a ≡ Some e)
 
 -- the change was done; or it was refused so, and nothing changed
-abbrev pub Makes : Change → Result (Unit {0}) Errno → PVolume → PVolume → Type 0
+abbrev pub Makes : WalEntry → Result (Unit {0}) Errno → PVolume → PVolume → Type 0
 Makes c (Ok u) old new = Reaches (c ∷ []) old new
 Makes c (Err e) old new = (new ≡ old) × IsRefused c e old
 
 -- the changes before one were done, and that one was refused
-pub record Stops (cs : List Change) (s : Stopped) (old new : PVolume) : Type 0 where
-  pub before : List Change
-  pub change : Change
-  pub behind : List Change
+pub record Stops (cs : List WalEntry) (s : ReplayError) (old new : PVolume) : Type 0 where
+  pub before : List WalEntry
+  pub change : WalEntry
+  pub behind : List WalEntry
   pub is : cs ≡ before ++ change ∷ behind
   pub place : s.done ≡ length before
   pub reaches : Reaches before old new
   pub why : IsRefused change s.fault new
 
 -- all changes were done, or those before the first that was refused
-abbrev pub Runs : List Change → Result (Unit {0}) Stopped → PVolume → PVolume → Type 0
+abbrev pub Runs : List WalEntry → Result (Unit {0}) ReplayError → PVolume → PVolume → Type 0
 Runs cs r old new = MatchResult r (λ u. Reaches cs old new) (λ s. Stops cs s old new)
 
 -- bytes were no body, or memory was refused for reading them: nothing was done
-pub record Unread (body : List ℕ) (s : Stopped) (old new : PVolume) : Type 0 where
+pub record Unread (body : List ℕ) (s : ReplayError) (old new : PVolume) : Type 0 where
   pub none : s.done ≡ 0
   pub why : RefusesBody body s.fault
   pub same : new ≡ old
 
 -- the changes of a body were run; or it was not read
-abbrev pub RunsBody : List ℕ → Result (Unit {0}) Stopped → PVolume → PVolume → Type 0
-RunsBody body r old new = ((cs : List Change) × (body ≡ body_of cs) × Runs cs r old new) ⊎ MatchResult r (λ u. ⊥) (λ s. Unread body s old new)
+abbrev pub RunsBody : List ℕ → Result (Unit {0}) ReplayError → PVolume → PVolume → Type 0
+RunsBody body r old new = ((cs : List WalEntry) × (body ≡ body_of cs) × Runs cs r old new) ⊎ MatchResult r (λ u. ⊥) (λ s. Unread body s old new)

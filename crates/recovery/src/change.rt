@@ -5,26 +5,30 @@ ghost use Rattle.volume.specs.Changes.{Called};
 ghost use Rattle.std.specs.Prelude.{◌≡◌, Err, MatchResult, Ok};
 ghost use Rattle.recovery.specs.Runs.{Makes, call_at};
 
-use logs::{Change, Keeping, PathChange};
+use logs::{PathCall, SnapshotCall, WalEntry};
 use pathkey::{Errno, Path, SnapName};
 use std::alloc::Global;
 use volume::Volume;
 
 // Does a change.
-pub(crate) fn make(alloc: Global, volume: &mut Volume, change: &Change) -> Result<(), Errno>
+pub(crate) fn apply_entry(
+    alloc: Global,
+    volume: &mut Volume,
+    change: &WalEntry,
+) -> Result<(), Errno>
     ensures { Makes change.now result volume.old volume.new }
 {
     match change {
-        Change::OnPath(what, path, at) => make_on_path(alloc, volume, *what, path, *at),
-        Change::Rename(old, new, at) => volume.rename(alloc, old, new, *at),
-        Change::Truncate(path, length, at) => volume.truncate(alloc, path, *length, *at),
-        Change::Write(path, offset, bytes, at) => {
+        WalEntry::OnPath(what, path, at) => make_on_path(alloc, volume, *what, path, *at),
+        WalEntry::Rename(old, new, at) => volume.rename(alloc, old, new, *at),
+        WalEntry::Truncate(path, length, at) => volume.truncate(alloc, path, *length, *at),
+        WalEntry::Write(path, offset, bytes, at) => {
             settled(volume.write(alloc, path, *offset, bytes.as_slice(), *at))
         }
-        Change::Punch(path, offset, count, at) => {
+        WalEntry::Punch(path, offset, count, at) => {
             settled(volume.punch(alloc, path, *offset, *count, *at))
         }
-        Change::Keep(what, name) => keep(alloc, volume, *what, name),
+        WalEntry::Keep(what, name) => keep(alloc, volume, *what, name),
     }
 }
 
@@ -42,28 +46,33 @@ fn settled(counted: Result<u64, Errno>) -> Result<(), Errno>
 fn make_on_path(
     alloc: Global,
     volume: &mut Volume,
-    what: PathChange,
+    what: PathCall,
     path: &Path,
     at: u64,
 ) -> Result<(), Errno>
     ensures { Called (call_at what path.now) at (replied (λ _. Done) result) volume.old volume.new }
 {
     match what {
-        PathChange::Mkdir => volume.mkdir(alloc, path, at),
-        PathChange::Create => volume.create(alloc, path, at),
-        PathChange::Unlink => volume.unlink(alloc, path, at),
-        PathChange::Rmdir => volume.rmdir(alloc, path, at),
-        PathChange::Rmtree => volume.rmtree(alloc, path, at),
+        PathCall::Mkdir => volume.mkdir(alloc, path, at),
+        PathCall::Create => volume.create(alloc, path, at),
+        PathCall::Unlink => volume.unlink(alloc, path, at),
+        PathCall::Rmdir => volume.rmdir(alloc, path, at),
+        PathCall::Rmtree => volume.rmtree(alloc, path, at),
     }
 }
 
 // Keeps, removes or restores a snapshot.
-fn keep(alloc: Global, volume: &mut Volume, what: Keeping, name: &SnapName) -> Result<(), Errno>
-    ensures { Makes (Change.Keep what name.now) result volume.old volume.new }
+fn keep(
+    alloc: Global,
+    volume: &mut Volume,
+    what: SnapshotCall,
+    name: &SnapName,
+) -> Result<(), Errno>
+    ensures { Makes (WalEntry.Keep what name.now) result volume.old volume.new }
 {
     match what {
-        Keeping::Snapshot => volume.snapshot(alloc, name),
-        Keeping::Remove => volume.drop_snapshot(name),
-        Keeping::Restore => volume.restore(name),
+        SnapshotCall::Snapshot => volume.snapshot(alloc, name),
+        SnapshotCall::Remove => volume.drop_snapshot(name),
+        SnapshotCall::Restore => volume.restore(name),
     }
 }

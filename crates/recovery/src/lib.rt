@@ -3,10 +3,10 @@
 
 mod change;
 pub mod laws;
+pub mod replay_error;
 pub mod replays;
 pub mod run;
-pub mod stopped;
 
-pub use replays::{Replayed, replay};
-pub use run::{run_body, run_changes};
-pub use stopped::Stopped;
+pub use replay_error::ReplayError;
+pub use replays::{ReplayReport, replay};
+pub use run::{replay_body, replay_entries};

@@ -1,20 +1,24 @@
 //! Runs changes, and bodies of records.
 ghost use Rattle.recovery.specs.Runs.{Runs, RunsBody};
 
-use crate::change::make;
-use crate::stopped::Stopped;
-use logs::{Change, read_changes};
+use crate::change::apply_entry;
+use crate::replay_error::ReplayError;
+use logs::{WalEntry, decode_entries};
 use std::alloc::Global;
 use volume::Volume;
 
 /// Does changes, one after the other, up to the first that is refused.
-pub fn run_changes(alloc: Global, volume: &mut Volume, changes: &[Change]) -> Result<(), Stopped>
+pub fn replay_entries(
+    alloc: Global,
+    volume: &mut Volume,
+    changes: &[WalEntry],
+) -> Result<(), ReplayError>
     ensures { Runs changes.now result volume.old volume.new }
 {
     let mut done = 0;
     for change in changes {
-        if let Err(fault) = make(alloc, volume, change) {
-            return Err(Stopped { done, fault });
+        if let Err(fault) = apply_entry(alloc, volume, change) {
+            return Err(ReplayError { done, fault });
         }
         done += 1;
     }
@@ -23,11 +27,11 @@ pub fn run_changes(alloc: Global, volume: &mut Volume, changes: &[Change]) -> Re
 
 /// Does the changes of the body of a record, up to the first that is refused. Bytes that are no body are refused with EINVAL, and want
 /// of memory for reading them with ENOMEM: then nothing was done.
-pub fn run_body(alloc: Global, volume: &mut Volume, body: &[u8]) -> Result<(), Stopped>
+pub fn replay_body(alloc: Global, volume: &mut Volume, body: &[u8]) -> Result<(), ReplayError>
     ensures { RunsBody body.now result volume.old volume.new }
 {
-    match read_changes(alloc, body) {
-        Ok(changes) => run_changes(alloc, volume, changes.as_slice()),
-        Err(fault) => Err(Stopped { done: 0, fault }),
+    match decode_entries(alloc, body) {
+        Ok(changes) => replay_entries(alloc, volume, changes.as_slice()),
+        Err(fault) => Err(ReplayError { done: 0, fault }),
     }
 }

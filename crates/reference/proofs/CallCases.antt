@@ -28,9 +28,9 @@ pub written_cases : (P : Outcome → Type 0) (at : ℕ) (t : Tree) (p : Path) (o
 unfolding NoFaults
 written_cases P at t p off w refused empty done =
     let here : At = entry_at t p in
-    let laid : Outcome = (edited t p (Some (File at (over (bytes_of here) off w))), Count (length w)) in
-    unless_holds P t (faults_of_write t p off w) (cond (is_empty w) (t, Count 0) laid) refused
-    (λ f. elim (is_empty w) as (λ b. is_empty w ≡ b → when (not b && nat_lt greatest_file (off + length w)) EFBIG ≡ None → P (cond {A = Outcome} b (t, Count 0) laid)) [
+    let written_over : Outcome = (edited t p (Some (File at (over (bytes_of here) off w))), Count (length w)) in
+    unless_holds P t (faults_of_write t p off w) (cond (is_empty w) (t, Count 0) written_over) refused
+    (λ f. elim (is_empty w) as (λ b. is_empty w ≡ b → when (not b && nat_lt greatest_file (off + length w)) EFBIG ≡ None → P (cond {A = Outcome} b (t, Count 0) written_over)) [
       | true ↦ λ e g. empty e
       | false ↦ λ e g. done f.0 (when_none (is_directory here) EISDIR f.1.0) e (when_none (nat_lt greatest_file (off + length w)) EFBIG g)
     ] refl f.1.1.0)
@@ -88,11 +88,11 @@ unfolding NoFaults
 renamed_cases P t o n refused stay done =
     let from : At = entry_at t o in
     let to : At = entry_at t n in
-    let laid : Outcome = (placed (edited t o None) n from, Done) in
-    unless_holds P t (faults_of_rename_from t o) (cond (same_path o n) (t, Done) (unless t (faults_of_rename t o n) laid)) refused
-    (λ f. elim (same_path o n) as (λ b. same_path o n ≡ b → P (cond {A = Outcome} b (t, Done) (unless t (faults_of_rename t o n) laid))) [
+    let written_over : Outcome = (placed (edited t o None) n from, Done) in
+    unless_holds P t (faults_of_rename_from t o) (cond (same_path o n) (t, Done) (unless t (faults_of_rename t o n) written_over)) refused
+    (λ f. elim (same_path o n) as (λ b. same_path o n ≡ b → P (cond {A = Outcome} b (t, Done) (unless t (faults_of_rename t o n) written_over))) [
       | true ↦ λ e. stay e
-      | false ↦ λ e. unless_holds P t (faults_of_rename t o n) laid refused (λ g. done (record {
+      | false ↦ λ e. unless_holds P t (faults_of_rename t o n) written_over refused (λ g. done (record {
         not_root = not_root o (when_none (is_root o) EBUSY f.0);
         there = f.1.0;
         apart = e;

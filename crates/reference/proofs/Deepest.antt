@@ -6,7 +6,7 @@ use Rattle.pathkey.specs.Names.{text_len}
 use Rattle.pathkey.proofs.OrderFacts.{same_itself, same_true}
 use Rattle.reference.specs.Tree.{same, Name, Path, Tree, Dir, File, Entries, nothing, entry, named, found, onward}
 use Rattle.reference.specs.Calls.{deepest, deepest_of}
-use Rattle.reference.specs.Looks.{Look, Directory, Bytes, seen, look}
+use Rattle.reference.specs.Reads.{Look, Directory, Bytes, seen, look}
 use Rattle.reference.specs.Shape.{Rising, RisingEntries}
 use Rattle.reference.proofs.Edits.{fold-Missing}
 use Rattle.reference.proofs.Sight.{none_above}

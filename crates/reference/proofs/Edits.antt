@@ -5,7 +5,7 @@ use Rattle.std.specs.Ordering.{is_eq}
 use Rattle.std.specs.declared.cmp.Ordering.TheVariants.{Less, Equal, Greater}
 use Rattle.reference.specs.Tree.{by_bytes, same, by_order, Name, Path, Tree, Dir, File, Entries, nothing, entry, named, put, take_out, set_entry, At, Missing, Blocked, Found, found, onward, entry_at, edited, dated, touched}
 use Rattle.reference.specs.Calls.{parent, no_directory_fault, parent_fault}
-use Rattle.reference.specs.Looks.{seen, look, rest_of, look_after, Sight, Seen, look_of, sighted, sight, sight_after, sight_touched}
+use Rattle.reference.specs.Reads.{seen, look, rest_of, look_after, Sight, Seen, look_of, sighted, sight, sight_after, sight_touched}
 use Rattle.pathkey.proofs.OrderFacts.{equal, same_itself, same_true, same_false, apart}
 
 pub named-put_same : (n : Name) (x : Tree) (es : Entries) → named n (put n x es) ≡ Some x

@@ -4,7 +4,7 @@ use Rattle.std.specs.Prelude.{option_map}
 use Rattle.reference.specs.Tree.{Path, Tree, Dir, File, nothing, entry, At, Found, Missing, Blocked, entry_at, edited}
 use Rattle.reference.specs.Calls.{Outcome, is_found, is_file, is_full, path_fault, made, changed}
 use Rattle.reference.specs.Shape.{IsTree}
-use Rattle.reference.specs.Looks.{Directory, Bytes, Sight, Seen, look_of, sighted}
+use Rattle.reference.specs.Reads.{Directory, Bytes, Sight, Seen, look_of, sighted}
 use Rattle.pathkey.specs.Names.{IsPath}
 use Rattle.pathkey.specs.Keys.{enc, block_key, blocks_from}
 use Rattle.reference.specs.Indexes.{Metadata, Blocks, MetaMeans, most_blocks, Hold, BlocksMean, put_at, deleted_at, cleared}

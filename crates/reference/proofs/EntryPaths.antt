@@ -6,7 +6,7 @@ use Rattle.std.proofs.lemmas.Bool.{and_from}
 use Rattle.pathkey.specs.Names.{EachName, IsPath, is_root, is_under, parent, same_path, text_len}
 use Rattle.pathkey.proofs.OrderFacts.{same_itself, same_true}
 use Rattle.reference.specs.Tree.{same, Name, Path, Tree, Found, entry_at, onward}
-use Rattle.reference.specs.Looks.{rest_of}
+use Rattle.reference.specs.Reads.{rest_of}
 
 pub append-nil : (p : Path) → p ++ [] ≡ p
 append-nil [] = refl

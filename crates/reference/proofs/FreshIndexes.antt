@@ -3,7 +3,7 @@ use Rattle.std.proofs.Common.{◌≡◌, ℕ, List, [], ◌∷◌, ◌++◌, sym
 use Rattle.pathkey.specs.Names.{Name, Path, IsPath}
 use Rattle.pathkey.specs.Keys.{Key, enc}
 use Rattle.reference.specs.Tree.{Dir, nothing}
-use Rattle.reference.specs.Looks.{Look, Directory, Bytes, look, Sight, Seen, date_of, sighted, sight}
+use Rattle.reference.specs.Reads.{Look, Directory, Bytes, look, Sight, Seen, date_of, sighted, sight}
 use Rattle.reference.specs.Shape.{IsMoment, IsTree}
 use Rattle.reference.specs.Indexes.{meta_of, PathOf, IndexesMean, put_at}
 use Rattle.reference.specs.declared.reply.Meta.{Meta}

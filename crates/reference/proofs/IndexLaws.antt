@@ -6,7 +6,7 @@ use Rattle.pathkey.proofs.PathFacts.{parent_names, parent_len}
 use Rattle.reference.specs.Tree.{Path, Tree, touched, all_touched}
 use Rattle.reference.specs.Calls.{Outcome, parent, same_path, once, parents_of, changed, does}
 use Rattle.reference.specs.Shape.{IsMoment, IsTree, IsCall}
-use Rattle.reference.specs.Looks.{Directory, Bytes, Sight, Seen, sight, redated}
+use Rattle.reference.specs.Reads.{Directory, Bytes, Sight, Seen, sight, redated}
 use Rattle.reference.specs.Indexes.{Metadata, Blocks, IndexesMean, meta_of, put_at, deleted_at, cleared, edit_at, moved, touch, touch_at}
 use Rattle.reference.specs.Laws.{TouchLaw, MkdirLaw, CreateLaw, WriteLaw, TruncateLaw, LengthenLaw, UnlinkLaw, RmdirLaw, RmtreeLaw, RenameLaw}
 use Rattle.reference.specs.declared.call.Call.{Call}

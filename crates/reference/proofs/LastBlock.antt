@@ -69,8 +69,8 @@ pub record LastBlock (b : List ℕ) (i : ℕ) (v : List ℕ) : Type 0 where
   pub trims : trimmed v ≡ v
 
 -- it is what its block holds
-laid : (b : List ℕ) (i : ℕ) (v : List ℕ) → LastBlock b i v → trimmed (take 4096 (drop (4096 * i) (over b (4096 * i) v))) ≡ v
-laid b i v h = trimmed_same (take 4096 (drop (4096 * i) (over b (4096 * i) v))) v (λ k. ⊎_elim
+written_over : (b : List ℕ) (i : ℕ) (v : List ℕ) → LastBlock b i v → trimmed (take 4096 (drop (4096 * i) (over b (4096 * i) v))) ≡ v
+written_over b i v h = trimmed_same (take 4096 (drop (4096 * i) (over b (4096 * i) v))) v (λ k. ⊎_elim
     (λ (l : k < length v).
     let most : length v ≤ 4096 = h.most in
     let at : 4096 * i + k - 4096 * i ≡ k = omega arith in
@@ -102,5 +102,5 @@ block_end b i v h =
     let new_count : length b / 4096 + 1 ≡ suc i + d = omega arith in
     ap (block_lines c) new_count
     ∙ no_more_lines c (suc i) d (λ x g. zeros_behind b i v h x (omega arith))
-    ∙ ap (λ (x : List ℕ). block_lines c i ++ block_line i x) (laid b i v h)
+    ∙ ap (λ (x : List ℕ). block_lines c i ++ block_line i x) (written_over b i v h)
     ∙ ap (λ (t : Text). t ++ block_line i v) (same_lines c b i (λ x l. over_before b (4096 * i) v x l) ∙ sym (no_more_lines b i (suc d) h.zeros) ∙ ap (block_lines b) (sym old_count))

@@ -9,7 +9,7 @@ use Rattle.pathkey.specs.Names.{Name, Path, IsPath, EachName as AreNames}
 use Rattle.pathkey.proofs.OrderFacts.{tied}
 use Rattle.reference.specs.Calls.{parent, no_directory_fault, parent_fault}
 use Rattle.reference.specs.Image.{Text, Version, directory_line, root_line, image, lines, lines_of, path_text}
-use Rattle.reference.specs.Looks.{Look, Directory, Bytes, look, seen}
+use Rattle.reference.specs.Reads.{Look, Directory, Bytes, look, seen}
 use Rattle.reference.specs.Shape.{AllAbove, IsTree, RisingEntries}
 use Rattle.reference.specs.Tree.{by_bytes, by_order, Tree, Dir, File, Entries, nothing, entry, named, put, set_entry, edited, At, Found, Missing, Blocked, found, onward, entry_at}
 use Rattle.reference.proofs.Edits.{fold-Missing, fold-Blocked}

@@ -3,7 +3,7 @@ use Rattle.std.proofs.Common.{◌≡◌, ◌≢◌, ⊎_elim, ℕ, ◌+◌, ◌*
 use Rattle.std.proofs.lemmas.Fmt.{length-decimal-le}
 use Rattle.pathkey.specs.Names.{Name, Path, text_len}
 use Rattle.reference.specs.Image.{path_text, percent, two_digits, Version, First, Second, moment_text, root_line}
-use Rattle.reference.specs.ImageLines.{Line, DirectoryLine, FileLine, BlockLine, spelled, IsTold, IsLine}
+use Rattle.reference.specs.ImageLines.{Line, DirectoryLine, FileLine, BlockLine, spelled, IsReported, IsLine}
 use Rattle.reference.proofs.ImageTexts.{percent_cases}
 
 percent_length : (b : ℕ) → length (percent b) ≤ 3
@@ -35,7 +35,7 @@ hex_length (x ∷ b) =
     let both : length (two_digits 87 x ++ flat_map (two_digits 87) b) ≡ length (two_digits 87 x) + length (flat_map (two_digits 87) b) = length-append (two_digits 87 x) (flat_map (two_digits 87) b) in
     omega arith
 
-moment_length : (v : Version) (at : ℕ) → IsTold v at → length (moment_text v at) ≤ 21
+moment_length : (v : Version) (at : ℕ) → IsReported v at → length (moment_text v at) ≤ 21
 moment_length First at h = omega arith
 moment_length Second at h = let number : length (decimal at) ≤ 20 = length-decimal-le 20 at (omega arith) (omega arith) (omega arith) in omega arith
 
@@ -65,5 +65,5 @@ line_length v (BlockLine i b) h =
     omega arith
 
 -- the root's line is short
-pub root_length : (v : Version) (root : ℕ) → IsTold v root → length (root_line v root) ≤ 65536
+pub root_length : (v : Version) (root : ℕ) → IsReported v root → length (root_line v root) ≤ 65536
 root_length v root h = let date : length (moment_text v root) ≤ 21 = moment_length v root h in omega arith

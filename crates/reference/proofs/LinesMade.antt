@@ -10,8 +10,8 @@ use Rattle.pathkey.specs.Names.{Path, IsPath, parent}
 use Rattle.pathkey.proofs.OrderFacts.{same_true, apart}
 use Rattle.reference.specs.Calls.{bytes_of, is_found, parent_fault, path_fault}
 use Rattle.reference.specs.Image.{Text, Version, First, Second, file_line, root_line, image, lines, block_line, block_lines, path_text}
-use Rattle.reference.specs.ImageLines.{DirectoryLine, FileLine, BlockLine, Lines, spelled, image_of_lines, last_path, last_len, next_block, HasDirectory, IsNewEntry, IsNewBlock, IsTold, AreLines, tree_of_lines, AllTold, LinesLaw}
-use Rattle.reference.specs.Looks.{Look, Directory, Bytes, look, seen, Sight, Seen, date_of, sighted, sight}
+use Rattle.reference.specs.ImageLines.{DirectoryLine, FileLine, BlockLine, Lines, spelled, image_of_lines, last_path, last_len, next_block, HasDirectory, IsNewEntry, IsNewBlock, IsReported, AreLines, tree_of_lines, AllReported, LinesLaw}
+use Rattle.reference.specs.Reads.{Look, Directory, Bytes, look, seen, Sight, Seen, date_of, sighted, sight}
 use Rattle.reference.specs.Shape.{IsContent, IsMoment, IsTree}
 use Rattle.reference.specs.Tree.{by_bytes, same, Tree, Dir, File, nothing, edited, over, At, Found, Missing, Blocked, entry_at, moment, moment_there}
 use Rattle.reference.proofs.Contents.{content-over, zeros as are_zeros}
@@ -82,13 +82,13 @@ path_cases (n ∷ p) (m ∷ q) = elim (same n m) as (λ b. same n m ≡ b → ((
 -- ---- moments
 
 -- a moment that a version tells is one
-pub told_early : (v : Version) (at : ℕ) → IsTold v at → IsMoment at
-told_early First at h = omega arith
-told_early Second at h = h
+pub reported_early : (v : Version) (at : ℕ) → IsReported v at → IsMoment at
+reported_early First at h = omega arith
+reported_early Second at h = h
 
 -- every moment that is seen is one that the version tells
 abbrev AllSeen : Version → Tree → Type 0
-AllSeen v t = (p : Path) (s : Sight) → sight t p ≡ Some s → IsTold v (date_of s)
+AllSeen v t = (p : Path) (s : Sight) → sight t p ≡ Some s → IsReported v (date_of s)
 
 -- ---- what is kept of lines
 
@@ -107,7 +107,7 @@ pub record LastFile (v : Version) (root : ℕ) (ls : Lines) (n : ℕ) : Type 0 w
 pub record Made (v : Version) (root : ℕ) (ls : Lines) : Type 0 where
   pub tree : IsTree (tree_of_lines root ls)
   pub image_is : image v (tree_of_lines root ls) ≡ image_of_lines v root ls
-  pub told : AllSeen v (tree_of_lines root ls)
+  pub reported : AllSeen v (tree_of_lines root ls)
   pub directory : (q : Path) → HasDirectory ls q → look (tree_of_lines root ls) q ≡ Some Directory
   pub has : (q : Path) → look (tree_of_lines root ls) q ≡ Some Directory → HasDirectory ls q
   pub last : (q : Path) (l : Look) → look (tree_of_lines root ls) q ≡ Some l → (q ≡ last_path ls) ⊎ (by_bytes (enc q) (enc (last_path ls)) ≡ Less)
@@ -154,19 +154,19 @@ last_after root p ls t k r at q l e = ⊎_elim
     (path_cases p q)
 
 -- moments that the version tells, also of what changed
-told_after : (v : Version) (t u : Tree) (p : Path) (l : Look) (date : ℕ) → IsTold v date → AllSeen v t → IsPoint t u p (Some (Seen l date)) → AllSeen v u
-told_after v t u p l date early told at q s e = ⊎_elim
+reported_after : (v : Version) (t u : Tree) (p : Path) (l : Look) (date : ℕ) → IsReported v date → AllSeen v t → IsPoint t u p (Some (Seen l date)) → AllSeen v u
+reported_after v t u p l date early reported at q s e = ⊎_elim
     (λ (is : q ≡ p).
     let here : Some (Seen l date) ≡ Some s = sym at.itself ∙ ap (sight u) (sym is) ∙ e in
     let same : Seen l date ≡ s = cc in
-    subst (λ (z : Sight). IsTold v (date_of z)) same early)
-    (λ (ne : q ≢ p). told q s (sym (at.other q ne) ∙ e))
+    subst (λ (z : Sight). IsReported v (date_of z)) same early)
+    (λ (ne : q ≢ p). reported q s (sym (at.other q ne) ∙ e))
     (path_cases p q)
 
 entry_image : (v : Version) (root : ℕ) (p : Path) (ls : Lines) (x : Tree) → Made v root ls → IsPath p → Ready root p ls → image v (edited (tree_of_lines root ls) p (Some x)) ≡ image_of_lines v root ls ++ lines v p x
 entry_image v root p ls x m path r = image_end v (tree_of_lines root ls) p x m.tree path r.some r.parent_there (λ q l ne e. r.before q l e) ∙ ap (λ (t : Text). t ++ lines v p x) m.image_is
 
-directory_made : (v : Version) (root : ℕ) (p : Path) (date : ℕ) (ls : Lines) → Made v root ls → IsNewEntry p ls → IsTold v date → Made v root (DirectoryLine p date ∷ ls)
+directory_made : (v : Version) (root : ℕ) (p : Path) (date : ℕ) (ls : Lines) → Made v root ls → IsNewEntry p ls → IsReported v date → Made v root (DirectoryLine p date ∷ ls)
 directory_made v root p date ls m h early =
     let old_tree : Tree = tree_of_lines root ls in
     let r : Ready root p ls = ready v root p ls m h in
@@ -175,9 +175,9 @@ directory_made v root p date ls m h early =
     let here : look t p ≡ Some Directory = looks_itself old_tree t p (Some (Seen Directory date)) at in
     let others : (q : Path) → q ≢ p → look t q ≡ look old_tree q = looks_other old_tree t p (Some (Seen Directory date)) at in
     record {
-      tree = put_directory old_tree p date m.tree h.path (told_early v date early) r.some r.parent_there;
+      tree = put_directory old_tree p date m.tree h.path (reported_early v date early) r.some r.parent_there;
       image_is = entry_image v root p ls (Dir date nothing) m h.path r ∙ ap (λ (s : Text). image_of_lines v root ls ++ s) (directory_spelled v p date);
-      told = told_after v old_tree t p Directory date early m.told at;
+      reported = reported_after v old_tree t p Directory date early m.reported at;
       directory = λ q d. ⊎_elim
           (λ (e : q ≡ p). subst (λ (k : Path). look t k ≡ Some Directory) (sym e) here)
           (λ (g : HasDirectory ls q). let old : look old_tree q ≡ Some Directory = m.directory q g in
@@ -191,7 +191,7 @@ directory_made v root p date ls m h early =
       file = λ n e. absurd (cc);
     }
 
-file_made : (v : Version) (root : ℕ) (p : Path) (n date : ℕ) (ls : Lines) → Made v root ls → IsNewEntry p ls → n ≤ 2 ^ 40 → IsTold v date → Made v root (FileLine p n date ∷ ls)
+file_made : (v : Version) (root : ℕ) (p : Path) (n date : ℕ) (ls : Lines) → Made v root ls → IsNewEntry p ls → n ≤ 2 ^ 40 → IsReported v date → Made v root (FileLine p n date ∷ ls)
 file_made v root p n date ls m h few early =
     let old_tree : Tree = tree_of_lines root ls in
     let r : Ready root p ls = ready v root p ls m h in
@@ -202,9 +202,9 @@ file_made v root p n date ls m h few early =
     let others : (q : Path) → q ≢ p → look t q ≡ look old_tree q = looks_other old_tree t p (Some (Seen (Bytes b) date)) at in
     let len : length b ≡ n = length-replicate n 0 in
     record {
-      tree = put_file old_tree p date b m.tree h.path (told_early v date early) (record { few = omega arith; bytes = are_zeros n }) r.some r.parent_there;
+      tree = put_file old_tree p date b m.tree h.path (reported_early v date early) (record { few = omega arith; bytes = are_zeros n }) r.some r.parent_there;
       image_is = entry_image v root p ls (File date b) m h.path r ∙ ap (λ (s : Text). image_of_lines v root ls ++ s) (zeros_spelled v p n date);
-      told = told_after v old_tree t p (Bytes b) date early m.told at;
+      reported = reported_after v old_tree t p (Bytes b) date early m.reported at;
       directory = λ q d. let old : look old_tree q ≡ Some Directory = m.directory q d in
           others q (λ e. not_below_itself (enc p) (subst (λ (k : Path). by_bytes (enc k) (enc p) ≡ Less) e (r.before q Directory old))) ∙ old;
       has = λ q e. ⊎_elim
@@ -263,13 +263,13 @@ block_made version root i v ls m h =
     let here : look t p ≡ Some (Bytes c) = looks_itself old t p (Some (Seen (Bytes c) date)) at in
     let others : (q : Path) → q ≢ p → look t q ≡ look old q = looks_other old t p (Some (Seen (Bytes c) date)) at in
     let was : look old p ≡ Some (Bytes b) = ap seen f.there in
-    let told : IsTold version date = m.told p (Seen (Bytes b) date) (ap sighted f.there) in
+    let reported : IsReported version date = m.reported p (Seen (Bytes b) date) (ap sighted f.there) in
     let content : IsContent b = m.tree.files p date b f.there in
     let few : length b ≤ 2 ^ 40 = content.few in
     record {
-      tree = subst IsTree (sym same) (put_file old p date c m.tree (m.tree.paths p (File date b) f.there) (told_early version date told) (content-over b (4096 * i) v content h.block.bytes (omega arith)) f.some parent_there);
+      tree = subst IsTree (sym same) (put_file old p date c m.tree (m.tree.paths p (File date b) f.there) (reported_early version date reported) (content-over b (4096 * i) v content h.block.bytes (omega arith)) f.some parent_there);
       image_is = ap (image version) same ∙ f.shown c ∙ line_more version (image_of_lines version root ls) f.front p date b i v f.now is_last;
-      told = subst (AllSeen version) (sym same) (told_after version old t p (Bytes c) date told m.told at);
+      reported = subst (AllSeen version) (sym same) (reported_after version old t p (Bytes c) date reported m.reported at);
       directory = λ q d. let was_there : look old q ≡ Some Directory = m.directory q d in
           ap (λ (u : Tree). look u q) same ∙ others q (λ e. let g : ◌≡◌ {A = Option Look} (Some (Bytes b)) (Some Directory) = sym was ∙ ap (look old) (sym e) ∙ was_there in cc) ∙ was_there;
       has = λ q e. let now : look t q ≡ Some Directory = ap (λ (u : Tree). look u q) (sym same) ∙ e in
@@ -293,34 +293,34 @@ block_made version root i v ls m h =
 
 -- ---- all lines
 
-root_told : (v : Version) (root : ℕ) → IsTold v root → AllSeen v (Dir root nothing)
-root_told v root early [] s e = let same : Seen Directory root ≡ s = cc in subst (λ (z : Sight). IsTold v (date_of z)) same early
-root_told v root early (n ∷ q) s e = absurd (let f : None ≡ Some s = sym (ap sighted (fold-Missing q)) ∙ e in cc)
+root_reported : (v : Version) (root : ℕ) → IsReported v root → AllSeen v (Dir root nothing)
+root_reported v root early [] s e = let same : Seen Directory root ≡ s = cc in subst (λ (z : Sight). IsReported v (date_of z)) same early
+root_reported v root early (n ∷ q) s e = absurd (let f : None ≡ Some s = sym (ap sighted (fold-Missing q)) ∙ e in cc)
 
-none_made : (v : Version) (root : ℕ) → IsTold v root → Made v root []
+none_made : (v : Version) (root : ℕ) → IsReported v root → Made v root []
 none_made v root early = record {
-  tree = empty_tree root (told_early v root early);
+  tree = empty_tree root (reported_early v root early);
   image_is = append-nil (root_line v root ++ 10 ∷ []);
-  told = root_told v root early;
+  reported = root_reported v root early;
   directory = λ q d. ap (look (Dir root nothing)) d;
   has = λ q e. only_root root q Directory e;
   last = λ q l e. inl (only_root root q l e);
   file = λ n e. absurd (cc);
 }
 
-pub made : (v : Version) (root : ℕ) (ls : Lines) → IsTold v root → AreLines v ls → Made v root ls
+pub made : (v : Version) (root : ℕ) (ls : Lines) → IsReported v root → AreLines v ls → Made v root ls
 made v root [] early h = none_made v root early
 made v root (DirectoryLine p at ∷ ls) early h = directory_made v root p at ls (made v root ls early h.1) h.0.0 h.0.1
 made v root (FileLine p n at ∷ ls) early h = file_made v root p n at ls (made v root ls early h.1) h.0.0 h.0.1 h.0.2
 made v root (BlockLine i b ∷ ls) early h = block_made v root i b ls (made v root ls early h.1) h.0
 
 -- the moments of what stands in a tree are those of what is seen
-told_there : (v : Version) (t : Tree) → AllSeen v t → AllTold v t
-told_there v t seen p x e = at x e
+reported_there : (v : Version) (t : Tree) → AllSeen v t → AllReported v t
+reported_there v t seen p x e = at x e
   where
-    at : (x : Tree) → entry_at t p ≡ Found x → IsTold v (moment x)
+    at : (x : Tree) → entry_at t p ≡ Found x → IsReported v (moment x)
     at (Dir date es) f = seen p (Seen Directory date) (ap sighted f)
     at (File date b) f = seen p (Seen (Bytes b) date) (ap sighted f)
 
 pub lines_law : LinesLaw
-lines_law v root ls early h = let m : Made v root ls = made v root ls early h in (m.tree, m.image_is, told_there v (tree_of_lines root ls) m.told)
+lines_law v root ls early h = let m : Made v root ls = made v root ls early h in (m.tree, m.image_is, reported_there v (tree_of_lines root ls) m.reported)

@@ -6,7 +6,7 @@ use Rattle.pathkey.specs.Enc.{enc}
 use Rattle.pathkey.specs.Order.{by_bytes}
 use Rattle.pathkey.specs.Names.{Path, EachName}
 use Rattle.reference.specs.Image.{Text, path_text, percent, two_digits, Version, First, Second, directory_letter, file_letter, moment_text, root_line}
-use Rattle.reference.specs.ImageLines.{Line, DirectoryLine, FileLine, BlockLine, Lines, spelled, image_of_lines, last_path, last_len, IsNewEntry, IsLine, IsTold, MayFollow, AreLines, IsImage, IsSomeImage, OneVersionLaw}
+use Rattle.reference.specs.ImageLines.{Line, DirectoryLine, FileLine, BlockLine, Lines, spelled, image_of_lines, last_path, last_len, IsNewEntry, IsLine, IsReported, MayFollow, AreLines, IsImage, IsSomeImage, OneVersionLaw}
 use Rattle.reference.proofs.ImageTexts.{Visible, Slashless, cut, path_visible, decimal_visible, hex_visible, hex_injective, name_injective, name_slashless}
 use Rattle.reference.proofs.OneImage.{letters_differ}
 use Rattle.reference.proofs.PathOrder.{none_below_root}
@@ -44,7 +44,7 @@ cut_last (x ∷ xs) (y ∷ ys) a b v w e =
 few_visible : (n : ℕ) → n ≤ 2 ^ 40 → Visible (decimal n)
 few_visible n h = decimal_visible n (omega arith)
 
-moment_free : (v : Version) (at : ℕ) → IsTold v at → NoFeed (moment_text v at)
+moment_free : (v : Version) (at : ℕ) → IsReported v at → NoFeed (moment_text v at)
 moment_free First at h = tt
 moment_free Second at h = ((λ e. omega arith), visible_no_feed (decimal at) (decimal_visible at h))
 
@@ -70,7 +70,7 @@ spelled_no_feed v (BlockLine i b) h = (
 )
 
 -- the root's line has no line feed
-pub root_free : (v : Version) (root : ℕ) → IsTold v root → NoFeed (root_line v root)
+pub root_free : (v : Version) (root : ℕ) → IsReported v root → NoFeed (root_line v root)
 root_free v root h = ((letter_free v).0, ((λ e. omega arith), ((λ e. omega arith), moment_free v root h)))
 
 -- ---- which path a text tells
@@ -111,17 +111,17 @@ first [] = 0
 first (x ∷ xs) = x
 
 -- a moment is known from the end of its line
-moment_injective : (v : Version) (a b : ℕ) → IsTold v a → IsTold v b → moment_text v a ≡ moment_text v b → a ≡ b
+moment_injective : (v : Version) (a b : ℕ) → IsReported v a → IsReported v b → moment_text v a ≡ moment_text v b → a ≡ b
 moment_injective First a b h g e = h ∙ sym g
 moment_injective Second a b h g e = decimal_injective a b h g (cc)
 
-directory_cut : (v : Version) (p q : Path) (a b : ℕ) → IsTold v a → IsTold v b → path_text p ++ moment_text v a ≡ path_text q ++ moment_text v b → (path_text p ≡ path_text q) × (a ≡ b)
+directory_cut : (v : Version) (p q : Path) (a b : ℕ) → IsReported v a → IsReported v b → path_text p ++ moment_text v a ≡ path_text q ++ moment_text v b → (path_text p ≡ path_text q) × (a ≡ b)
 directory_cut First p q a b h g e = (sym (append-nil (path_text p)) ∙ e ∙ append-nil (path_text q), h ∙ sym g)
 directory_cut Second p q a b h g e =
     let parts : (path_text p ≡ path_text q) × (decimal a ≡ decimal b) = cut (path_text p) (path_text q) 32 32 (decimal a) (decimal b) (path_visible p) (path_visible q) (omega arith) (omega arith) e in
     (parts.0, decimal_injective a b h g parts.1)
 
-length_cut : (v : Version) (n m a b : ℕ) → n ≤ 2 ^ 40 → m ≤ 2 ^ 40 → IsTold v a → IsTold v b → decimal n ++ moment_text v a ≡ decimal m ++ moment_text v b → (n ≡ m) × (a ≡ b)
+length_cut : (v : Version) (n m a b : ℕ) → n ≤ 2 ^ 40 → m ≤ 2 ^ 40 → IsReported v a → IsReported v b → decimal n ++ moment_text v a ≡ decimal m ++ moment_text v b → (n ≡ m) × (a ≡ b)
 length_cut First n m a b few_n few_m h g e = (decimal_injective n m (omega arith) (omega arith) (sym (append-nil (decimal n)) ∙ e ∙ append-nil (decimal m)), h ∙ sym g)
 length_cut Second n m a b few_n few_m h g e =
     let parts : (decimal n ≡ decimal m) × (decimal a ≡ decimal b) = cut (decimal n) (decimal m) 32 32 (decimal a) (decimal b) (few_visible n few_n) (few_visible m few_m) (omega arith) (omega arith) e in
@@ -203,13 +203,13 @@ alone line t a f v is e =
     feed_clash f a (subst NoFeed (sym outer.0) v)
 
 -- the root's moment is known from its line
-root_injective : (v : Version) (root top : ℕ) → IsTold v root → IsTold v top → root_line v root ++ 10 ∷ [] ≡ root_line v top ++ 10 ∷ [] → root ≡ top
+root_injective : (v : Version) (root top : ℕ) → IsReported v root → IsReported v top → root_line v root ++ 10 ∷ [] ≡ root_line v top ++ 10 ∷ [] → root ≡ top
 root_injective v root top h g e =
     let outer : (root_line v root ≡ root_line v top) × ([] ≡ []) = cut_last (root_line v root) (root_line v top) [] [] tt tt e in
     moment_injective v root top h g (let same : directory_letter v ∷ 32 ∷ 47 ∷ moment_text v root ≡ directory_letter v ∷ 32 ∷ 47 ∷ moment_text v top = outer.0 in cc)
 
 -- lines and the root's moment are known from their text
-pub lines_injective : (v : Version) (root top : ℕ) (ls ks : Lines) → IsTold v root → IsTold v top → AreLines v ls → AreLines v ks → image_of_lines v root ls ≡ image_of_lines v top ks → (root ≡ top) × (ls ≡ ks)
+pub lines_injective : (v : Version) (root top : ℕ) (ls ks : Lines) → IsReported v root → IsReported v top → AreLines v ls → AreLines v ks → image_of_lines v root ls ≡ image_of_lines v top ks → (root ≡ top) × (ls ≡ ks)
 lines_injective v root top [] [] h g u w e = (root_injective v root top h g e, refl)
 lines_injective v root top [] (k ∷ ks) h g u w e = absurd (let f = ends_with_feed v top ks in alone (root_line v root) (image_of_lines v top ks) (spelled v k) f.0 (root_free v root h) f.1 (sym e))
 lines_injective v root top (l ∷ ls) [] h g u w e = absurd (let f = ends_with_feed v root ls in alone (root_line v top) (image_of_lines v root ls) (spelled v l) f.0 (root_free v top g) f.1 e)
@@ -261,13 +261,13 @@ pub record IsNext (v : Version) (ls : Lines) (line : Text) : Type 0 where
   pub follows : MayFollow v next ls
   pub is : line ≡ spelled v next
 
-pub next_line : (v : Version) (root : ℕ) (ls : Lines) (line : Text) → IsTold v root → AreLines v ls → NoFeed line → IsSomeImage (image_of_lines v root ls ++ (line ++ 10 ∷ [])) → IsNext v ls line
-next_line v root ls line early u free some = go h.root h.lines h.told h.are h.is
+pub next_line : (v : Version) (root : ℕ) (ls : Lines) (line : Text) → IsReported v root → AreLines v ls → NoFeed line → IsSomeImage (image_of_lines v root ls ++ (line ++ 10 ∷ [])) → IsNext v ls line
+next_line v root ls line early u free some = go h.root h.lines h.reported h.are h.is
   where
     h : IsImage v (image_of_lines v root ls ++ (line ++ 10 ∷ []))
     h = of_version v root ls (line ++ 10 ∷ []) some
 
-    go : (top : ℕ) (ks : Lines) → IsTold v top → AreLines v ks → image_of_lines v root ls ++ (line ++ 10 ∷ []) ≡ image_of_lines v top ks → IsNext v ls line
+    go : (top : ℕ) (ks : Lines) → IsReported v top → AreLines v ks → image_of_lines v root ls ++ (line ++ 10 ∷ []) ≡ image_of_lines v top ks → IsNext v ls line
     go top [] g w e = absurd (let f = ends_with_feed v root ls in alone (root_line v top) (image_of_lines v root ls) line f.0 (root_free v top g) f.1 e)
     go top (k ∷ ks) g w e =
         let f = ends_with_feed v root ls in
@@ -283,7 +283,7 @@ next_line v root ls line early u free some = go h.root h.lines h.told h.are h.is
 pub record IsFirst (line : Text) : Type 0 where
   pub version : Version
   pub root : ℕ
-  pub told : IsTold version root
+  pub reported : IsReported version root
   pub is : line ≡ root_line version root
 
 -- it is the root's
@@ -291,7 +291,7 @@ pub first_line : (line : Text) → NoFeed line → IsSomeImage (line ++ 10 ∷ [
 first_line line free some = go some.1.lines some.1.is
   where
     go : (ks : Lines) → line ++ 10 ∷ [] ≡ image_of_lines some.0 some.1.root ks → IsFirst line
-    go [] e = record { version = some.0; root = some.1.root; told = some.1.told; is = (cut_last line (root_line some.0 some.1.root) [] [] tt tt e).0 }
+    go [] e = record { version = some.0; root = some.1.root; reported = some.1.reported; is = (cut_last line (root_line some.0 some.1.root) [] [] tt tt e).0 }
     go (k ∷ ks) e = absurd (
         let g = ends_with_feed some.0 some.1.root ks in
         let outer : (line ≡ g.0 ++ 10 ∷ spelled some.0 k) × ([] ≡ []) = cut_last line (g.0 ++ 10 ∷ spelled some.0 k) [] [] tt tt (e ∙ line_behind g.0 (image_of_lines some.0 some.1.root ks) (spelled some.0 k) g.1) in

@@ -5,7 +5,7 @@ use Rattle.std.proofs.lemmas.List.Elements.{Contains-append_left, Contains-appen
 use Rattle.pathkey.proofs.OrderFacts.{same_true, same_from_eq}
 use Rattle.reference.specs.Tree.{same, Name, Path, Tree, Dir, File, Entries, nothing, entry, named, Found, found, entry_at}
 use Rattle.reference.specs.Calls.{kind_of, listing}
-use Rattle.reference.specs.Looks.{seen, look_kind, kind_at}
+use Rattle.reference.specs.Reads.{seen, look_kind, kind_at}
 use Rattle.reference.specs.Shape.{Rising, RisingEntries}
 use Rattle.reference.specs.declared.reply.Kind.{Kind}
 use Rattle.reference.proofs.Standing.{rising-found}

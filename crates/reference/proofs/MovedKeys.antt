@@ -5,7 +5,7 @@ use Rattle.std.proofs.lemmas.Bool.{false_from_ne_true}
 use Rattle.std.proofs.lemmas.List.{drop_at, append_cancel_left}
 use Rattle.reference.specs.Tree.{Path, Tree}
 use Rattle.reference.specs.Shape.{IsTree}
-use Rattle.reference.specs.Looks.{Look, Bytes, look, Sight, look_of, sight}
+use Rattle.reference.specs.Reads.{Look, Bytes, look, Sight, look_of, sight}
 use Rattle.pathkey.specs.Names.{EachName, IsPath}
 use Rattle.pathkey.specs.Keys.{Key, enc, block_key, subtree, is_in}
 use Rattle.reference.specs.Indexes.{Metadata, Blocks, meta_of, PathOf, MetaMeans, Hold, BlockOf, BlocksMean, moved}

@@ -65,10 +65,10 @@ no_lack at t (Mkdir p) = made_other t p (Dir at nothing)
 no_lack at t (Create p) = made_other t p (File at [])
 no_lack at t (Write p off w) =
     let here : At = entry_at t p in
-    let laid : Outcome = (with_entry t p (File at (over (bytes_of here) off w)), Count (length w)) in
-    unless_other t (faults_of_write t p off w) (cond (is_empty w) (t, Count 0) laid)
+    let written_over : Outcome = (with_entry t p (File at (over (bytes_of here) off w)), Count (length w)) in
+    unless_other t (faults_of_write t p off w) (cond (is_empty w) (t, Count 0) written_over)
     (path_other here, (when_other (is_directory here) EISDIR refl, (when_other (not (is_empty w) && nat_lt greatest_file (off + length w)) EFBIG refl, tt)))
-    (either_other (is_empty w) (t, Count 0) laid refl refl)
+    (either_other (is_empty w) (t, Count 0) written_over refl refl)
 no_lack at t (Truncate p n) =
     let here : At = entry_at t p in
     unless_other t (faults_of_truncate t p n) (with_entry t p (File at (sized (bytes_of here) n)), Done)

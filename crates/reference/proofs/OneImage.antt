@@ -3,7 +3,7 @@ use Rattle.std.proofs.Common.{◌≡◌, ◌≢◌, ◌⊎◌, inl, inr, ⊎_eli
 use Rattle.std.proofs.lemmas.Fmt.{decimal_injective}
 use Rattle.std.proofs.lemmas.List.{append_cancel_left}
 use Rattle.reference.specs.Tree.{Name, Path, Tree, Dir, File, Entries, nothing, entry}
-use Rattle.reference.specs.Image.{Text, percent, path_text, block_lines, Version, First, Second, directory_letter, file_letter, told_moment, as_told, as_told_of, root_line, lines, lines_of, image}
+use Rattle.reference.specs.Image.{Text, percent, path_text, block_lines, Version, First, Second, directory_letter, file_letter, reported_moment, as_reported, as_reported_of, root_line, lines, lines_of, image}
 use Rattle.reference.specs.Shape.{IsMoment, IsTree}
 use Rattle.reference.proofs.Images.{path_text_below}
 use Rattle.reference.proofs.ImageTexts.{Visible, Slashless, cut, path_visible, decimal_visible, name_injective, name_slashless, no_slash}
@@ -152,13 +152,13 @@ same_number n m stop a b r s few_n few_m low e =
 
 -- the moments of two directories
 same_directory : (v : Version) (p : Path) (d e : ℕ) (es fs : Entries) (r s : Text) → IsMoment d → IsMoment e → after_path v p (Dir d es) ++ r ≡ after_path v p (Dir e fs) ++ s
-    → (told_moment v d ≡ told_moment v e) × (lines_of v p es ++ r ≡ lines_of v p fs ++ s)
+    → (reported_moment v d ≡ reported_moment v e) × (lines_of v p es ++ r ≡ lines_of v p fs ++ s)
 same_directory First p d e es fs r s few_d few_e h = (refl, h)
 same_directory Second p d e es fs r s few_d few_e h = same_number d e 10 (lines_of Second p es) (lines_of Second p fs) r s few_d few_e (omega arith) h
 
 -- the lengths, the moments and the blocks of two files
 same_file : (v : Version) (p : Path) (d e : ℕ) (b c : List ℕ) (r s : Text) → IsMoment d → IsMoment e → length b ≤ 2 ^ 40 → length c ≤ 2 ^ 40 → NoBlock r → NoBlock s → after_path v p (File d b) ++ r ≡ after_path v p (File e c) ++ s
-    → (told_moment v d ≡ told_moment v e) × (b ≡ c) × (r ≡ s)
+    → (reported_moment v d ≡ reported_moment v e) × (b ≡ c) × (r ≡ s)
 same_file First p d e b c r s few_d few_e few_b few_c after_b after_c h =
     let left : Text = block_lines b (length b / 4096 + 1) in
     let right : Text = block_lines c (length c / 4096 + 1) in
@@ -174,59 +174,59 @@ same_file Second p d e b c r s few_d few_e few_b few_c after_b after_c h =
     (inner.0, file.0, file.1)
 
 mutual
-  same_subtree : (v : Version) (p : Path) (x y : Tree) (r s : Text) → Shown p x → Shown p y → Behind p r → Behind p s → lines v p x ++ r ≡ lines v p y ++ s → (as_told v x ≡ as_told v y) × (r ≡ s)
+  same_subtree : (v : Version) (p : Path) (x y : Tree) (r s : Text) → Shown p x → Shown p y → Behind p r → Behind p s → lines v p x ++ r ≡ lines v p y ++ s → (as_reported v x ≡ as_reported v y) × (r ≡ s)
   same_subtree v p (Dir date es) (Dir stamp fs) r s a b h g e =
-      let outer : (told_moment v date ≡ told_moment v stamp) × (lines_of v p es ++ r ≡ lines_of v p fs ++ s) = same_directory v p date stamp es fs r s a.0 b.0 (same_path_text v p p (Dir date es) (Dir stamp fs) r s e).2 in
-      let inner : (as_told_of v es ≡ as_told_of v fs) × (r ≡ s) = same_entries v p es fs r s a.1 b.1 h g outer.1 in
+      let outer : (reported_moment v date ≡ reported_moment v stamp) × (lines_of v p es ++ r ≡ lines_of v p fs ++ s) = same_directory v p date stamp es fs r s a.0 b.0 (same_path_text v p p (Dir date es) (Dir stamp fs) r s e).2 in
+      let inner : (as_reported_of v es ≡ as_reported_of v fs) × (r ≡ s) = same_entries v p es fs r s a.1 b.1 h g outer.1 in
       (cc (outer.0, inner.0), inner.1)
   same_subtree v p (Dir date es) (File stamp c) r s a b h g e = absurd (letters_differ v (same_path_text v p p (Dir date es) (File stamp c) r s e).0)
   same_subtree v p (File date b) (Dir stamp fs) r s a w h g e = absurd (letters_differ v (sym (same_path_text v p p (File date b) (Dir stamp fs) r s e).0))
   same_subtree v p (File date b) (File stamp c) r s a w h g e =
-      let inner : (told_moment v date ≡ told_moment v stamp) × (b ≡ c) × (r ≡ s) = same_file v p date stamp b c r s a.0 w.0 a.1.few w.1.few (behind_blocks p r h) (behind_blocks p s g) (same_path_text v p p (File date b) (File stamp c) r s e).2 in
+      let inner : (reported_moment v date ≡ reported_moment v stamp) × (b ≡ c) × (r ≡ s) = same_file v p date stamp b c r s a.0 w.0 a.1.few w.1.few (behind_blocks p r h) (behind_blocks p s g) (same_path_text v p p (File date b) (File stamp c) r s e).2 in
       (cc (inner.0, inner.1), inner.2)
 
-  same_entries : (v : Version) (p : Path) (es fs : Entries) (r s : Text) → ShownEntries p es → ShownEntries p fs → Behind p r → Behind p s → lines_of v p es ++ r ≡ lines_of v p fs ++ s → (as_told_of v es ≡ as_told_of v fs) × (r ≡ s)
+  same_entries : (v : Version) (p : Path) (es fs : Entries) (r s : Text) → ShownEntries p es → ShownEntries p fs → Behind p r → Behind p s → lines_of v p es ++ r ≡ lines_of v p fs ++ s → (as_reported_of v es ≡ as_reported_of v fs) × (r ≡ s)
   same_entries v p nothing nothing r s a w h g e = (refl, e)
   same_entries v p nothing (entry m y fs) r s a w h g e = absurd (behind_entries v p r h m y (lines_of v p fs ++ s) (e ∙ append_assoc (lines v (p ++ m ∷ []) y) (lines_of v p fs) s))
   same_entries v p (entry n x es) nothing r s a w h g e = absurd (behind_entries v p s g n x (lines_of v p es ++ r) (sym e ∙ append_assoc (lines v (p ++ n ∷ []) x) (lines_of v p es) r))
   same_entries v p (entry n x es) (entry m y fs) r s a w h g e =
       let both : lines v (p ++ n ∷ []) x ++ (lines_of v p es ++ r) ≡ lines v (p ++ m ∷ []) y ++ (lines_of v p fs ++ s) = sym (append_assoc (lines v (p ++ n ∷ []) x) (lines_of v p es) r) ∙ e ∙ append_assoc (lines v (p ++ m ∷ []) y) (lines_of v p fs) s in
       let name : n ≡ m = same_name p n m (same_path_text v (p ++ n ∷ []) (p ++ m ∷ []) x y (lines_of v p es ++ r) (lines_of v p fs ++ s) both).1 in
-      let first : (as_told v x ≡ as_told v y) × (lines_of v p es ++ r ≡ lines_of v p fs ++ s) =
+      let first : (as_reported v x ≡ as_reported v y) × (lines_of v p es ++ r ≡ lines_of v p fs ++ s) =
       same_subtree v (p ++ n ∷ []) x y (lines_of v p es ++ r) (lines_of v p fs ++ s) a.1 (subst (λ (k : Name). Shown (p ++ k ∷ []) y) (sym name) w.1) (behind_next v p n es r a.2 h) (behind_next v p n fs s w.2 g)
       (both ∙ ap (λ (k : Name). lines v (p ++ k ∷ []) y ++ (lines_of v p fs ++ s)) (sym name))
       in
-      let others : (as_told_of v es ≡ as_told_of v fs) × (r ≡ s) = same_entries v p es fs r s a.2 w.2 h g first.1 in
+      let others : (as_reported_of v es ≡ as_reported_of v fs) × (r ≡ s) = same_entries v p es fs r s a.2 w.2 h g first.1 in
       (cc (name, first.0, others.0), others.1)
 
 -- ---- images
 
 -- the root's line, and what follows
-same_root : (v : Version) (d e : ℕ) (a b : Text) → IsMoment d → IsMoment e → (root_line v d ++ 10 ∷ []) ++ a ≡ (root_line v e ++ 10 ∷ []) ++ b → (told_moment v d ≡ told_moment v e) × (a ≡ b)
+same_root : (v : Version) (d e : ℕ) (a b : Text) → IsMoment d → IsMoment e → (root_line v d ++ 10 ∷ []) ++ a ≡ (root_line v e ++ 10 ∷ []) ++ b → (reported_moment v d ≡ reported_moment v e) × (a ≡ b)
 same_root First d e a b few_d few_e h = (refl, cc)
 same_root Second d e a b few_d few_e h =
     let both : (decimal d ++ 10 ∷ []) ++ a ≡ (decimal e ++ 10 ∷ []) ++ b = cc in
     same_number d e 10 [] [] a b few_d few_e (omega arith) both
 
-pub one_image : (v : Version) (t u : Tree) → IsTree t → IsTree u → image v t ≡ image v u → as_told v t ≡ as_told v u
+pub one_image : (v : Version) (t u : Tree) → IsTree t → IsTree u → image v t ≡ image v u → as_reported v t ≡ as_reported v u
 one_image v (File date b) u is_t is_u e = absurd is_t.root
 one_image v (Dir date es) (File stamp c) is_t is_u e = absurd is_u.root
 one_image v (Dir date es) (Dir stamp fs) is_t is_u e =
     let left : Shown [] (Dir date es) = tree_shown date es is_t in
     let right : Shown [] (Dir stamp fs) = tree_shown stamp fs is_u in
-    let outer : (told_moment v date ≡ told_moment v stamp) × (lines_of v [] es ≡ lines_of v [] fs) = same_root v date stamp (lines_of v [] es) (lines_of v [] fs) left.0 right.0 e in
-    let one : (as_told_of v es ≡ as_told_of v fs) × ([] ≡ []) = same_entries v [] es fs [] [] left.1 right.1 (inl refl) (inl refl) (ap (λ (t : Text). t ++ []) outer.1) in
+    let outer : (reported_moment v date ≡ reported_moment v stamp) × (lines_of v [] es ≡ lines_of v [] fs) = same_root v date stamp (lines_of v [] es) (lines_of v [] fs) left.0 right.0 e in
+    let one : (as_reported_of v es ≡ as_reported_of v fs) × ([] ≡ []) = same_entries v [] es fs [] [] left.1 right.1 (inl refl) (inl refl) (ap (λ (t : Text). t ++ []) outer.1) in
     cc (outer.0, one.0)
 
 -- version 2 tells all
 mutual
-  pub told_law : (t : Tree) → as_told Second t ≡ t
-  told_law (Dir date es) = ap (Dir date) (told_entries es)
-  told_law (File date b) = refl
+  pub reported_law : (t : Tree) → as_reported Second t ≡ t
+  reported_law (Dir date es) = ap (Dir date) (reported_entries es)
+  reported_law (File date b) = refl
 
-  told_entries : (es : Entries) → as_told_of Second es ≡ es
-  told_entries nothing = refl
-  told_entries (entry n x rest) =
-      let first : as_told Second x ≡ x = told_law x in
-      let others : as_told_of Second rest ≡ rest = told_entries rest in
+  reported_entries : (es : Entries) → as_reported_of Second es ≡ es
+  reported_entries nothing = refl
+  reported_entries (entry n x rest) =
+      let first : as_reported Second x ≡ x = reported_law x in
+      let others : as_reported_of Second rest ≡ rest = reported_entries rest in
       cc (first, others)

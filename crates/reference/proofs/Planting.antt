@@ -8,7 +8,7 @@ use Rattle.pathkey.specs.declared.errno.Errno.{Errno}
 use Rattle.pathkey.specs.declared.errno.Errno.TheVariants.{EEXIST, EFBIG}
 use Rattle.reference.specs.Calls.{is_found, parent_fault, first_fault, when, greatest_file}
 use Rattle.reference.specs.Indexes.{Metadata, Blocks, meta_of, Hold, BlocksMean, most_blocks, IndexesMean, put_at}
-use Rattle.reference.specs.Looks.{Directory, Bytes, Seen, sighted, sight, redated}
+use Rattle.reference.specs.Reads.{Directory, Bytes, Seen, sighted, sight, redated}
 use Rattle.reference.specs.Shape.{IsDirectory, IsMoment}
 use Rattle.reference.specs.Plant.{is_too_long, faults_of_plant, PlantLaw}
 use Rattle.reference.specs.Tree.{Path, Tree, Dir, File, nothing, Found, entry_at, edited, sized, dated}

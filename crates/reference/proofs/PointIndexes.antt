@@ -4,7 +4,7 @@ use Rattle.std.specs.Prelude.{option_map}
 use Rattle.reference.specs.Tree.{same, Path, Tree}
 use Rattle.pathkey.specs.Names.{EachName, IsPath}
 use Rattle.pathkey.specs.Keys.{Key, enc, block_key}
-use Rattle.reference.specs.Looks.{Look, Bytes, look, Sight, look_of, sight}
+use Rattle.reference.specs.Reads.{Look, Bytes, look, Sight, look_of, sight}
 use Rattle.reference.specs.Indexes.{Metadata, Blocks, meta_of, PathOf, MetaMeans, most_blocks, byte_of, Hold, BlockOf, BlocksMean, edit_at, BlocksChange}
 use Rattle.reference.specs.declared.reply.Meta.{Meta}
 use Rattle.pathkey.proofs.OrderFacts.{same_true, apart}

@@ -3,7 +3,7 @@ use Rattle.std.proofs.Common.{◌≡◌, ◌≢◌, ℕ, List, [], ◌∷◌, �
 use Rattle.std.specs.Prelude.{fold, option_map}
 use Rattle.reference.specs.Tree.{Name, Path, Tree, Dir, File, nothing, At, Found, Missing, Blocked, found, onward, entry_at, edited, touched}
 use Rattle.reference.specs.Calls.{is_found, is_directory, path_fault, parent_fault}
-use Rattle.reference.specs.Looks.{look, rest_of, Sight, look_of, sighted, sight, sight_after, redated, sight_touched}
+use Rattle.reference.specs.Reads.{look, rest_of, Sight, look_of, sighted, sight, sight_after, redated, sight_touched}
 use Rattle.reference.proofs.Edits.{alike, look_sighted, sight_law, touched_law, fold-Missing, fold-Blocked}
 use Rattle.reference.proofs.EntryPaths.{rest_of_from, rest_of-append, rest_of_itself, along}
 

@@ -3,7 +3,7 @@ use Rattle.std.proofs.Common.{◌≡◌, ◌≢◌, ℕ, [], ◌++◌, Bool, tru
 use Rattle.std.proofs.lemmas.Bool.{false_from_ne_true}
 use Rattle.reference.specs.Tree.{Path, Tree, edited}
 use Rattle.reference.specs.Calls.{Outcome, parent_fault, changed}
-use Rattle.reference.specs.Looks.{Bytes, look, sighted, sight}
+use Rattle.reference.specs.Reads.{Bytes, look, sighted, sight}
 use Rattle.pathkey.specs.Names.{IsPath}
 use Rattle.pathkey.specs.Keys.{enc, block_key, subtree, is_in}
 use Rattle.reference.specs.Indexes.{Metadata, Blocks, meta_of, MetaMeans, BlockOf, BlocksMean, cleared}

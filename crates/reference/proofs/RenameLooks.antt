@@ -4,7 +4,7 @@ use Rattle.std.specs.Prelude.{fold}
 use Rattle.std.proofs.lemmas.Bool.{ltb-false}
 use Rattle.reference.specs.Tree.{Name, Path, Tree, Dir, File, nothing, entry, At, Found, Missing, Blocked, onward, entry_at, edited}
 use Rattle.reference.specs.Calls.{Outcome, is_full, same_path, text_len, deepest, deepest_at, path_fault, parent, parent_fault, placed, changed}
-use Rattle.reference.specs.Looks.{Look, Directory, seen, look, sighted, sight}
+use Rattle.reference.specs.Reads.{Look, Directory, seen, look, sighted, sight}
 use Rattle.reference.specs.declared.call.Call.TheVariants.{Rename}
 use Rattle.reference.specs.declared.reply.Reply.TheVariants.{Done}
 use Rattle.reference.proofs.Edits.{unseen, fold-Missing, fold-Blocked}

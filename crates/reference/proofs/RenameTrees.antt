@@ -6,7 +6,7 @@ use Rattle.pathkey.specs.Names.{IsPath}
 use Rattle.reference.specs.Tree.{Name, Path, Tree, Dir, File, nothing, entry, At, Found, Missing, onward, entry_at, edited}
 use Rattle.reference.specs.Calls.{is_under, text_len, is_directory, is_file, is_full, path_fault, parent, parent_fault, deepest, deepest_at, placed}
 use Rattle.reference.specs.Shape.{IsTree}
-use Rattle.reference.specs.Looks.{Directory, seen, look, rest_of, look_after, sighted}
+use Rattle.reference.specs.Reads.{Directory, seen, look, rest_of, look_after, sighted}
 use Rattle.reference.proofs.EntryPaths.{rest_of_from, under_itself, last_name, path_moved, along}
 use Rattle.reference.proofs.Edits.{edit_law, fold-Missing}
 use Rattle.reference.proofs.Rising.{rising-with}

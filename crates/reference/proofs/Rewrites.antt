@@ -3,7 +3,7 @@ use Rattle.std.proofs.Common.{◌≡◌, ◌≢◌, ◌+◌, ◌≤◌, ℕ, Lis
 use Rattle.reference.specs.Tree.{Path, Tree, File, At, Found, entry_at, edited, over, sized}
 use Rattle.reference.specs.Calls.{Outcome, is_directory, is_empty, bytes_of, path_fault, changed}
 use Rattle.reference.specs.Shape.{IsTree}
-use Rattle.reference.specs.Looks.{Bytes, look, Sight, Seen, sighted}
+use Rattle.reference.specs.Reads.{Bytes, look, Sight, Seen, sighted}
 use Rattle.pathkey.specs.Names.{IsPath}
 use Rattle.pathkey.specs.Keys.{enc, block_key}
 use Rattle.reference.specs.Indexes.{Metadata, Blocks, meta_of, MetaMeans, Hold, BlocksMean, edit_at, grow, set_len, patched, cut_block, BlocksChange}

@@ -4,7 +4,7 @@ use Rattle.std.specs.Prelude.{fold}
 use Rattle.std.specs.Ordering.{is_eq}
 use Rattle.std.specs.declared.cmp.Ordering.TheVariants.{Less, Equal, Greater}
 use Rattle.reference.specs.Tree.{by_bytes, same, Name, Path, Tree, Dir, File, Entries, nothing, entry, named, At, Found, Missing, Blocked, found, onward, entry_at}
-use Rattle.reference.specs.Looks.{Directory, Bytes, seen, look, Seen, sighted, sight}
+use Rattle.reference.specs.Reads.{Directory, Bytes, seen, look, Seen, sighted, sight}
 use Rattle.reference.specs.Shape.{AllAbove, Rising, RisingEntries}
 use Rattle.pathkey.proofs.OrderFacts.{equal, same_itself, same_true}
 use Rattle.reference.proofs.EntryPaths.{along}

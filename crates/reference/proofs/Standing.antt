@@ -4,7 +4,7 @@ use Rattle.std.specs.Prelude.{fold}
 use Rattle.pathkey.proofs.OrderFacts.{same_true}
 use Rattle.reference.specs.Tree.{same, Name, Path, Tree, Dir, File, Entries, nothing, entry, named, At, Found, Missing, Blocked, found, onward, entry_at}
 use Rattle.reference.specs.Calls.{is_directory, is_file, deepest, deepest_of, path_fault, parent, no_directory_fault, parent_fault, text_len}
-use Rattle.reference.specs.Looks.{Look, Directory, Bytes, seen, look, Seen, sighted}
+use Rattle.reference.specs.Reads.{Look, Directory, Bytes, seen, look, Seen, sighted}
 use Rattle.reference.specs.Shape.{Rising, RisingEntries}
 use Rattle.reference.proofs.Edits.{fold-Missing, fold-Blocked}
 

@@ -5,7 +5,7 @@ use Rattle.pathkey.specs.Names.{IsPath}
 use Rattle.reference.specs.Tree.{Path, Tree, Dir, File, nothing, At, Found, Missing, Blocked, found, onward, entry_at, edited, moment, touched}
 use Rattle.reference.specs.Calls.{is_directory, bytes_of, parent_fault}
 use Rattle.reference.specs.Shape.{IsDirectory, Rising, IsContent, IsMoment, IsTree}
-use Rattle.reference.specs.Looks.{Look, Directory, Bytes, seen, look, rest_of, look_after, Sight, Seen, date_of, sighted, sight, sight_after, redated, sight_touched}
+use Rattle.reference.specs.Reads.{Look, Directory, Bytes, seen, look, rest_of, look_after, Sight, Seen, date_of, sighted, sight, sight_after, redated, sight_touched}
 use Rattle.reference.proofs.EntryPaths.{rest_of_from}
 use Rattle.reference.proofs.Edits.{edit_law, sight_law, touched_law, touched_look, fold-Missing, fold-Blocked}
 use Rattle.reference.proofs.Rising.{rising-with, rising-without, rising-touched}

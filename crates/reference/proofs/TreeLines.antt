@@ -6,8 +6,8 @@ use Rattle.std.specs.declared.cmp.Ordering.TheVariants.{Less}
 use Rattle.pathkey.specs.Enc.{enc}
 use Rattle.pathkey.specs.Names.{parent}
 use Rattle.pathkey.proofs.KeyFacts.{enc-append}
-use Rattle.reference.specs.Image.{Text, Version, First, Second, directory_letter, file_letter, moment_text, told_moment, path_text, block_line, block_lines, image, lines, lines_of, trimmed}
-use Rattle.reference.specs.ImageLines.{DirectoryLine, FileLine, BlockLine, Lines, spelled, image_of_lines, last_path, last_len, next_block, HasDirectory, IsNewEntry, IsBlock, IsTold, AreLines, IsImage, ImageLaw}
+use Rattle.reference.specs.Image.{Text, Version, First, Second, directory_letter, file_letter, moment_text, reported_moment, path_text, block_line, block_lines, image, lines, lines_of, trimmed}
+use Rattle.reference.specs.ImageLines.{DirectoryLine, FileLine, BlockLine, Lines, spelled, image_of_lines, last_path, last_len, next_block, HasDirectory, IsNewEntry, IsBlock, IsReported, AreLines, IsImage, ImageLaw}
 use Rattle.reference.specs.Shape.{AllAbove, AreBytes, IsMoment, IsTree, Rising, RisingEntries}
 use Rattle.reference.specs.Tree.{by_bytes, Name, Path, Tree, Dir, File, Entries, nothing, entry}
 use Rattle.reference.proofs.ImageBytes.{block, keep, trimmed_is}
@@ -30,8 +30,8 @@ with_blocks b (suc i) ls = with_block i (block b i) (with_blocks b i ls)
 -- those of a tree that stands at the path p, and of the entries of a directory there
 abbrev mutual
   with_lines : Version → Path → Tree → Lines → Lines
-  with_lines v p (Dir date es) ls = with_entries v p es (DirectoryLine p (told_moment v date) ∷ ls)
-  with_lines v p (File date b) ls = with_blocks b (length b / 4096 + 1) (FileLine p (length b) (told_moment v date) ∷ ls)
+  with_lines v p (Dir date es) ls = with_entries v p es (DirectoryLine p (reported_moment v date) ∷ ls)
+  with_lines v p (File date b) ls = with_blocks b (length b / 4096 + 1) (FileLine p (length b) (reported_moment v date) ∷ ls)
 
   with_entries : Version → Path → Entries → Lines → Lines
   with_entries v p nothing ls = ls
@@ -40,14 +40,14 @@ abbrev mutual
 -- ---- moments
 
 -- the moment that the version tells is written as the tree's own
-told_text : (v : Version) (date : ℕ) → moment_text v (told_moment v date) ≡ moment_text v date
-told_text First date = refl
-told_text Second date = refl
+reported_text : (v : Version) (date : ℕ) → moment_text v (reported_moment v date) ≡ moment_text v date
+reported_text First date = refl
+reported_text Second date = refl
 
 -- and the version may tell it
-told_is : (v : Version) (date : ℕ) → IsMoment date → IsTold v (told_moment v date)
-told_is First date early = refl
-told_is Second date early = early
+reported_is : (v : Version) (date : ℕ) → IsMoment date → IsReported v (reported_moment v date)
+reported_is First date early = refl
+reported_is Second date early = early
 
 -- ---- their text
 
@@ -62,22 +62,22 @@ blocks_shown v root b (suc i) ls =
     ∙ ap (λ (t : Text). t ++ block_line i (block b i)) (blocks_shown v root b i ls)
     ∙ append_assoc (image_of_lines v root ls) (block_lines b i) (block_line i (block b i))
 
-directory_text : (v : Version) (p : Path) (date : ℕ) (es : Entries) → (spelled v (DirectoryLine p (told_moment v date)) ++ 10 ∷ []) ++ lines_of v p es ≡ lines v p (Dir date es)
-directory_text v p date es = ap (λ (m : Text). ((directory_letter v ∷ 32 ∷ path_text p ++ m) ++ 10 ∷ []) ++ lines_of v p es) (told_text v date)
+directory_text : (v : Version) (p : Path) (date : ℕ) (es : Entries) → (spelled v (DirectoryLine p (reported_moment v date)) ++ 10 ∷ []) ++ lines_of v p es ≡ lines v p (Dir date es)
+directory_text v p date es = ap (λ (m : Text). ((directory_letter v ∷ 32 ∷ path_text p ++ m) ++ 10 ∷ []) ++ lines_of v p es) (reported_text v date)
 
-file_text : (v : Version) (p : Path) (date : ℕ) (b : List ℕ) → (spelled v (FileLine p (length b) (told_moment v date)) ++ 10 ∷ []) ++ block_lines b (length b / 4096 + 1) ≡ lines v p (File date b)
-file_text v p date b = ap (λ (m : Text). ((file_letter v ∷ 32 ∷ path_text p ++ (32 ∷ decimal (length b) ++ m)) ++ 10 ∷ []) ++ block_lines b (length b / 4096 + 1)) (told_text v date)
+file_text : (v : Version) (p : Path) (date : ℕ) (b : List ℕ) → (spelled v (FileLine p (length b) (reported_moment v date)) ++ 10 ∷ []) ++ block_lines b (length b / 4096 + 1) ≡ lines v p (File date b)
+file_text v p date b = ap (λ (m : Text). ((file_letter v ∷ 32 ∷ path_text p ++ (32 ∷ decimal (length b) ++ m)) ++ 10 ∷ []) ++ block_lines b (length b / 4096 + 1)) (reported_text v date)
 
 mutual
   lines_shown : (v : Version) (root : ℕ) (p : Path) (x : Tree) (ls : Lines) → image_of_lines v root (with_lines v p x ls) ≡ image_of_lines v root ls ++ lines v p x
   lines_shown v root p (Dir date es) ls =
-      let own : Text = spelled v (DirectoryLine p (told_moment v date)) ++ 10 ∷ [] in
-      entries_shown v root p es (DirectoryLine p (told_moment v date) ∷ ls)
+      let own : Text = spelled v (DirectoryLine p (reported_moment v date)) ++ 10 ∷ [] in
+      entries_shown v root p es (DirectoryLine p (reported_moment v date) ∷ ls)
       ∙ append_assoc (image_of_lines v root ls) own (lines_of v p es)
       ∙ ap (λ (t : Text). image_of_lines v root ls ++ t) (directory_text v p date es)
   lines_shown v root p (File date b) ls =
-      let own : Text = spelled v (FileLine p (length b) (told_moment v date)) ++ 10 ∷ [] in
-      blocks_shown v root b (length b / 4096 + 1) (FileLine p (length b) (told_moment v date) ∷ ls)
+      let own : Text = spelled v (FileLine p (length b) (reported_moment v date)) ++ 10 ∷ [] in
+      blocks_shown v root b (length b / 4096 + 1) (FileLine p (length b) (reported_moment v date) ∷ ls)
       ∙ append_assoc (image_of_lines v root ls) own (block_lines b (length b / 4096 + 1))
       ∙ ap (λ (t : Text). image_of_lines v root ls ++ t) (file_text v p date b)
 
@@ -225,12 +225,12 @@ next_above p n r q (entry m x rest) e h v =
 mutual
   lines_go_on : (version : Version) (p : Path) (x : Tree) (ls : Lines) → AreLines version ls → IsNewEntry p ls → Shown p x → Rising x → GoOn version p ls (with_lines version p x ls)
   lines_go_on version p (Dir date es) ls are new v u =
-      let own : Lines = DirectoryLine p (told_moment version date) ∷ ls in
-      let more : GoOn version p own (with_entries version p es own) = entries_go_on version p es own ((new, told_is version date v.0), are) (inl refl) [] (sym (append-nil p)) (first_above p es) v.1 u in
+      let own : Lines = DirectoryLine p (reported_moment version date) ∷ ls in
+      let more : GoOn version p own (with_entries version p es own) = entries_go_on version p es own ((new, reported_is version date v.0), are) (inl refl) [] (sym (append-nil p)) (first_above p es) v.1 u in
       record { are = more.are; below = more.below; last = more.last; keeps = λ q h. more.keeps q (inr h) }
   lines_go_on version p (File date b) ls are new v u =
-      let own : Lines = FileLine p (length b) (told_moment version date) ∷ ls in
-      let more : GoOnWith version b (length b / 4096 + 1) own (with_lines version p (File date b) ls) = blocks_go_on version b (length b / 4096 + 1) own v.1.bytes ((new, v.1.few, told_is version date v.0), are) refl refl in
+      let own : Lines = FileLine p (length b) (reported_moment version date) ∷ ls in
+      let more : GoOnWith version b (length b / 4096 + 1) own (with_lines version p (File date b) ls) = blocks_go_on version b (length b / 4096 + 1) own v.1.bytes ((new, v.1.few, reported_is version date v.0), are) refl refl in
       record { are = more.are; below = []; last = more.last ∙ sym (append-nil p); keeps = more.keeps }
 
   entries_go_on : (version : Version) (p : Path) (es : Entries) (ls : Lines) → AreLines version ls → HasDirectory ls p → (below : Path) → last_path ls ≡ p ++ below → IsBelowFirst (last_path ls) p es → ShownEntries p es → RisingEntries es → GoOn version p ls (with_entries version p es ls)
@@ -249,19 +249,19 @@ mutual
 tree_image : (version : Version) (t : Tree) → IsTree t → IsImage version (image version t)
 tree_image version (File date b) h = absurd h.root
 tree_image version (Dir date es) h =
-    let root : ℕ = told_moment version date in
+    let root : ℕ = reported_moment version date in
     let all : Shown [] (Dir date es) = tree_shown date es h in
     let go : GoOn version [] [] (with_entries version [] es []) = entries_go_on version [] es [] tt refl [] refl (first_above [] es) all.1 h.rising in
     record {
       root = root;
-      told = told_is version date all.0;
+      reported = reported_is version date all.0;
       lines = with_entries version [] es [];
       are = go.are;
-      is = ap (λ (m : Text). ((directory_letter version ∷ 32 ∷ 47 ∷ m) ++ 10 ∷ []) ++ lines_of version [] es) (sym (told_text version date)) ∙ sym (entries_shown version root [] es []);
+      is = ap (λ (m : Text). ((directory_letter version ∷ 32 ∷ 47 ∷ m) ++ 10 ∷ []) ++ lines_of version [] es) (sym (reported_text version date)) ∙ sym (entries_shown version root [] es []);
     }
 
 pub image_law : ImageLaw
 image_law version text = (
-  λ h. let made = lines_law version h.root h.lines h.told h.are in (_, made.0, h.is ∙ sym made.1),
+  λ h. let made = lines_law version h.root h.lines h.reported h.are in (_, made.0, h.is ∙ sym made.1),
   λ h. subst (IsImage version) (sym h.2) (tree_image version h.0 h.1),
 )

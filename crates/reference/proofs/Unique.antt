@@ -4,7 +4,7 @@ use Rattle.std.proofs.lemmas.Grind.{same_number_lists}
 use Rattle.reference.specs.Tree.{Path, Tree}
 use Rattle.pathkey.specs.Names.{IsPath}
 use Rattle.pathkey.specs.Keys.{block_key}
-use Rattle.reference.specs.Looks.{Directory, Bytes, look, Sight, Seen, look_of, sight}
+use Rattle.reference.specs.Reads.{Directory, Bytes, look, Sight, Seen, look_of, sight}
 use Rattle.reference.specs.Shape.{IsContent}
 use Rattle.reference.specs.Indexes.{Metadata, Blocks, meta_of, Hold, IndexesMean}
 use Rattle.reference.proofs.Edits.{look_from}

@@ -60,19 +60,19 @@ moment_text First at = []
 moment_text Second at = 32 ∷ decimal at
 
 -- the moment as far as the version tells it: 0 where it does not
-abbrev pub told_moment : Version → ℕ → ℕ
-told_moment First at = 0
-told_moment Second at = at
+abbrev pub reported_moment : Version → ℕ → ℕ
+reported_moment First at = 0
+reported_moment Second at = at
 
 -- a tree with its moments as far as the version tells them
 abbrev mutual
-  pub as_told : Version → Tree → Tree
-  as_told v (Dir date es) = Dir (told_moment v date) (as_told_of v es)
-  as_told v (File date b) = File (told_moment v date) b
+  pub as_reported : Version → Tree → Tree
+  as_reported v (Dir date es) = Dir (reported_moment v date) (as_reported_of v es)
+  as_reported v (File date b) = File (reported_moment v date) b
 
-  pub as_told_of : Version → Entries → Entries
-  as_told_of v nothing = nothing
-  as_told_of v (entry n x rest) = entry n (as_told v x) (as_told_of v rest)
+  pub as_reported_of : Version → Entries → Entries
+  as_reported_of v nothing = nothing
+  as_reported_of v (entry n x rest) = entry n (as_reported v x) (as_reported_of v rest)
 
 -- ---- images
 -- the line of a directory whose path has the text, and that of a file of so many bytes, without their line feeds

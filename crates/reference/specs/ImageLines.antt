@@ -33,9 +33,9 @@ image_of_lines v root [] = root_line v root ++ 10 ∷ []
 image_of_lines v root (l ∷ ls) = image_of_lines v root ls ++ (spelled v l ++ 10 ∷ [])
 
 -- the moments that a line of the version may tell: it is 0 where the version tells none
-abbrev pub IsTold : Version → ℕ → Type 0
-IsTold First at = at ≡ 0
-IsTold Second at = IsMoment at
+abbrev pub IsReported : Version → ℕ → Type 0
+IsReported First at = at ≡ 0
+IsReported Second at = IsMoment at
 
 -- what the line of a block tells: 1 to 4,096 bytes, the last of which is not zero
 pub record IsBlock (b : List ℕ) : Type 0 where
@@ -46,8 +46,8 @@ pub record IsBlock (b : List ℕ) : Type 0 where
 
 -- a line that may stand in some image
 abbrev pub IsLine : Version → Line → Type 0
-IsLine v (DirectoryLine p at) = IsPath p × (p ≢ []) × IsTold v at
-IsLine v (FileLine p n at) = IsPath p × (p ≢ []) × (n ≤ 2 ^ 40) × IsTold v at
+IsLine v (DirectoryLine p at) = IsPath p × (p ≢ []) × IsReported v at
+IsLine v (FileLine p n at) = IsPath p × (p ≢ []) × (n ≤ 2 ^ 40) × IsReported v at
 IsLine v (BlockLine i b) = (i < 2 ^ 28) × IsBlock b
 
 -- ---- what lines tell
@@ -99,8 +99,8 @@ pub record IsNewBlock (i : ℕ) (b : List ℕ) (ls : Lines) : Type 0 where
 
 -- the line may follow these lines
 abbrev pub MayFollow : Version → Line → Lines → Type 0
-MayFollow v (DirectoryLine p at) ls = IsNewEntry p ls × IsTold v at
-MayFollow v (FileLine p n at) ls = IsNewEntry p ls × (n ≤ 2 ^ 40) × IsTold v at
+MayFollow v (DirectoryLine p at) ls = IsNewEntry p ls × IsReported v at
+MayFollow v (FileLine p n at) ls = IsNewEntry p ls × (n ≤ 2 ^ 40) × IsReported v at
 MayFollow v (BlockLine i b) ls = IsNewBlock i b ls
 
 -- each line may follow those before it
@@ -111,7 +111,7 @@ AreLines v (l ∷ ls) = MayFollow v l ls × AreLines v ls
 -- a text is an image of a version where it is the root's line and lines of which each may follow those before it
 pub record IsImage (v : Version) (text : Text) : Type 0 where
   pub root : ℕ
-  pub told : IsTold v root
+  pub reported : IsReported v root
   pub lines : Lines
   pub are : AreLines v lines
   pub is : text ≡ image_of_lines v root lines
@@ -133,8 +133,8 @@ tree_of_lines root (BlockLine i b ∷ ls) =
     with_entry (tree_of_lines root ls) (last_path ls) (File (moment_there here) (over (bytes_of here) (4096 * i) b))
 
 -- every moment of the tree is one that the version may tell
-abbrev pub AllTold : Version → Tree → Type 0
-AllTold v t = (p : Path) (x : Tree) → entry_at t p ≡ Found x → IsTold v (moment x)
+abbrev pub AllReported : Version → Tree → Type 0
+AllReported v t = (p : Path) (x : Tree) → entry_at t p ≡ Found x → IsReported v (moment x)
 
 -- ---- texts cut at lines
 
@@ -152,8 +152,8 @@ IsBadAt n text = ((n ≡ 1) ⊎ IsSomeImage (first_lines (n - 1) text)) × (IsSo
 
 -- lines of an image make a directory tree, of which they are the image, with the moments that they tell
 abbrev pub LinesLaw : Type 0
-LinesLaw = (v : Version) (root : ℕ) (ls : Lines) → IsTold v root → AreLines v ls
-    → IsTree (tree_of_lines root ls) × (image v (tree_of_lines root ls) ≡ image_of_lines v root ls) × AllTold v (tree_of_lines root ls)
+LinesLaw = (v : Version) (root : ℕ) (ls : Lines) → IsReported v root → AreLines v ls
+    → IsTree (tree_of_lines root ls) × (image v (tree_of_lines root ls) ≡ image_of_lines v root ls) × AllReported v (tree_of_lines root ls)
 
 -- the images of a version are exactly the texts that directory trees have for images of it
 abbrev pub ImageLaw : Type 0
@@ -165,8 +165,8 @@ OneVersionLaw = (v w : Version) (text : Text) → IsImage v text → IsImage w t
 
 -- lines of an image, and the root's moment, are known from it
 abbrev pub OneLineLaw : Type 0
-OneLineLaw = (v : Version) (root top : ℕ) (ls ks : Lines) → IsTold v root → IsTold v top → AreLines v ls → AreLines v ks → image_of_lines v root ls ≡ image_of_lines v top ks → (root ≡ top) × (ls ≡ ks)
+OneLineLaw = (v : Version) (root top : ℕ) (ls ks : Lines) → IsReported v root → IsReported v top → AreLines v ls → AreLines v ks → image_of_lines v root ls ≡ image_of_lines v top ks → (root ≡ top) × (ls ≡ ks)
 
 -- the first lines of an image, one or more, are an image
 abbrev pub BeginningLaw : Type 0
-BeginningLaw = (v : Version) (root : ℕ) (ls : Lines) (n : ℕ) → IsTold v root → AreLines v ls → 0 < n → n ≤ length ls + 1 → IsImage v (first_lines n (image_of_lines v root ls))
+BeginningLaw = (v : Version) (root : ℕ) (ls : Lines) (n : ℕ) → IsReported v root → AreLines v ls → 0 < n → n ≤ length ls + 1 → IsImage v (first_lines n (image_of_lines v root ls))

@@ -7,7 +7,7 @@ use Rattle.pathkey.specs.Keys.{Key, block_key, is_in, subtree}
 use Rattle.pathkey.specs.declared.range.KeyRange.{KeyRange}
 use Rattle.reference.specs.Tree.{Path, Tree, same, over}
 use Rattle.reference.specs.Shape.{IsTree}
-use Rattle.reference.specs.Looks.{Directory, Bytes, look, Sight, Seen, sight}
+use Rattle.reference.specs.Reads.{Directory, Bytes, look, Sight, Seen, sight}
 use Rattle.reference.specs.declared.reply.Meta.{Meta}
 use Rattle.reference.specs.declared.reply.Meta.TheVariants.{Dir as DirMeta, File as FileMeta}
 

@@ -9,8 +9,8 @@ use Rattle.pathkey.specs.declared.errno.Errno.TheVariants.{ENOMEM}
 use Rattle.reference.specs.Tree.{Name, Path, Tree, Dir, Entries, nothing, edited, touched, all_touched, Found, Missing, Blocked, found, named, entry_at}
 use Rattle.reference.specs.Calls.{Outcome, same_path, is_empty, parent_fault, listing, changed, parents_of, does}
 use Rattle.reference.specs.Shape.{IsMoment, Rising, IsTree, IsCall}
-use Rattle.reference.specs.Image.{Version, Second, image, as_told}
-use Rattle.reference.specs.Looks.{Directory, Bytes, seen, look, kind_at, rest_of, look_of, sight, sight_after, sight_touched}
+use Rattle.reference.specs.Image.{Version, Second, image, as_reported}
+use Rattle.reference.specs.Reads.{Directory, Bytes, seen, look, kind_at, rest_of, look_of, sight, sight_after, sight_touched}
 use Rattle.reference.specs.Indexes.{Metadata, Blocks, IndexesMean, put_at, deleted_at, cleared, edit_at, moved, grow, set_len, touch, touch_at, patched, cut_block, BlocksChange}
 use Rattle.reference.specs.declared.call.Call.{Call}
 use Rattle.reference.specs.declared.call.Call.TheVariants.{Mkdir, Create, Write, Truncate, Unlink, Rmdir, Rename, Rmtree, Read, Stat as AskStat, Readdir}
@@ -90,11 +90,11 @@ ListingLaw = (t : Tree) (p : Path) (date : ℕ) (es : Entries) (k : Kind) (n : N
 
 -- two directory trees of one image are one tree, as far as its version tells: in version 1 but for moments
 abbrev pub OneImageLaw : Type 0
-OneImageLaw = (v : Version) (t u : Tree) → IsTree t → IsTree u → image v t ≡ image v u → as_told v t ≡ as_told v u
+OneImageLaw = (v : Version) (t u : Tree) → IsTree t → IsTree u → image v t ≡ image v u → as_reported v t ≡ as_reported v u
 
 -- version 2 tells the whole tree
-abbrev pub ToldLaw : Type 0
-ToldLaw = (t : Tree) → as_told Second t ≡ t
+abbrev pub ReportedLaw : Type 0
+ReportedLaw = (t : Tree) → as_reported Second t ≡ t
 
 -- ---- indexes
 

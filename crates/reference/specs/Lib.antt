@@ -2,7 +2,7 @@ pub mod Pairs
 pub mod Tree
 pub mod Calls
 pub mod Shape
-pub mod Looks
+pub mod Reads
 pub mod Indexes
 pub mod Worlds
 pub mod Image

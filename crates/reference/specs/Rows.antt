@@ -188,21 +188,21 @@ abbrev pub new_world : World
 new_world = record { live = Dir 0 nothing; snapshots = finmap.empty }
 
 -- the answer before those of the events that follow
-abbrev pub told_first : Answer → World × List Answer → World × List Answer
-told_first a o = (o.0, a ∷ o.1)
+abbrev pub reported_first : Answer → World × List Answer → World × List Answer
+reported_first a o = (o.0, a ∷ o.1)
 
 -- the world after a list of events, and their answers
 abbrev pub happens_all : World → List Event → World × List Answer
 happens_all w [] = (w, [])
-happens_all w (e ∷ es) = told_first (outcome w e).1 (happens_all (outcome w e).0 es)
+happens_all w (e ∷ es) = reported_first (outcome w e).1 (happens_all (outcome w e).0 es)
 
 -- the answers of a list of events, from the new world on
-abbrev pub told : List Event → List Answer
-told es = (happens_all new_world es).1
+abbrev pub answers_of : List Event → List Answer
+answers_of es = (happens_all new_world es).1
 
 -- what a reading call answers in the snapshot of that name, after a list of events
-abbrev pub told_in_snapshot : List Event → List ℕ → Call → Option Reply
-told_in_snapshot es s c = option_map (λ t. (does 0 t c).1) (finmap.get (happens_all new_world es).0.snapshots s)
+abbrev pub reported_in_snapshot : List Event → List ℕ → Call → Option Reply
+reported_in_snapshot es s c = option_map (λ t. (does 0 t c).1) (finmap.get (happens_all new_world es).0.snapshots s)
 
 -- `/a` with a file was kept under the name `s` and then removed
 abbrev pub kept_and_removed : List Event
@@ -211,12 +211,12 @@ kept_and_removed = Ask (Mkdir (path "/a")) 0 ∷ Ask (Create (path "/a/x")) 0 �
 -- a snapshot keeps its tree, whatever is done to the live one
 abbrev pub SnapshotKeepsItsTree : Type 0
 SnapshotKeepsItsTree =
-    told (kept_and_removed ++ Ask (AskStat (path "/a")) 0 ∷ RestoreSnapshot (codes "s") ∷ Ask (Readdir (path "/a")) 0 ∷ [])
+    answers_of (kept_and_removed ++ Ask (AskStat (path "/a")) 0 ∷ RestoreSnapshot (codes "s") ∷ Ask (Readdir (path "/a")) 0 ∷ [])
     ≡ Replied Done ∷ Replied Done ∷ Settled (Ok tt) ∷ Replied Done ∷ Replied (Fault ENOENT) ∷ Settled (Ok tt) ∷ Replied (Names ((Plain, codes "x") ∷ [])) ∷ []
 
 -- and it is read as it was
 abbrev pub SnapshotIsRead : Type 0
-SnapshotIsRead = told_in_snapshot kept_and_removed (codes "s") (Readdir (path "/a")) ≡ Some (Names ((Plain, codes "x") ∷ []))
+SnapshotIsRead = reported_in_snapshot kept_and_removed (codes "s") (Readdir (path "/a")) ≡ Some (Names ((Plain, codes "x") ∷ []))
 
 -- the name `s` with a number of one or two digits
 abbrev pub numbered : ℕ → Name
@@ -229,5 +229,5 @@ sixty_four_names = map numbered (range_with_len 1 64)
 -- there are at most 64 snapshots, of names that differ, and one that was dropped may be taken again
 abbrev pub SnapshotNames : Type 0
 SnapshotNames =
-    told (map TakeSnapshot sixty_four_names ++ TakeSnapshot (codes "s65") ∷ TakeSnapshot (codes "s1") ∷ DropSnapshot (codes "s1") ∷ TakeSnapshot (codes "s1") ∷ DropSnapshot (codes "zz") ∷ [])
+    answers_of (map TakeSnapshot sixty_four_names ++ TakeSnapshot (codes "s65") ∷ TakeSnapshot (codes "s1") ∷ DropSnapshot (codes "s1") ∷ TakeSnapshot (codes "s1") ∷ DropSnapshot (codes "zz") ∷ [])
     ≡ replicate 64 (Settled (Ok tt)) ++ Settled (Err ENOSPC) ∷ Settled (Err EEXIST) ∷ Settled (Ok tt) ∷ Settled (Ok tt) ∷ Settled (Err ENOENT) ∷ []

@@ -10,7 +10,7 @@ use Rattle.message.proofs.KeyOrder.{both, begins_before_end}
 use Rattle.message.proofs.NextKey.{by_bool, in_range, one_key, before-next, reaches-from_before_next}
 use Rattle.scan.specs.Pairs.{HasNone, IsFirst, IsScan, AddsScan}
 use Rattle.scan.proofs.Firsts.{none_start}
-use Rattle.scan.proofs.Pieces.{pairs_append}
+use Rattle.scan.proofs.ReadaheadFacts.{pairs_append}
 
 module _ {V : Type 0} where
   -- a scan of one function is one of another that agrees with it on the range, up to an end with the same keys before it

@@ -35,8 +35,8 @@ module _ {V : Type 0} (es : List (List ℕ × V)) (lo : List ℕ) (hi : Option (
 
     module _ (e : List ℕ × V) (rises : Rises [] None es) (bound : i < length es) (at : e ≡ get_or es i e) where
       -- the entry lies past the range
-      pub take_past : is_below e.0 hi ≡ false → AddsScan (lookup es) lo hi limit old new
-      take_past u = walk_over (lookup es) lo hi limit x.from old new x.walked (entry_is_past es x.from i x.count e rises bound at hi u)
+      pub next_past : is_below e.0 hi ≡ false → AddsScan (lookup es) lo hi limit old new
+      next_past u = walk_over (lookup es) lo hi limit x.from old new x.walked (entry_is_past es x.from i x.count e rises bound at hi u)
 
       count_on : IsCount es (Some (next_key e.0)) (i + 1)
       count_on =

@@ -2,7 +2,7 @@ pub mod Firsts
 pub mod OnStretches
 pub mod Ahead
 pub mod SlotRange
-pub mod Pieces
+pub mod ReadaheadFacts
 pub mod Joins
 pub mod Parts
 pub mod AtHand

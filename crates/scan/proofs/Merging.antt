@@ -15,12 +15,12 @@ use Rattle.message.proofs.NextKey.{by_bool, in_range, one_key, before-next, reac
 use Rattle.message.proofs.PointKeys.{left_by_ranges, forgets, point_end, below_past}
 use Rattle.scan.specs.Pairs.{HasNone, IsFirst, IsScan, AddsScan}
 use Rattle.scan.specs.Stretches.{pair_of}
-use Rattle.scan.specs.Merging.{AreAll, StartsFrom, IsMoved, HasPoint, laid, LeavesGaps, IsMerged}
+use Rattle.scan.specs.Merging.{AreAll, StartsFrom, IsMoved, HasPoint, applied, LeavesGaps, IsMerged}
 use Rattle.scan.proofs.Ahead.{ahead, ahead_falls, fewer}
 use Rattle.scan.proofs.AtHand.{all_from, head_first, tail_scan, found_none}
 use Rattle.scan.proofs.Firsts.{none_start}
 use Rattle.scan.proofs.Joins.{HasWalked, walk_start, walk_on, walk_end, walk_full, walk_over, adds_none, adds_zero, adds_one, adds_join, adds_moved, next_inside, next_reached, scan_none}
-use Rattle.scan.proofs.Pieces.{short_law}
+use Rattle.scan.proofs.ReadaheadFacts.{short_law}
 
 -- ---- all pairs of a range
 
@@ -208,35 +208,35 @@ point_falls ms at q k low h r = by_bool (before (next_key q) k) (ahead k (all_en
 module _ {U V : Type 0} (means : U → Option V → Option V) (ms : List (Msg U V)) (child : List ℕ → Option V) (from : List ℕ) (end : Option (List ℕ)) (limit : ℕ) (below old : List (List ℕ × V)) where
   -- it has come to the key `at`
   pub record IsMerging (at : List ℕ) (new rest : List (List ℕ × V)) : Type 0 where
-    pub walked : HasWalked (laid means ms child) from end limit at old new
+    pub walked : HasWalked (applied means ms child) from end limit at old new
     pub all : AreAll child at end rest
     pub more : (length new + length rest ≡ length old + length below) ⊎ HasPoint ms from end
 
   pub merging_start : (at : List ℕ) (rest : List (List ℕ × V)) → at ≡ from → rest ≡ below → AreAll child from end below → IsMerging at old rest
   merging_start at rest e r s = record {
-    walked = walk_start (laid means ms child) from end limit at old old e refl;
+    walked = walk_start (applied means ms child) from end limit at old old e refl;
     all = subst (λ (k : List ℕ). AreAll child k end rest) (sym e) (subst (AreAll child from end) (sym r) s);
     more = inl (ap (λ (xs : List (List ℕ × V)). length old + length xs) r);
   }
 
   module _ (at : List ℕ) (new rest : List (List ℕ × V)) (x : IsMerging at new rest) (gaps : LeavesGaps means ms child from end) where
     -- up to a key before which no message is for one key, the values are the child's
-    gap : (stop : Option (List ℕ)) (newer : List (List ℕ × V)) → ((k : List ℕ) → is_below k stop ≡ true → is_below k end ≡ true) → ((k : List ℕ) → within at stop k ≡ true → has_point ms k ≡ false) → AddsScan child at stop limit new newer → AddsScan (laid means ms child) at stop limit new newer
-    gap stop newer inside none a = adds_moved (laid means ms child) child at stop stop limit new newer (λ k w. w) (λ k w. w) (λ k w. let q = both (reaches at k) (is_below k stop) w in gaps k (in_range from k end (le_le from at k x.walked.reached q.0) (inside k q.1)) (none k w)) a
+    gap : (stop : Option (List ℕ)) (newer : List (List ℕ × V)) → ((k : List ℕ) → is_below k stop ≡ true → is_below k end ≡ true) → ((k : List ℕ) → within at stop k ≡ true → has_point ms k ≡ false) → AddsScan child at stop limit new newer → AddsScan (applied means ms child) at stop limit new newer
+    gap stop newer inside none a = adds_moved (applied means ms child) child at stop stop limit new newer (λ k w. w) (λ k w. w) (λ k w. let q = both (reaches at k) (is_below k stop) w in gaps k (in_range from k end (le_le from at k x.walked.reached q.0) (inside k q.1)) (none k w)) a
 
     module _ (q : List ℕ) (next : IsNextPoint ms at end (Some q)) (newer left : List (List ℕ × V)) (m : IsMoved child at end (Some q) limit new newer left) where
       at_q : (reaches at q ≡ true) × (is_below q end ≡ true)
       at_q = both (reaches at q) (is_below q end) next.0
 
-      before_q : HasWalked (laid means ms child) from end limit q old newer
-      before_q = walk_on (laid means ms child) from end limit at old new x.walked q newer at_q.0
+      before_q : HasWalked (applied means ms child) from end limit q old newer
+      before_q = walk_on (applied means ms child) from end limit at old new x.walked q newer at_q.0
           (λ k w. below_next k q end (both (reaches at k) (before k q) w).1 at_q.1)
           (gap (Some q) newer (λ k b. below_next k q end b at_q.1) next.2 m.added)
 
       -- enough pairs stand before the next key
       pub merging_full : limit ≤ length newer → IsMerged means ms child from end limit below old newer
       merging_full l = record {
-        added = walk_full (laid means ms child) from end limit q old newer before_q l;
+        added = walk_full (applied means ms child) from end limit q old newer before_q l;
         more = λ h. absurd (omega (arith, h, l));
       }
 
@@ -247,22 +247,22 @@ module _ {U V : Type 0} (means : U → Option V → Option V) (ms : List (Msg U 
       point_inside = at_q.1
 
       -- the key with its messages
-      merging_on : (newest last : List (List ℕ × V)) (k : List ℕ) → length newer < limit → newest ≡ newer ++ option_to_list (pair_of q (laid means ms child q)) → AreAll child (next_key q) end last → k ≡ next_key q → IsMerging k newest last
+      merging_on : (newest last : List (List ℕ × V)) (k : List ℕ) → length newer < limit → newest ≡ newer ++ option_to_list (pair_of q (applied means ms child q)) → AreAll child (next_key q) end last → k ≡ next_key q → IsMerging k newest last
       merging_on newest last k l n s e = subst (λ (z : List ℕ). IsMerging z newest last) (sym e) (record {
-        walked = walk_on (laid means ms child) from end limit q old newer before_q (next_key q) newest (reaches-from_before q (next_key q) (before-next q))
+        walked = walk_on (applied means ms child) from end limit q old newer before_q (next_key q) newest (reaches-from_before q (next_key q) (before-next q))
             (λ z w. begins_before_end z q end (reaches-from_before_next z q (both (reaches q z) (before z (next_key q)) w).1) at_q.1)
-            (adds_key (laid means ms child) q limit newer newest (laid means ms child q) refl l n);
+            (adds_key (applied means ms child) q limit newer newest (applied means ms child q) refl l n);
         all = s;
         more = inr (q, in_range from q end (le_le from at q x.walked.reached at_q.0) at_q.1, next.1);
       })
 
-      pub merging_met : (newest last : List (List ℕ × V)) → length newer < limit → (AreAll child q end left → is_below q end ≡ true → newest ≡ newer ++ option_to_list (pair_of q (laid means ms child q))) → (AreAll child q end left → is_below q end ≡ true → AreAll child (next_key q) end last) → IsMerging (next_key q) newest last
+      pub merging_met : (newest last : List (List ℕ × V)) → length newer < limit → (AreAll child q end left → is_below q end ≡ true → newest ≡ newer ++ option_to_list (pair_of q (applied means ms child q))) → (AreAll child q end left → is_below q end ≡ true → AreAll child (next_key q) end last) → IsMerging (next_key q) newest last
       merging_met newest last l pushed others = merging_on newest last (next_key q) l (pushed (all_there l) at_q.1) (others (all_there l) at_q.1) refl
 
     -- no key with messages is left
     pub merging_over : IsNextPoint ms at end None → (newer left : List (List ℕ × V)) → IsMoved child at end end limit new newer left → length newer + length left ≡ length new + length rest → IsMerged means ms child from end limit below old newer
     merging_over none newer left m count = record {
-      added = walk_end (laid means ms child) from end limit at old new x.walked newer (gap end newer (λ k b. b) none m.added);
+      added = walk_end (applied means ms child) from end limit at old new x.walked newer (gap end newer (λ k b. b) none m.added);
       more = λ l. ⊎_elim
           (λ (e : length new + length rest ≡ length old + length below). inl (let z : length left ≡ 0 = ap length (m.all l refl) in omega (arith, e, z, count)))
           (λ (h : HasPoint ms from end). inr h)
@@ -273,19 +273,19 @@ module _ {U V : Type 0} (means : U → Option V → Option V) (ms : List (Msg U 
 
 module _ {U V : Type 0} (means : U → Option V → Option V) (ms : List (Msg U V)) (child : List ℕ → Option V) (from : List ℕ) (stop : Option (List ℕ)) where
   -- where range-deletes hold all keys, nothing of the child is left
-  pub adds_cleared : (limit : ℕ) (old new : List (List ℕ × V)) → ((k : List ℕ) → within from stop k ≡ true → is_cleared ms k ≡ is_cleared ms from) → is_cleared ms from ≡ true → ((f : List ℕ → Option V) → AreAll f from stop [] → LeavesGaps means ms f from stop → IsMerged means ms f from stop limit [] old new) → AddsScan (laid means ms child) from stop limit old new
+  pub adds_cleared : (limit : ℕ) (old new : List (List ℕ × V)) → ((k : List ℕ) → within from stop k ≡ true → is_cleared ms k ≡ is_cleared ms from) → is_cleared ms from ≡ true → ((f : List ℕ → Option V) → AreAll f from stop [] → LeavesGaps means ms f from stop → IsMerged means ms f from stop limit [] old new) → AddsScan (applied means ms child) from stop limit old new
   adds_cleared limit old new alike t merged =
       let none : List ℕ → Option V = λ k. None in
       let m : IsMerged means ms none from stop limit [] old new = merged none (scan_none none from stop 1 (λ k w. refl)) (λ k w h. left_by_ranges means ms k None h ∙ (elim (is_cleared ms k) as (λ b. cond b None (none k) ≡ none k) [ true ↦ refl | false ↦ refl ])) in
-      adds_moved (laid means ms child) (laid means ms none) from stop stop limit old new (λ k w. w) (λ k w. w) (λ k w. forgets means ms k (child k) None (alike k w ∙ t)) m.added
+      adds_moved (applied means ms child) (applied means ms none) from stop stop limit old new (λ k w. w) (λ k w. w) (λ k w. forgets means ms k (child k) None (alike k w ∙ t)) m.added
 
   -- where they hold none, the child's values stay between the keys with messages
   pub gaps_clear : ((k : List ℕ) → within from stop k ≡ true → is_cleared ms k ≡ false) → LeavesGaps means ms child from stop
   gaps_clear clear k w h = left_by_ranges means ms k (child k) h ∙ ap (λ b. cond b None (child k)) (clear k w)
 
   -- and everywhere, where no key has messages
-  pub adds_pointless : (limit : ℕ) (old new : List (List ℕ × V)) → ((k : List ℕ) → within from stop k ≡ true → is_cleared ms k ≡ false) → IsNextPoint ms from stop None → AddsScan child from stop limit old new → AddsScan (laid means ms child) from stop limit old new
-  adds_pointless limit old new clear none a = adds_moved (laid means ms child) child from stop stop limit old new (λ k w. w) (λ k w. w) (λ k w. gaps_clear clear k w (none k w)) a
+  pub adds_pointless : (limit : ℕ) (old new : List (List ℕ × V)) → ((k : List ℕ) → within from stop k ≡ true → is_cleared ms k ≡ false) → IsNextPoint ms from stop None → AddsScan child from stop limit old new → AddsScan (applied means ms child) from stop limit old new
+  adds_pointless limit old new clear none a = adds_moved (applied means ms child) child from stop stop limit old new (λ k w. w) (λ k w. w) (λ k w. gaps_clear clear k w (none k w)) a
 
 -- ---- a round
 
@@ -316,9 +316,9 @@ module _ {U V : Type 0} (means : U → Option V → Option V) (ms : List (Msg U 
 
   -- which came as they were asked for
   pub round_is : (n : ℕ) → IsScan child from stop n below → (i : ℕ) (p : List ℕ × V) → i + 1 ≡ length below → p ≡ get_or below i p → ((k : List ℕ) → within from stop k ≡ true → is_cleared ms k ≡ false) → (next : List ℕ) → next ≡ next_key p.0 → ((f : List ℕ → Option V) → AreAll f from (Some next) below → LeavesGaps means ms f from (Some next) → IsMerged means ms f from (Some next) limit below old new) → IsRound next
-  round_is n s i p l at clear next e merge =
+  round_is n s i p l at clear next e apply_pass =
       let b : i < length below = omega (arith, l) in
-      let merged : (f : List ℕ → Option V) → AreAll f from (Some (next_key p.0)) below → LeavesGaps means ms f from (Some (next_key p.0)) → IsMerged means ms f from (Some (next_key p.0)) limit below old new = subst (λ (k : List ℕ). (f : List ℕ → Option V) → AreAll f from (Some k) below → LeavesGaps means ms f from (Some k) → IsMerged means ms f from (Some k) limit below old new) e merge in
+      let merged : (f : List ℕ → Option V) → AreAll f from (Some (next_key p.0)) below → LeavesGaps means ms f from (Some (next_key p.0)) → IsMerged means ms f from (Some (next_key p.0)) limit below old new = subst (λ (k : List ℕ). (f : List ℕ → Option V) → AreAll f from (Some k) below → LeavesGaps means ms f from (Some k) → IsMerged means ms f from (Some k) limit below old new) e apply_pass in
       subst (λ (k : List ℕ). IsRound k) (sym e) (record {
         reached = next_up child from stop n below s i p b at;
         inside = next_in child from stop n below s i p b at;

@@ -65,8 +65,8 @@ module _ {U V : Type 0} (means : U → Option V → Option V) where
     made_is k h = effects-alike ms from k (child k) (alike k h)
 
     -- the messages tell the value
-    pub first_of_told : (w : Option V) → ((o : Option V) → effects means ms from o ≡ w) → IsFirst made from stop (pair_of from w)
-    first_of_told w told = first_of_one made from stop some w (λ k h. made_is k h ∙ told (child k))
+    pub first_of_resolved : (w : Option V) → ((o : Option V) → effects means ms from o ≡ w) → IsFirst made from stop (pair_of from w)
+    first_of_resolved w resolution = first_of_one made from stop some w (λ k h. made_is k h ∙ resolution (child k))
 
     -- they leave each value as it is
     pub first_untouched : (r : Option (List ℕ × V)) → ((o : Option V) → effects means ms from o ≡ o) → IsFirst child from stop r → IsFirst made from stop r

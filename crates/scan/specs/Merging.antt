@@ -31,17 +31,17 @@ module _ {U V : Type 0} where
   HasPoint ms from end = (q : List ℕ) × (within from end q ≡ true) × (has_point ms q ≡ true)
 
   -- what the messages make of the child's values
-  abbrev pub laid : (U → Option V → Option V) → List (Msg U V) → (List ℕ → Option V) → List ℕ → Option V
-  laid means ms child k = effects means ms k (child k)
+  abbrev pub applied : (U → Option V → Option V) → List (Msg U V) → (List ℕ → Option V) → List ℕ → Option V
+  applied means ms child k = effects means ms k (child k)
 
   -- they change no value at a key without a message for it alone
   abbrev pub LeavesGaps : (U → Option V → Option V) → List (Msg U V) → (List ℕ → Option V) → List ℕ → Option (List ℕ) → Type 0
-  LeavesGaps means ms child from end = (k : List ℕ) → within from end k ≡ true → has_point ms k ≡ false → laid means ms child k ≡ child k
+  LeavesGaps means ms child from end = (k : List ℕ) → within from end k ≡ true → has_point ms k ≡ false → applied means ms child k ≡ child k
 
   -- the messages were laid over all pairs of the child, `below`, and where that gave fewer than `limit`, at least as many as
   -- those came, or a message was for one key
   pub record IsMerged (means : U → Option V → Option V) (ms : List (Msg U V)) (child : List ℕ → Option V) (from : List ℕ) (end : Option (List ℕ)) (limit : ℕ) (below old new : List (List ℕ × V)) : Type 0 where
-    pub added : AddsScan (laid means ms child) from end limit old new
+    pub added : AddsScan (applied means ms child) from end limit old new
     pub more : length new < limit → (length old + length below ≤ length new) ⊎ HasPoint ms from end
 
   -- a walk of a slot stands at `next`, past a key with a message for it alone, and wants more pairs

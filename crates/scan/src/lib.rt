@@ -17,10 +17,10 @@ use node::Tree;
 use pathkey::{Key, KeyRange, NoMemory};
 use std::alloc::Global;
 
+mod apply_pass;
 pub mod laws;
 mod leaf;
-mod merge;
-pub mod piecewise;
+pub mod readahead;
 mod search;
 mod slot;
 mod walk;

@@ -11,7 +11,7 @@ ghost use Rattle.scan.specs.Stretches.{slot_value};
 use crate::leaf::first_entry;
 use crate::slot::{changed, pair_at, slot_end};
 use message::ends::is_before_end;
-use message::{Told, Update};
+use message::{Resolution, Update};
 use node::search::slot_of;
 use node::{Body, Node, Slot};
 use pathkey::{Key, NoMemory};
@@ -43,7 +43,7 @@ pub fn first<U: Update>(
         let i = slot_of(slots.as_slice(), &from);
         let slot = &slots[i];
         let end = slot_end(slots.as_slice(), i, hi);
-        let stop = slot.pending.stretch_end(alloc, &from, end)?;
+        let stop = slot.pending.segment_end(alloc, &from, end)?;
         if let Some(pair) = first_of_slot(alloc, slot, &from, stop.as_ref())? {
             return Ok(Some(pair));
         }
@@ -70,12 +70,12 @@ fn first_of_slot<U: Update>(
     requires alike { ActAlike slot.now.pending.0 from.now (option_copied stop) }
     ensures { IfOk result (λ r. IsFirst (slot_value U.means slot.now) from.now (option_copied stop.entry) r) }
 {
-    let told = slot.pending.told(alloc, from)?;
-    if let Told::Value(value) = told {
+    let resolution = slot.pending.resolve(alloc, from)?;
+    if let Resolution::Value(value) = resolution {
         return pair_at(alloc, from, value);
     }
     let below = first(alloc, &slot.child, from, stop)?;
-    if matches!(told, Told::Nothing) {
+    if matches!(resolution, Resolution::Untouched) {
         return Ok(below);
     }
     changed(alloc, &slot.pending, from, below)

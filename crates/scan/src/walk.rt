@@ -12,8 +12,8 @@ ghost use Rattle.scan.specs.Merging.{GoesOn};
 ghost use Rattle.scan.specs.Pairs.{AddsScan};
 ghost use Rattle.scan.specs.Stretches.{slot_value};
 
+use crate::apply_pass::apply_pass;
 use crate::leaf::push_entries;
-use crate::merge::merge;
 use crate::slot::slot_end;
 use message::Update;
 use message::ends::is_before_end;
@@ -56,7 +56,7 @@ pub fn walk<U: Update>(
         let i = slot_of(slots.as_slice(), &from);
         let slot = &slots[i];
         let end = slot_end(slots.as_slice(), i, hi);
-        let stop = slot.pending.cleared_end(alloc, &from, end)?;
+        let stop = slot.pending.range_deleted_until(alloc, &from, end)?;
         walk_slot(alloc, slot, &from, stop.as_ref(), limit, pairs)?;
         let Some(next) = stop else {
             return Ok(());
@@ -83,9 +83,9 @@ fn walk_slot<U: Update>(
     requires room { length pairs.old.items < limit }
     ensures { OnOk result (AddsScan (slot_value U.means slot.now) from.now (option_copied stop.entry) limit pairs.old.items pairs.new.items) }
 {
-    if slot.pending.is_cleared(from) {
+    if slot.pending.is_range_deleted(from) {
         let none = Vec::new(alloc);
-        return merge(alloc, &slot.pending, from, stop, none, limit, pairs);
+        return apply_pass(alloc, &slot.pending, from, stop, none, limit, pairs);
     }
     if slot.pending.next_point(from, stop).is_none() {
         return walk(alloc, &slot.child, from, stop, limit, pairs);
@@ -137,12 +137,12 @@ fn round<U: Update>(
     walk(alloc, &slot.child, from, stop, wanted, &mut below)?;
     let count = below.len();
     if count < wanted {
-        merge(alloc, &slot.pending, from, stop, below, limit, pairs)?;
+        apply_pass(alloc, &slot.pending, from, stop, below, limit, pairs)?;
         return Ok(None);
     }
     let last = &below[count - 1];
     let next = last.0.next(alloc)?;
-    merge(alloc, &slot.pending, from, Some(&next), below, limit, pairs)?;
+    apply_pass(alloc, &slot.pending, from, Some(&next), below, limit, pairs)?;
     if pairs.len() >= limit {
         return Ok(None);
     }

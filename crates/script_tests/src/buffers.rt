@@ -1,7 +1,7 @@
 //! Calls by texts and buffers of more than a block, with ample memory: no contract can say that memory is found.
 use crate::asked::{USUAL, freeze, new_volume};
 use crate::pieces::{Piece, built};
-use byte_calls::{create, frozen_readdir, load, print, read, readdir, stat, write};
+use ffi_calls::{create, frozen_readdir, load, print, read, readdir, stat, write};
 use images::LoadFault;
 use reference::Meta;
 use std::alloc::Global;
@@ -23,7 +23,7 @@ fn count_read(alloc: Global, volume: &Volume, room: &mut [u8]) -> Option<usize> 
 }
 
 /// What is told of the file.
-fn told(alloc: Global, volume: &Volume) -> Option<Meta> {
+fn reported(alloc: Global, volume: &Volume) -> Option<Meta> {
     stat(alloc, volume, b"/f").ok()
 }
 
@@ -71,7 +71,7 @@ fn has(alloc: Global, volume: &Volume, bytes: &[u8]) -> bool {
         len: 10_002,
         modified: 3,
     };
-    told(alloc, volume) == Some(file) && reads(alloc, volume, bytes)
+    reported(alloc, volume) == Some(file) && reads(alloc, volume, bytes)
 }
 
 /// Whether the bytes are written into a new volume, and read back.

@@ -4,34 +4,34 @@ ghost use Rattle.std.specs.Prelude.{◌<◌};
 use crate::asked::{USUAL, freeze};
 use crate::pieces::{Piece, built};
 use crate::streams::has_image;
-use images::{LoadFault, Loader, Printing};
+use images::{ImageLoader, ImagePrinter, LoadFault};
 use std::alloc::Global;
 use volume::{Frozen, Volume};
 
 /// A loader that took nothing. No function that asks ensures anything, so that no proof of a test reads what an image is.
-fn new_loader(alloc: Global) -> Result<Loader, LoadFault> {
-    Loader::new(alloc, USUAL)
+fn new_loader(alloc: Global) -> Result<ImageLoader, LoadFault> {
+    ImageLoader::new(alloc, USUAL)
 }
 
 /// Whether a loader takes a piece, and why not.
-fn take(alloc: Global, loader: &mut Loader, piece: &[u8]) -> Result<(), LoadFault> {
-    loader.take(alloc, piece)
+fn take(alloc: Global, loader: &mut ImageLoader, piece: &[u8]) -> Result<(), LoadFault> {
+    loader.feed(alloc, piece)
 }
 
 /// What the loader gives at the end.
-fn end(loader: Loader) -> Result<Volume, LoadFault> {
+fn end(loader: ImageLoader) -> Result<Volume, LoadFault> {
     loader.end()
 }
 
 /// How many bytes of an image a printing writes next.
-fn next(alloc: Global, printing: &mut Printing, room: &mut [u8]) -> Option<usize> {
+fn next(alloc: Global, printing: &mut ImagePrinter, room: &mut [u8]) -> Option<usize> {
     printing.next(alloc, room).ok()
 }
 
 /// Whether a loader takes a text in pieces of so many bytes, and why not.
 fn take_pieces(
     alloc: Global,
-    loader: &mut Loader,
+    loader: &mut ImageLoader,
     text: &[u8],
     size: usize,
 ) -> Result<(), LoadFault>
@@ -57,7 +57,7 @@ fn loaded(alloc: Global, text: &[u8], size: usize) -> Result<Volume, LoadFault>
 /// What is left of a text behind what a printing writes next into a room, if the text begins so.
 fn behind<'a>(
     alloc: Global,
-    printing: &mut Printing,
+    printing: &mut ImagePrinter,
     room: &mut [u8],
     text: &'a [u8],
 ) -> Option<&'a [u8]> {
@@ -66,7 +66,7 @@ fn behind<'a>(
 }
 
 /// Whether what a printing writes into a room of some bytes, again and again, is a text.
-fn writes(alloc: Global, printing: &mut Printing, room: &mut [u8], text: &[u8]) -> bool {
+fn writes(alloc: Global, printing: &mut ImagePrinter, room: &mut [u8], text: &[u8]) -> bool {
     let mut rest = text;
     // No text here has more pieces.
     for _ in 0..100_000u32 {
@@ -85,7 +85,7 @@ fn prints(alloc: Global, tree: Frozen, size: usize, text: &[u8]) -> bool {
     let Some(room) = room.get_mut(..size) else {
         return false;
     };
-    match Printing::new(alloc, tree) {
+    match ImagePrinter::new(alloc, tree) {
         Ok(mut printing) => writes(alloc, &mut printing, room, text),
         Err(_) => false,
     }
@@ -180,12 +180,12 @@ fn is_refused_at_the_same_line(rt: HostRuntime) {
 }
 
 /// Whether a loader refuses a piece at the second line.
-fn refuses(alloc: Global, loader: &mut Loader, piece: &[u8]) -> bool {
+fn refuses(alloc: Global, loader: &mut ImageLoader, piece: &[u8]) -> bool {
     take(alloc, loader, piece) == Err(LoadFault::Bad(2))
 }
 
 /// Whether it refuses there at the end.
-fn refuses_at_end(loader: Loader) -> bool {
+fn refuses_at_end(loader: ImageLoader) -> bool {
     match end(loader) {
         Ok(_) => false,
         Err(fault) => fault == LoadFault::Bad(2),
@@ -193,7 +193,7 @@ fn refuses_at_end(loader: Loader) -> bool {
 }
 
 /// Whether a loader that refused a piece refuses all that follows at the same line.
-fn stays_refused(alloc: Global, mut loader: Loader) -> bool {
+fn stays_refused(alloc: Global, mut loader: ImageLoader) -> bool {
     let both = refuses(alloc, &mut loader, b"D / 0\nx\n")
         && refuses(alloc, &mut loader, b"D / 0\n");
     refuses_at_end(loader) && both

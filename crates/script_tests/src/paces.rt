@@ -45,7 +45,7 @@ fn first_leaf() -> TreeStep {
 struct Once {
     turns: u16,
     /// What the step has answered.
-    told: Option<StepReply>,
+    reported: Option<StepReply>,
 }
 
 impl Pace for Once {
@@ -63,15 +63,15 @@ impl Pace for Once {
     }
 
     fn saw(&mut self, reply: StepReply) {
-        self.told = Some(reply);
+        self.reported = Some(reply);
     }
 }
 
 /// What the one step of a script of two lines has answered, if the lines are answered so.
-fn told_once(alloc: Global, volume: &mut Volume) -> Option<StepReply> {
+fn reported_once(alloc: Global, volume: &mut Volume) -> Option<StepReply> {
     let mut pace = Once {
         turns: 1,
-        told: None,
+        reported: None,
     };
     if !answers(
         alloc,
@@ -82,20 +82,20 @@ fn told_once(alloc: Global, volume: &mut Volume) -> Option<StepReply> {
     ) {
         return None;
     }
-    pace.told
+    pace.reported
 }
 
 /// What the one step of a script of two lines on a new volume has answered, if the lines are answered so.
-fn new_told_once(alloc: Global) -> Option<StepReply> {
+fn new_reported_once(alloc: Global) -> Option<StepReply> {
     match new_volume(alloc, USUAL) {
-        Ok(mut volume) => told_once(alloc, &mut volume),
+        Ok(mut volume) => reported_once(alloc, &mut volume),
         Err(_) => None,
     }
 }
 
 #[test]
-fn pace_is_told_what_its_step_did(rt: HostRuntime) {
-    assert!(rt; matches!(new_told_once(rt.alloc()), Some(StepReply::Did(1..))));
+fn pace_is_reported_what_its_step_did(rt: HostRuntime) {
+    assert!(rt; matches!(new_reported_once(rt.alloc()), Some(StepReply::Did(1..))));
 }
 
 /// The program's pace after the last line alone.

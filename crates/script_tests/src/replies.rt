@@ -31,14 +31,14 @@ fn is_written(alloc: Global, reply: &Reply, wanted: &str) -> bool {
 }
 
 /// Whether this is the text of a reply, which is used up.
-fn is_told(alloc: Global, reply: Reply, wanted: &str) -> bool {
+fn is_reported(alloc: Global, reply: Reply, wanted: &str) -> bool {
     is_written(alloc, &reply, wanted)
 }
 
 /// Whether the reply of these bytes has this text.
-fn are_told(alloc: Global, bytes: &[u8], wanted: &str) -> bool {
+fn are_reported(alloc: Global, bytes: &[u8], wanted: &str) -> bool {
     match Vec::from_slice(alloc, bytes) {
-        Ok(bytes) => is_told(alloc, Reply::Data(FileBytes::from_vec(bytes)), wanted),
+        Ok(bytes) => is_reported(alloc, Reply::Data(FileBytes::from_vec(bytes)), wanted),
         Err(_) => false,
     }
 }
@@ -59,7 +59,7 @@ fn is_listed(alloc: Global, names: &[(Kind, &[u8])], wanted: &str) -> bool {
             return false;
         }
     }
-    is_told(alloc, Reply::Names(Listing::from_vec(entries)), wanted)
+    is_reported(alloc, Reply::Names(Listing::from_vec(entries)), wanted)
 }
 
 const NAMES: &[(Kind, &[u8])] = &[(Kind::File, b" %a\x7f\xff~"), (Kind::Dir, b"b")];
@@ -67,19 +67,19 @@ const NAMES: &[(Kind, &[u8])] = &[(Kind::File, b" %a\x7f\xff~"), (Kind::Dir, b"b
 #[test]
 fn writes_each_reply(rt: HostRuntime) {
     let alloc = rt.alloc();
-    assert!(rt; is_told(alloc, Reply::Done, "ok\n"));
+    assert!(rt; is_reported(alloc, Reply::Done, "ok\n"));
     assert!(rt;
-        is_told(
+        is_reported(
             alloc,
             Reply::Count(u64::MAX),
             "count 18446744073709551615\n"
         )
     );
-    assert!(rt; are_told(alloc, b"", "bytes -\n"));
-    assert!(rt; are_told(alloc, b"\x00\x1f\xa9", "bytes 001fa9\n"));
-    assert!(rt; is_told(alloc, Reply::Stat(Kind::Dir, 0, 7), "dir 0 7\n"));
-    assert!(rt; is_told(alloc, Reply::Stat(Kind::File, 4096, 0), "file 4096 0\n"));
+    assert!(rt; are_reported(alloc, b"", "bytes -\n"));
+    assert!(rt; are_reported(alloc, b"\x00\x1f\xa9", "bytes 001fa9\n"));
+    assert!(rt; is_reported(alloc, Reply::Stat(Kind::Dir, 0, 7), "dir 0 7\n"));
+    assert!(rt; is_reported(alloc, Reply::Stat(Kind::File, 4096, 0), "file 4096 0\n"));
     assert!(rt; is_listed(alloc, &[], "names 0\n"));
     assert!(rt; is_listed(alloc, NAMES, "names 2\nf %20%25a%7F%FF~\nd b\n"));
-    assert!(rt; is_told(alloc, Reply::Fault(Errno::ENOTEMPTY), "fault ENOTEMPTY\n"));
+    assert!(rt; is_reported(alloc, Reply::Fault(Errno::ENOTEMPTY), "fault ENOTEMPTY\n"));
 }

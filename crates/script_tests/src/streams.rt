@@ -167,8 +167,8 @@ pub fn whole<'a>(script: &'a [u8], answers: &'a [u8]) -> Stream<'a> {
 }
 
 /// Whether this is why a script has ended.
-fn is_fault(told: &Option<ScriptFault>, wanted: Option<Fault>) -> bool {
-    match (told, wanted) {
+fn is_fault(reported: &Option<ScriptFault>, wanted: Option<Fault>) -> bool {
+    match (reported, wanted) {
         (None, None)
         | (Some(ScriptFault::Read), Some(Fault::Read))
         | (Some(ScriptFault::Write), Some(Fault::Write)) => true,
@@ -203,8 +203,8 @@ pub fn ends_so(alloc: Global, volume: &mut Volume, stream: &Stream<'_>) -> bool 
         fails: stream.unflushed,
         signal: stream.signal,
     };
-    let told = run(alloc, volume, &mut reader, &mut writer);
-    is_fault(&told, stream.fault)
+    let reported = run(alloc, volume, &mut reader, &mut writer);
+    is_fault(&reported, stream.fault)
         && writer.got.as_slice() == stream.answers
         && !reader.signal
         && !writer.signal
@@ -414,17 +414,17 @@ const DONE: &[Left] = &[
 /// At how many places the script stops as the lines before say, where it cannot be read further.
 fn stops_everywhere(alloc: Global) -> usize {
     let mut place = 0usize;
-    let mut told = 0usize;
+    let mut reported = 0usize;
     let mut image = "D / 0\n";
     for row in DONE {
-        let answers = TOLD.get(..told).unwrap_or(b"");
+        let answers = TOLD.get(..reported).unwrap_or(b"");
         for _ in 0..row.0.len() {
             if !stops_behind(alloc, SNAPSHOT.get(..place).unwrap_or(b"x"), answers, image) {
                 return place;
             }
             place = place.saturating_add(1);
         }
-        told = told.saturating_add(row.1.len());
+        reported = reported.saturating_add(row.1.len());
         image = row.2;
     }
     place
@@ -437,16 +437,16 @@ fn stops_at_each_byte_that_cannot_be_read(rt: HostRuntime) {
 
 /// At how many of the bytes of its answers the script stops as its lines say, where no more is taken.
 fn fails_everywhere(alloc: Global) -> usize {
-    let mut told = 0usize;
+    let mut reported = 0usize;
     for row in DONE {
         for _ in 0..row.1.len() {
-            if !stops_after(alloc, SNAPSHOT, TOLD.get(..told).unwrap_or(b"x"), row.2) {
-                return told;
+            if !stops_after(alloc, SNAPSHOT, TOLD.get(..reported).unwrap_or(b"x"), row.2) {
+                return reported;
             }
-            told = told.saturating_add(1);
+            reported = reported.saturating_add(1);
         }
     }
-    told
+    reported
 }
 
 #[test]

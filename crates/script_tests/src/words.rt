@@ -1,6 +1,6 @@
 //! Numbers and bytes as words of a line.
-use lines::values::{read_bytes, read_number};
 use std::alloc::Global;
+use textio::values::{read_bytes, read_number};
 
 const NUMBERS: &[(&str, Option<u64>)] = &[
     ("0", Some(0)),

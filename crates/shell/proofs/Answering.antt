@@ -5,7 +5,7 @@ use Rattle.reference.specs.declared.call.Call.{Call}
 use Rattle.reference.specs.declared.reply.Reply.{Reply}
 use Rattle.reference.specs.declared.reply.Reply.TheVariants.{Done}
 use Rattle.shell.specs.declared.request.Request.{Request}
-use Rattle.shell.specs.declared.request.Look.{Look}
+use Rattle.shell.specs.declared.request.ReadCall.{ReadCall}
 use Rattle.shell.specs.declared.request.Request.TheVariants.{Moment, Wanted, Past}
 use Rattle.shell.specs.Requests.{request_of, IsReadAs}
 use Rattle.shell.specs.Replies.{reply_text}
@@ -53,12 +53,12 @@ answers_settled means means' at Wrote q e r is does wrote first m =
     (reply_text (settled_reply r), after, is first (reply_text (settled_reply r)) after (r, done.0, refl, refl), (done.1, m.1), wrote)
 
 -- a look into a snapshot was answered
-pub answers_look : (means means' : Worlds) (at : ℕ) (Wrote : List ℕ → Type 0) (q : Request) (name : List ℕ) (l : Look) (r : Reply) → q ≡ Past name l
+pub answers_look : (means means' : Worlds) (at : ℕ) (Wrote : List ℕ → Type 0) (q : Request) (name : List ℕ) (l : ReadCall) (r : Reply) → q ≡ Past name l
     → ((w : World) → means w → Tells w name l r × means' w) → Wrote (reply_text r)
     → Leads (Meant means at) (Meant means' at) (λ first. Answers first q) Wrote
 answers_look means means' at Wrote q name l r is tells wrote first m =
-    let told = tells first.world m.0 in
-    (reply_text r, first, subst (λ (x : Request). Answers first x (reply_text r) first) (sym is) (r, told.0, refl, refl), (told.1, m.1), wrote)
+    let reported = tells first.world m.0 in
+    (reply_text r, first, subst (λ (x : Request). Answers first x (reply_text r) first) (sym is) (r, reported.0, refl, refl), (reported.1, m.1), wrote)
 
 -- what a line asks for was read and answered
 pub line_done : (means means' : States) (Wrote : List ℕ → Type 0) (line : List ℕ) (q : Request) → IsReadAs (request_of line) q

@@ -4,13 +4,13 @@ use Rattle.std.specs.List.{All}
 use Rattle.std.specs.Prelude.{Option}
 use Rattle.std.specs.Io.KnownBytes.{Appends}
 use Rattle.std.proofs.KnownBytes.{Appends-nil, Appends-trans}
-use Rattle.lines.specs.Parts.{AppendsPart}
+use Rattle.textio.specs.Parts.{AppendsPart}
 use Rattle.shell.specs.Runs.{Leads, States}
 use Rattle.shell.specs.Script.{Does}
 use Rattle.shell.specs.Progress.{FailedIn, Went}
-use Rattle.lines.specs.Held.{Holds}
+use Rattle.textio.specs.Held.{Holds}
 use Rattle.shell.proofs.Progress.{does_held, failed_line, failed_then, went_line, went_nothing, went_on, went_then}
-use Rattle.lines.proofs.HeldFacts.{hold_more, holds_nothing, line_cut}
+use Rattle.textio.proofs.HeldFacts.{hold_more, holds_nothing, line_cut}
 
 -- the lines that end in a piece were done, and what follows them is held
 abbrev pub TakesIn : States → States → Option (List ℕ) → Option (List ℕ) → List ℕ → List ℕ → List ℕ → Type 0

@@ -55,6 +55,6 @@ too_small_a_fanout : takes betr (codes "betr" ∷ codes "--fanout" ∷ codes "3"
 unfolding clap_on_literals betr
 too_small_a_fanout = refl
 
-version_is_told : fault_of betr (codes "betr" ∷ codes "--version" ∷ []) ≡ DisplayVersion ∷ []
+version_is_reported : fault_of betr (codes "betr" ∷ codes "--version" ∷ []) ≡ DisplayVersion ∷ []
 unfolding clap_on_literals betr
-version_is_told = refl
+version_is_reported = refl

@@ -16,13 +16,13 @@ use Rattle.reference.specs.declared.reply.Kind.{Kind}
 use Rattle.reference.specs.declared.reply.Reply.{Reply}
 use Rattle.reference.specs.declared.reply.Reply.TheVariants.{Done, Count, Data, Stat, Names, Fault}
 use Rattle.shell.specs.declared.request.Request.{Request}
-use Rattle.shell.specs.declared.request.Look.{Look}
+use Rattle.shell.specs.declared.request.ReadCall.{ReadCall}
 use Rattle.shell.specs.declared.request.Request.TheVariants.{Silent, Overlong, Malformed, Refused, Moment, Wanted, Snapshot, DropSnapshot, Restore, Past}
-use Rattle.lines.specs.Lines.{lines_of}
+use Rattle.textio.specs.Lines.{lines_of}
 use Rattle.shell.specs.Replies.{entry_line, name_word, reply_text, stat_word}
-use Rattle.lines.specs.Texts.{hex_text, number_line}
+use Rattle.textio.specs.Texts.{hex_text, number_line}
 use Rattle.shell.specs.Requests.{request_of}
-use Rattle.shell.specs.Script.{State, in_world, Answers, Does, Script, LacksNothing, Settles, Tells, settled_reply, told_of}
+use Rattle.shell.specs.Script.{State, in_world, Answers, Does, Script, LacksNothing, Settles, Tells, settled_reply, reported_of}
 
 -- ---- texts that end with a line feed
 
@@ -116,8 +116,8 @@ reply_in (Settled s) = Done
 
 -- the reply to a call that memory was there for
 replied : (w : World) (c : Call) (at : ℕ) (r : Reply) (text rest : List ℕ) → Fits w (Ask c at) (Replied r) → text ≡ reply_text r → LacksNothing (text ++ rest) → r ≡ (does at w.live c).1
-replied w c at r text rest (inl is) told lacks = ap reply_in is
-replied w c at r text rest (inr is) told lacks = absurd (lack_seen text rest (told ∙ ap (λ a. reply_text (reply_in a)) is) lacks)
+replied w c at r text rest (inl is) reported lacks = ap reply_in is
+replied w c at r text rest (inr is) reported lacks = absurd (lack_seen text rest (reported ∙ ap (λ a. reply_text (reply_in a)) is) lacks)
 
 abbrev settled_in : Answer → Snapped
 settled_in (Replied r) = Ok tt
@@ -130,8 +130,8 @@ IsSettled (Settled s) = Unit {0}
 
 -- the answer to a snapshot call that memory was there for
 settles : (w : World) (e : Event) (r : Snapped) (text rest : List ℕ) → Fits w e (Settled r) → text ≡ reply_text (settled_reply r) → LacksNothing (text ++ rest) → r ≡ settled_in (outcome w e).1
-settles w e r text rest (inl is) told lacks = ap settled_in is
-settles w e r text rest (inr lack) told lacks = absurd (lack_seen text rest (told ∙ ap (λ (x : Snapped). reply_text (settled_reply x)) (ap settled_in (lack_is w e r lack))) lacks)
+settles w e r text rest (inl is) reported lacks = ap settled_in is
+settles w e r text rest (inr lack) reported lacks = absurd (lack_seen text rest (reported ∙ ap (λ (x : Snapped). reply_text (settled_reply x)) (ap settled_in (lack_is w e r lack))) lacks)
   where
     lack_is : (w : World) (e : Event) (r : Snapped) → MayLack w e (Settled r) → Settled r ≡ Settled (Err ENOMEM)
     lack_is w (Ask c at) r is = absurd (subst IsSettled is tt)
@@ -146,9 +146,9 @@ settled_once w e text text' rest rest' v v' (r, fits, is, then) (r', fits', is',
     (is ∙ ap (λ (x : Snapped). reply_text (settled_reply x)) same ∙ sym is', then ∙ ap (λ (x : Snapped). in_world w (next w.world e (Settled x))) same ∙ sym then')
 
 -- what a look tells that memory was there for
-told : (w : World) (s : List ℕ) (l : Look) (r : Reply) (text rest : List ℕ) → Tells w s l r → text ≡ reply_text r → LacksNothing (text ++ rest) → r ≡ told_of (map.get w.snapshots s) l
-told w s l r text rest (inl is) written lacks = is
-told w s l r text rest (inr is) written lacks = absurd (lack_seen text rest (written ∙ ap reply_text is) lacks)
+reported : (w : World) (s : List ℕ) (l : ReadCall) (r : Reply) (text rest : List ℕ) → Tells w s l r → text ≡ reply_text r → LacksNothing (text ++ rest) → r ≡ reported_of (map.get w.snapshots s) l
+reported w s l r text rest (inl is) written lacks = is
+reported w s l r text rest (inr is) written lacks = absurd (lack_seen text rest (written ∙ ap reply_text is) lacks)
 
 once : (w : State) (q : Request) (text text' rest rest' : List ℕ) (v v' : State) → Answers w q text v → Answers w q text' v' → LacksNothing (text ++ rest) → LacksNothing (text' ++ rest')
     → Same text text' v v'
@@ -164,7 +164,7 @@ once w (Snapshot s) text text' rest rest' v v' a b l l' = settled_once w (TakeSn
 once w (DropSnapshot s) text text' rest rest' v v' a b l l' = settled_once w (DropNamed s) text text' rest rest' v v' a b l l'
 once w (Restore s) text text' rest rest' v v' a b l l' = settled_once w (RestoreSnapshot s) text text' rest rest' v v' a b l l'
 once w (Past s k) text text' rest rest' v v' (r, tells, is, then) (r', tells', is', then') l l' =
-    let same : r ≡ r' = told w.world s k r text rest tells is l ∙ sym (told w.world s k r' text' rest' tells' is' l') in
+    let same : r ≡ r' = reported w.world s k r text rest tells is l ∙ sym (reported w.world s k r' text' rest' tells' is' l') in
     (is ∙ ap reply_text same ∙ sym is', then ∙ sym then')
 
 line_once : (w : State) (line text text' rest rest' : List ℕ) (v v' : State) → Does w line text v → Does w line text' v' → LacksNothing (text ++ rest) → LacksNothing (text' ++ rest')

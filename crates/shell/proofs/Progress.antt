@@ -5,11 +5,11 @@ use Rattle.pathkey.specs.Texts.{onto_first}
 use Rattle.pathkey.specs.declared.errno.Errno.TheVariants.{ENOMEM}
 use Rattle.shell.specs.declared.request.Request.{Request}
 use Rattle.shell.specs.declared.request.Request.TheVariants.{Overlong, Refused}
-use Rattle.lines.specs.Lines.{lines_of, kept_before, whole}
+use Rattle.textio.specs.Lines.{lines_of, kept_before, whole}
 use Rattle.shell.specs.Requests.{request_of, IsAsked}
 use Rattle.shell.specs.Script.{State, Answers, Does, Script, Stopped}
 use Rattle.shell.specs.Progress.{AreFree, FailedIn, Went, last_line, text_of_lines}
-use Rattle.lines.specs.Held.{Holds, IsFree}
+use Rattle.textio.specs.Held.{Holds, IsFree}
 
 -- one line more without a line feed in it
 pub are_free_more : (ls : List (List ℕ)) (l : List ℕ) → AreFree ls → IsFree l → AreFree (ls ++ l ∷ [])

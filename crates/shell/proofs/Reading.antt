@@ -3,12 +3,12 @@ use Rattle.std.proofs.Common.{◌≡◌, ◌++◌, ℕ, List, [], subst}
 use Rattle.std.specs.Prelude.{Option}
 use Rattle.std.specs.Io.KnownBytes.{Appends, Consumes, IsAtEnd, Keeps}
 use Rattle.std.proofs.KnownBytes.{Appends-kept, Appends-trans, Consumes-kept, Consumes-trans}
-use Rattle.lines.specs.Parts.{AppendsPart}
+use Rattle.textio.specs.Parts.{AppendsPart}
 use Rattle.shell.specs.Script.{State, Script}
 use Rattle.shell.specs.Runs.{DoesAll, DoesGiven, DoesUntil, Leads, States}
 use Rattle.shell.specs.Progress.{FailedIn, Went, last_line}
-use Rattle.lines.specs.Held.{Holds}
-use Rattle.lines.proofs.Known.{gave_all, known_text, known_whole}
+use Rattle.textio.specs.Held.{Holds}
+use Rattle.textio.proofs.Known.{gave_all, known_text, known_whole}
 use Rattle.shell.proofs.Progress.{script_at_end, script_held, script_of_whole, stopped_at_end, stopped_between, stopped_in, went_then}
 
 -- at the head of the loop: what the reader gave was done, up to the line so far

@@ -7,7 +7,7 @@ use Rattle.std.specs.Prelude.{Vec}
 use Rattle.std.specs.declared.alloc.Global.{Global}
 use Rattle.reference.specs.declared.reply.Kind.{Kind}
 use Rattle.reference.specs.Pairs.{pairs_of}
-use Rattle.lines.specs.Parts.{AppendsPart, Gathers}
+use Rattle.textio.specs.Parts.{AppendsPart, Gathers}
 use Rattle.shell.specs.Replies.{entry_line}
 
 -- the line of an entry as a program holds it

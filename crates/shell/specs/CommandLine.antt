@@ -47,7 +47,7 @@ rules = number_rule (codes "flushers") 0 8
     ∷ number_rule (codes "leaf") 4 1024
     ∷ text_rule (codes "load")
     ∷ switch_rule (codes "image")
-    ∷ text_rule (codes "trees")
+    ∷ text_rule (codes "dot")
     ∷ new_rule (codes "SCRIPT")
     ∷ []
 

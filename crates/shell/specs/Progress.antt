@@ -1,7 +1,7 @@
 -- How far a script has come within its text.
 use Rattle.std.specs.Prelude.{◌≡◌, ℕ, List, [], ◌∷◌, ◌++◌, ⊤}
 use Rattle.shell.specs.Script.{State, Does, Script}
-use Rattle.lines.specs.Held.{IsFree}
+use Rattle.textio.specs.Held.{IsFree}
 
 -- the lines, each with its line feed
 abbrev pub text_of_lines : List (List ℕ) → List ℕ

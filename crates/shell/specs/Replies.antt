@@ -3,7 +3,7 @@ use Rattle.std.specs.Prelude.{ℕ, List, ◌++◌, length, codes, decimal, flat_
 use Rattle.pathkey.specs.Names.{Name}
 use Rattle.pathkey.specs.Numbers.{word_of}
 use Rattle.reference.specs.Image.{percent}
-use Rattle.lines.specs.Texts.{hex_text, number_line}
+use Rattle.textio.specs.Texts.{hex_text, number_line}
 use Rattle.reference.specs.declared.reply.Reply.{Reply}
 use Rattle.reference.specs.declared.reply.Reply.TheVariants.{Done, Count, Data, Stat, Names, Fault}
 use Rattle.reference.specs.declared.reply.Kind.{Kind}

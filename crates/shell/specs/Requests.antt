@@ -6,10 +6,10 @@ use Rattle.pathkey.specs.declared.errno.Errno.{Errno}
 use Rattle.pathkey.specs.declared.errno.Errno.TheVariants.{ENOMEM}
 use Rattle.reference.specs.declared.call.Call.{Call}
 use Rattle.reference.specs.declared.call.Call.TheVariants.{Mkdir, Create, Write, Truncate, Unlink, Rmdir, Rename, Rmtree, Read, Stat as AskStat, Readdir}
-use Rattle.lines.specs.Lines.{at_sign, words_of}
-use Rattle.lines.specs.Values.{bytes_of, number_of, path_of}
-use Rattle.shell.specs.declared.request.Look.{Look}
-use Rattle.shell.specs.declared.request.Look.TheVariants as look
+use Rattle.textio.specs.Lines.{at_sign, words_of}
+use Rattle.textio.specs.Values.{bytes_of, number_of, path_of}
+use Rattle.shell.specs.declared.request.ReadCall.{ReadCall}
+use Rattle.shell.specs.declared.request.ReadCall.TheVariants as look
 use Rattle.shell.specs.declared.request.Request.{Request}
 use Rattle.shell.specs.declared.request.Request.TheVariants.{Silent, Overlong, Malformed, Refused, Moment, Wanted, Snapshot, DropSnapshot, Restore, Past}
 
@@ -29,12 +29,12 @@ with_named ask (Ok a) = ask a
 with_named ask (Err e) = Refused e
 
 -- the look at a path, or why the path is refused
-abbrev pub looking : (Path → Look) → Result Path Errno → Result Look Errno
+abbrev pub looking : (Path → ReadCall) → Result Path Errno → Result ReadCall Errno
 looking at (Ok p) = Ok (at p)
 looking at (Err e) = Err e
 
 -- a look into a snapshot: its name is refused before what is looked at
-abbrev pub past : List ℕ → Result Look Errno → Request
+abbrev pub past : List ℕ → Result ReadCall Errno → Request
 past s l = with_named (λ name. with_named (Past name) l) (snap_parsed s)
 
 -- the looks of two words: the call and the snapshot's name, and the path

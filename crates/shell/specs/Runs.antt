@@ -2,7 +2,7 @@
 use Rattle.std.specs.Prelude.{◌≡◌, ℕ, List, Option, IfSome}
 use Rattle.std.specs.Io.KnownBytes.{Consumes, IsAtEnd}
 use Rattle.reference.specs.Worlds.{World}
-use Rattle.lines.specs.Lines.{lines_of, whole}
+use Rattle.textio.specs.Lines.{lines_of, whole}
 use Rattle.shell.specs.Script.{State, Script, Stopped}
 
 -- the worlds that a volume, or a client of one, means

@@ -9,11 +9,11 @@ use Rattle.reference.specs.declared.call.Call.{Call}
 use Rattle.reference.specs.declared.call.Call.TheVariants.{Read, Stat as AskStat, Readdir}
 use Rattle.reference.specs.declared.reply.Reply.{Reply}
 use Rattle.reference.specs.declared.reply.Reply.TheVariants.{Done, Fault}
-use Rattle.shell.specs.declared.request.Look.{Look}
-use Rattle.shell.specs.declared.request.Look.TheVariants as look
+use Rattle.shell.specs.declared.request.ReadCall.{ReadCall}
+use Rattle.shell.specs.declared.request.ReadCall.TheVariants as look
 use Rattle.shell.specs.declared.request.Request.{Request}
 use Rattle.shell.specs.declared.request.Request.TheVariants.{Silent, Overlong, Malformed, Refused, Moment, Wanted, Snapshot, DropSnapshot, Restore, Past}
-use Rattle.lines.specs.Lines.{lines_of}
+use Rattle.textio.specs.Lines.{lines_of}
 use Rattle.shell.specs.Requests.{request_of, IsAsked}
 use Rattle.shell.specs.Replies.{reply_text}
 
@@ -36,19 +36,19 @@ abbrev pub Settles : State → Event → List ℕ → State → Type 0
 Settles s e text s' = (r : Snapped) × Fits s.world e (Settled r) × (text ≡ reply_text (settled_reply r)) × (s' ≡ in_world s (next s.world e (Settled r)))
 
 -- the file call that a look is
-abbrev pub call_of : Look → Call
+abbrev pub call_of : ReadCall → Call
 call_of (look.Read p off n) = Read p off n
 call_of (look.Stat p) = AskStat p
 call_of (look.Readdir p) = Readdir p
 
 -- what a look into a snapshot is answered, whatever the moment: there may be none of that name
-abbrev pub told_of : Option Tree → Look → Reply
-told_of None l = Fault ENOENT
-told_of (Some t) l = (does 0 t (call_of l)).1
+abbrev pub reported_of : Option Tree → ReadCall → Reply
+reported_of None l = Fault ENOENT
+reported_of (Some t) l = (does 0 t (call_of l)).1
 
 -- the reply is that of the snapshot's tree, or want of memory
-abbrev pub Tells : World → List ℕ → Look → Reply → Type 0
-Tells w s l r = (r ≡ told_of (map.get w.snapshots s) l) ⊎ (r ≡ Fault ENOMEM)
+abbrev pub Tells : World → List ℕ → ReadCall → Reply → Type 0
+Tells w s l r = (r ≡ reported_of (map.get w.snapshots s) l) ⊎ (r ≡ Fault ENOMEM)
 
 -- what a request is answered, and what a script goes on from after it
 abbrev pub Answers : State → Request → List ℕ → State → Type 0

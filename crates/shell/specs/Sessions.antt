@@ -1,9 +1,9 @@
 -- What is asked of a state that means worlds.
 use Rattle.reference.specs.Worlds.{World, Event, Answer, Fits, next}
 use Rattle.reference.specs.declared.reply.Reply.{Reply}
-use Rattle.volume.specs.Told.{Tells}
-use Rattle.volume.specs.declared.rooted.Rooted.{Rooted}
-use Rattle.shell.specs.declared.request.Look.{Look}
+use Rattle.volume.specs.HistoryOf.{Tells}
+use Rattle.volume.specs.declared.fs_root.FsRoot.{FsRoot}
+use Rattle.shell.specs.declared.request.ReadCall.{ReadCall}
 use Rattle.shell.specs.Runs.{Worlds}
 use Rattle.shell.specs.Script.{call_of}
 
@@ -12,5 +12,5 @@ abbrev pub Goes : Worlds → Worlds → Event → Answer → Type 0
 Goes meant means e a = (w : World) → meant w → Fits w e a × means (next w e a)
 
 -- the reply to a look is that of the tree that is meant, or want of memory
-abbrev pub IsTold : Look → Reply → Rooted → Type 0
-IsTold look r i = Tells (call_of look) r i
+abbrev pub IsReported : ReadCall → Reply → FsRoot → Type 0
+IsReported look r i = Tells (call_of look) r i

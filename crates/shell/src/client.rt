@@ -1,10 +1,10 @@
 //! Scripts over a client of an engine: the same lines, on a volume that others share.
 use crate::pace::Pace;
-use crate::request::Look;
+use crate::request::ReadCall;
 use crate::script::{ScriptFault, run_lines};
-use crate::session::{Session, look_into};
+use crate::session::{Session, read_frozen};
 use crate::tidy::Tidy;
-use engine::{Client, Naming};
+use engine::{Client, EngineId};
 use pathkey::{Errno, SnapName};
 use reference::{Call, Reply};
 use std::alloc::Global;
@@ -14,13 +14,13 @@ use std::sync::Wait;
 /// A client, and what lets it wait for the lock. The lock is held for one call, never while a line is read, looked into or
 /// answered.
 #[derive(Drop)]
-struct Served<'a, J: Naming, H: Wait> {
+struct ClientSession<'a, J: EngineId, H: Wait> {
     rt: &'a H,
     client: &'a mut Client<J>,
 }
 
 /// Of a volume that others share no world can be named: what is promised of a client's calls is its history.
-impl<'a, J: Naming, H: Wait> Session for Served<'a, J, H> {
+impl<'a, J: EngineId, H: Wait> Session for ClientSession<'a, J, H> {
     ghost means = { λ s w. ⊥ };
 
     fn call(&mut self, alloc: Global, call: &Call, at: u64) -> Reply {
@@ -39,10 +39,10 @@ impl<'a, J: Naming, H: Wait> Session for Served<'a, J, H> {
         self.client.restore(self.rt, name)
     }
 
-    fn look_back(&mut self, alloc: Global, name: &SnapName, look: &Look) -> Reply {
+    fn read_snapshot(&mut self, alloc: Global, name: &SnapName, look: &ReadCall) -> Reply {
         match self.client.frozen(self.rt, name) {
             Ok(frozen) => {
-                let reply = look_into(alloc, &frozen, look);
+                let reply = read_frozen(alloc, &frozen, look);
                 // Let go by a call, so that the proof costs less.
                 drop(frozen);
                 reply
@@ -51,19 +51,19 @@ impl<'a, J: Naming, H: Wait> Session for Served<'a, J, H> {
         }
     }
 
-    fn keep_pace<P: Pace>(&mut self, _alloc: Global, _pace: &mut P) {}
+    fn run_steps<P: Pace>(&mut self, _alloc: Global, _pace: &mut P) {}
 }
 
 /// Runs all the lines of the reader through a client of an engine, and writes a reply to each as it is done, as `run_script`
 /// does on a volume. Flushers tidy the trees.
-pub fn run_client<J: Naming, H: Wait, R: Read, W: Write>(
+pub fn run_client<J: EngineId, H: Wait, R: Read, W: Write>(
     rt: &H,
     alloc: Global,
     client: &mut Client<J>,
     reader: &mut R,
     writer: &mut W,
 ) -> Result<(), ScriptFault> {
-    let mut served = Served { rt, client };
+    let mut served = ClientSession { rt, client };
     run_lines(
         alloc,
         &mut served,

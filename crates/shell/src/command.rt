@@ -1,18 +1,18 @@
 //! Reads what a line asks for.
 ghost use Rattle.std.specs.Prelude.{◌≡◌, ◌⊎◌, Err, MatchResult};
 ghost use Rattle.pathkey.specs.declared.errno.Errno.TheVariants.{ENOMEM};
-ghost use Rattle.lines.specs.Lines.{words_of};
+ghost use Rattle.textio.specs.Lines.{words_of};
 ghost use Rattle.pathkey.specs.SnapNames.{snap_parsed};
 ghost use Rattle.shell.specs.Requests.{IsReadAs, command_of, looking, named_command, offset_command, past, past_path_command, past_read_command, path_command, read_command, rename_of, request_of, third_command, truncate_command, with_value, write_command};
-ghost use Rattle.lines.specs.Values.{number_of, path_of};
+ghost use Rattle.textio.specs.Values.{number_of, path_of};
 
-use crate::request::{Look, Request};
-use lines::held::LONGEST_LINE;
-use lines::values::{read_bytes, read_number, read_path};
-use lines::words::{cut_at_sign, cut_word};
+use crate::request::{ReadCall, Request};
 use pathkey::{Errno, NoMemory, SnapName};
 use reference::Call;
 use std::alloc::Global;
+use textio::line_buffer::LONGEST_LINE;
+use textio::values::{read_bytes, read_number, read_path};
+use textio::words::{split_at_sign, split_word};
 
 /// What a line asks for.
 pub fn read_request(alloc: Global, line: &[u8]) -> Request
@@ -35,16 +35,16 @@ pub fn read_request(alloc: Global, line: &[u8]) -> Request
 fn read_command(alloc: Global, line: &[u8]) -> Request
     ensures { IsReadAs (command_of (words_of line.now)) result }
 {
-    let Some((name, rest)) = cut_word(line) else {
+    let Some((name, rest)) = split_word(line) else {
         return Request::Malformed;
     };
-    let Some((path, rest)) = cut_word(rest) else {
+    let Some((path, rest)) = split_word(rest) else {
         return read_path_command(alloc, name, rest);
     };
-    let Some((second, rest)) = cut_word(rest) else {
+    let Some((second, rest)) = split_word(rest) else {
         return read_third_command(alloc, name, path, rest);
     };
-    match cut_word(rest) {
+    match split_word(rest) {
         None => read_offset_command(alloc, name, path, second, rest),
         Some(_) => Request::Malformed,
     }
@@ -95,7 +95,7 @@ fn read_named_command(alloc: Global, name: &[u8], word: &[u8]) -> Request
     if name == b"at".as_slice() {
         return read_moment(word);
     }
-    match cut_at_sign(name) {
+    match split_at_sign(name) {
         Some((call, snapshot)) => read_past_path_command(alloc, call, snapshot, word),
         None => Request::Malformed,
     }
@@ -127,23 +127,23 @@ fn read_past_path_command(alloc: Global, call: &[u8], snapshot: &[u8], path: &[u
 }
 
 // A look at what stands at a path.
-fn read_stat(alloc: Global, path: &[u8]) -> Result<Look, Errno>
-    ensures { (result ≡ looking Look.Stat (path_of path.now)) ⊎ (result ≡ Err ENOMEM) }
+fn read_stat(alloc: Global, path: &[u8]) -> Result<ReadCall, Errno>
+    ensures { (result ≡ looking ReadCall.Stat (path_of path.now)) ⊎ (result ≡ Err ENOMEM) }
 {
     let path = read_path(alloc, path)?;
-    Ok(Look::Stat(path))
+    Ok(ReadCall::Stat(path))
 }
 
 // A look at the entries of a directory.
-fn read_readdir(alloc: Global, path: &[u8]) -> Result<Look, Errno>
-    ensures { (result ≡ looking Look.Readdir (path_of path.now)) ⊎ (result ≡ Err ENOMEM) }
+fn read_readdir(alloc: Global, path: &[u8]) -> Result<ReadCall, Errno>
+    ensures { (result ≡ looking ReadCall.Readdir (path_of path.now)) ⊎ (result ≡ Err ENOMEM) }
 {
     let path = read_path(alloc, path)?;
-    Ok(Look::Readdir(path))
+    Ok(ReadCall::Readdir(path))
 }
 
 // A look into the snapshot of that name; the name is refused before what is looked at.
-fn read_past(alloc: Global, snapshot: &[u8], look: Result<Look, Errno>) -> Request
+fn read_past(alloc: Global, snapshot: &[u8], look: Result<ReadCall, Errno>) -> Request
     ensures { (result ≡ past snapshot.now look) ⊎ (result ≡ Request.Refused ENOMEM) }
 {
     match (SnapName::parse(alloc, snapshot), look) {
@@ -204,7 +204,7 @@ fn read_offset_command(
     if name == b"read".as_slice() {
         return read_read(alloc, path, offset, what);
     }
-    match cut_at_sign(name) {
+    match split_at_sign(name) {
         Some((call, snapshot)) => {
             read_past_read_command(alloc, call, snapshot, path, offset, what)
         }
@@ -234,11 +234,11 @@ fn read_past_read_command(
 }
 
 // A look at so many bytes of a file.
-fn read_look(alloc: Global, path: &[u8], offset: u64, count: u64) -> Result<Look, Errno>
-    ensures { (result ≡ looking (λ p. Look.Read p offset count) (path_of path.now)) ⊎ (result ≡ Err ENOMEM) }
+fn read_look(alloc: Global, path: &[u8], offset: u64, count: u64) -> Result<ReadCall, Errno>
+    ensures { (result ≡ looking (λ p. ReadCall.Read p offset count) (path_of path.now)) ⊎ (result ≡ Err ENOMEM) }
 {
     let path = read_path(alloc, path)?;
-    Ok(Look::Read(path, offset, count))
+    Ok(ReadCall::Read(path, offset, count))
 }
 
 // What the words of a `write` ask for.

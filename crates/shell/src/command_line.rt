@@ -30,7 +30,7 @@ pub struct Options<'a> {
     /// Whether the image of the tree is printed after the replies.
     pub image: bool,
     /// The file for a drawing of the trees, which is written last; none where there is none.
-    pub trees: Option<&'a str>,
+    pub dot: Option<&'a str>,
     /// The file with the script; standard input where there is none.
     pub script: Option<&'a str>,
 }
@@ -45,7 +45,7 @@ pub fn read_words<'a>(alloc: Global, words: &'a [&'a str]) -> Result<Options<'a>
     ensures leaf { IfOk result (λ o. (o.leaf ≡ number (codes "leaf") 256 (texts words.entry.now)) × IsInRange 4 1024 o.leaf) }
     ensures load { IfOk result (λ o. option_map (λ s. s.now) o.load ≡ text (codes "load") (texts words.entry.now)) }
     ensures image { IfOk result (λ o. o.image ≡ is_on (codes "image") (texts words.entry.now)) }
-    ensures trees { IfOk result (λ o. option_map (λ s. s.now) o.trees ≡ text (codes "trees") (texts words.entry.now)) }
+    ensures dot { IfOk result (λ o. option_map (λ s. s.now) o.dot ≡ text (codes "dot") (texts words.entry.now)) }
     ensures script { IfOk result (λ o. option_map (λ s. s.now) o.script ≡ text (codes "SCRIPT") (texts words.entry.now)) }
     ensures memory { IfErr result (λ e. takes betr (texts words.entry.now) ≡ true → kind_of e ≡ ErrorKind.OutOfMemory) }
     ensures kinds { FailsBy (fault_of betr (texts words.entry.now)) result }
@@ -59,7 +59,7 @@ pub fn read_words<'a>(alloc: Global, words: &'a [&'a str]) -> Result<Options<'a>
         leaf: matches.get_one::<u16>("leaf").unwrap_or(256),
         load: matches.get_str("load"),
         image: matches.get_flag("image"),
-        trees: matches.get_str("trees"),
+        dot: matches.get_str("dot"),
         script: matches.get_str("SCRIPT"),
     };
     // Let go by a call, so that the proof costs less.
@@ -84,7 +84,7 @@ fn command<'a>(alloc: Global) -> Result<Command<'a>, AllocError>
 {
     let loading = with_load(alloc, with_shape(alloc));
     let printing = with_image(alloc, loading);
-    let drawing = with_trees(alloc, printing);
+    let drawing = with_dot(alloc, printing);
     with_script(alloc, drawing)
 }
 
@@ -120,19 +120,19 @@ fn with_image<'a>(
 }
 
 /// The command with the option that names the file of a drawing.
-fn with_trees<'a>(
+fn with_dot<'a>(
     alloc: Global,
     command: Result<Command<'a>, AllocError>,
 ) -> Result<Command<'a>, AllocError>
-    ensures { (app : App) → IfOk command.entry (λ c. app_of c ≡ app) → IfOk result (λ c. app_of c ≡ with_rule app (text_rule (codes "trees"))) }
+    ensures { (app : App) → IfOk command.entry (λ c. app_of c ≡ app) → IfOk result (λ c. app_of c ≡ with_rule app (text_rule (codes "dot"))) }
 {
-    let trees = text_option(
+    let dot = text_option(
         alloc,
-        "trees",
+        "dot",
         "FILE",
         "Draw the trees into the file at the end, for Graphviz's dot",
     );
-    with_arg(command, trees)
+    with_arg(command, dot)
 }
 
 /// The command with the argument that names a script.

@@ -3,7 +3,7 @@ ghost use Rattle.std.specs.Prelude.{◌≡◌};
 
 use crate::client::run_client;
 use crate::script::ScriptFault;
-use engine::{Client, Clients, Engine, Flusher, Naming, Room};
+use engine::{Client, Clients, Engine, EngineBuilder, EngineId, Flusher};
 use std::alloc::Global;
 use std::io::{Read, Write};
 use std::marker::Brand;
@@ -19,7 +19,7 @@ const TURNS: u32 = 1_000;
 /// is left out.
 ///
 /// Answers the tree that is live at the end. `Memory` also where a further owner of its nodes is refused.
-pub fn run_beside_flushers<H: Threads + Wait + Sync, R: Read, W: Write>(
+pub fn run_with_flushers<H: Threads + Wait + Sync, R: Read, W: Write>(
     rt: &H,
     alloc: Global,
     volume: Volume,
@@ -27,7 +27,7 @@ pub fn run_beside_flushers<H: Threads + Wait + Sync, R: Read, W: Write>(
     reader: &mut R,
     writer: &mut W,
 ) -> Result<Frozen, ScriptFault> {
-    match Room::new(alloc, volume) {
+    match EngineBuilder::new(alloc, volume) {
         Ok(room) => run_in::<Brand, H, R, W>(rt, alloc, room, flushers, reader, writer),
         Err(volume) => {
             // Let go by a call, so that the proof costs less.
@@ -38,10 +38,10 @@ pub fn run_beside_flushers<H: Threads + Wait + Sync, R: Read, W: Write>(
 }
 
 /// Runs the lines, beside flushers, by the one client of an engine over the volume of the room.
-fn run_in<J: Naming + Send + Sync, H: Threads + Wait + Sync, R: Read, W: Write>(
+fn run_in<J: EngineId + Send + Sync, H: Threads + Wait + Sync, R: Read, W: Write>(
     rt: &H,
     alloc: Global,
-    room: Room,
+    room: EngineBuilder,
     flushers: u8,
     reader: &mut R,
     writer: &mut W,
@@ -59,7 +59,7 @@ fn run_in<J: Naming + Send + Sync, H: Threads + Wait + Sync, R: Read, W: Write>(
 }
 
 /// Runs the lines, beside flushers, by the client of an engine that has one.
-fn run_first<J: Naming + Send + Sync, H: Threads + Wait + Sync, R: Read, W: Write>(
+fn run_first<J: EngineId + Send + Sync, H: Threads + Wait + Sync, R: Read, W: Write>(
     rt: &H,
     alloc: Global,
     mut engine: Engine<J>,
@@ -80,7 +80,7 @@ fn run_first<J: Naming + Send + Sync, H: Threads + Wait + Sync, R: Read, W: Writ
 }
 
 /// Runs the lines, beside flushers, by this client. Answers the tree that is live then.
-fn run_by<J: Naming + Send + Sync, H: Threads + Wait + Sync, R: Read, W: Write>(
+fn run_by<J: EngineId + Send + Sync, H: Threads + Wait + Sync, R: Read, W: Write>(
     rt: &H,
     alloc: Global,
     engine: &mut Engine<J>,
@@ -99,7 +99,7 @@ fn run_by<J: Naming + Send + Sync, H: Threads + Wait + Sync, R: Read, W: Write>(
 }
 
 /// The tree that is live.
-fn live_tree<J: Naming, H: Wait>(rt: &H, client: &mut Client<J>) -> Result<Frozen, ScriptFault> {
+fn live_tree<J: EngineId, H: Wait>(rt: &H, client: &mut Client<J>) -> Result<Frozen, ScriptFault> {
     match client.freeze(rt) {
         Ok(tree) => Ok(tree),
         Err(_) => Err(ScriptFault::Memory),
@@ -107,7 +107,7 @@ fn live_tree<J: Naming, H: Wait>(rt: &H, client: &mut Client<J>) -> Result<Froze
 }
 
 /// Starts the flushers, and runs the lines. All threads have ended when it returns.
-fn run_all<J: Naming + Send + Sync, H: Threads + Wait + Sync, R: Read, W: Write>(
+fn run_all<J: EngineId + Send + Sync, H: Threads + Wait + Sync, R: Read, W: Write>(
     rt: &H,
     alloc: Global,
     engine: &mut Engine<J>,
@@ -127,7 +127,7 @@ fn run_all<J: Naming + Send + Sync, H: Threads + Wait + Sync, R: Read, W: Write>
 }
 
 /// Starts a flusher in a thread of its own, if there is one.
-fn start<'s, E, J: Naming + Send + Sync + 's, H: Wait + Sync>(
+fn start<'s, E, J: EngineId + Send + Sync + 's, H: Wait + Sync>(
     scope: &Scope<'s, E>,
     rt: &'s H,
     alloc: Global,
@@ -137,6 +137,6 @@ fn start<'s, E, J: Naming + Send + Sync + 's, H: Wait + Sync>(
 }
 
 /// All turns of a flusher.
-fn flush<J: Naming, H: Wait>(rt: &H, alloc: Global, mut flusher: Flusher<J>) {
+fn flush<J: EngineId, H: Wait>(rt: &H, alloc: Global, mut flusher: Flusher<J>) {
     flusher.run_flusher(rt, alloc, TURNS);
 }

@@ -1,7 +1,7 @@
 //! What help says beside the options.
 
 /// The release that `--version` prints. `include/doorvervain.h` states it, and `tests/release` holds this to it.
-pub const RELEASE: &str = "0.1.0";
+pub const RELEASE: &str = "0.2.0";
 
 /// The first lines of help.
 pub const ABOUT: &str = "\
@@ -58,9 +58,9 @@ Images:
   betr --load kept second
 
 Drawings:
-  --trees draws both trees into a file, with the snapshots that share them.
+  --dot draws both trees into a file, with the snapshots that share them.
 
-  betr --trees trees.dot script && dot -Tsvg trees.dot > trees.svg
+  betr --dot trees.dot script && dot -Tsvg trees.dot > trees.svg
 
 Example:
   printf 'mkdir /a\\ncreate /a/x\\nwrite /a/x 0 6869\\nreaddir /a\\n' | betr

@@ -19,7 +19,7 @@ pub trait Pace {
 }
 
 /// Does the steps that the pace picks after a line: the volume means what it meant.
-pub fn keep_pace<P: Pace>(alloc: Global, volume: &mut Volume, pace: &mut P)
+pub fn run_steps<P: Pace>(alloc: Global, volume: &mut Volume, pace: &mut P)
     ensures { (w : World) → Means volume.old w → Means volume.new w }
 {
     for _ in 0..pace.turns() {

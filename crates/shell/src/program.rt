@@ -1,9 +1,9 @@
 //! The program `betr`: runs a script over a new volume, as the words of a command line ask.
 use crate::command_line::{Options, read_words};
-use crate::flushers::run_beside_flushers;
+use crate::draw::{draw_alone, draw_volume};
+use crate::flushers::run_with_flushers;
 use crate::script::{ScriptFault, run_script};
 use crate::tidy::Tidy;
-use crate::trees::{draw_alone, draw_volume};
 use clap::error::ErrorKind;
 use images::{ImageFault, LoadFault, load_image, print_image};
 use node::Shape;
@@ -75,7 +75,7 @@ pub fn run_words<H: Files + Threads + Wait + Sync, R: Read, W: Write + Drop, E: 
     };
     let status = match &ended {
         Ok(()) => DONE,
-        Err(failure) => tell(failure, errors),
+        Err(failure) => report_failure(failure, errors),
     };
     // Let go by a call, so that the proof costs less.
     drop(ended);
@@ -83,7 +83,7 @@ pub fn run_words<H: Files + Threads + Wait + Sync, R: Read, W: Write + Drop, E: 
 }
 
 /// Prints why the program ends early. Answers with what status.
-fn tell<E: Write>(failure: &Failure, errors: &mut E) -> u8 {
+fn report_failure<E: Write>(failure: &Failure, errors: &mut E) -> u8 {
     match failure {
         Failure::Words(error) => {
             let _ = write!(errors, "{error}");
@@ -201,7 +201,7 @@ fn print_all<H: Files + Threads + Wait + Sync, R: Read, W: Write>(
         drop(volume);
         return ended;
     }
-    match run_beside_flushers(rt, alloc, volume, options.flushers, script, writer) {
+    match run_with_flushers(rt, alloc, volume, options.flushers, script, writer) {
         Ok(tree) => {
             let ended = print_tree(rt, alloc, &tree, options, writer);
             // Let go by a call, so that the proof costs less.
@@ -221,7 +221,7 @@ fn print_tree<F: Files, W: Write>(
     writer: &mut W,
 ) -> Result<(), Failure> {
     print_end(alloc, tree, options.image, writer)?;
-    match options.trees {
+    match options.dot {
         Some(path) => save(rt, path, draw_alone(alloc, tree.indexes())),
         None => Ok(()),
     }
@@ -243,7 +243,7 @@ fn print_lines<F: Files, R: Read, W: Write>(
     // Let go by a call, so that the proof costs less.
     drop(tree);
     printed?;
-    match options.trees {
+    match options.dot {
         Some(path) => save(rt, path, draw_volume(alloc, volume)),
         None => Ok(()),
     }

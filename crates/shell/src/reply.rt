@@ -3,17 +3,17 @@ ghost use Rattle.std.specs.Prelude.{◌≡◌, ◌++◌, All, OnOk, OnErr, codes
 ghost use Rattle.std.specs.Io.KnownBytes.{Appends};
 ghost use Rattle.pathkey.specs.Numbers.{word_of};
 ghost use Rattle.reference.specs.Pairs.{pairs_of};
-ghost use Rattle.lines.specs.Parts.{AppendsPart, Gathers};
+ghost use Rattle.textio.specs.Parts.{AppendsPart, Gathers};
 ghost use Rattle.reference.specs.declared.reply.Reply.TheVariants.{Names, Stat};
 ghost use Rattle.shell.specs.Replies.{entry_line, reply_text, name_word, stat_word};
-ghost use Rattle.lines.specs.Texts.{IsPlain, hex_text};
+ghost use Rattle.textio.specs.Texts.{IsPlain, hex_text};
 
-use lines::gathered::Gathered;
-use lines::output::{WriteFailed, put};
-use lines::text::{is_plain, put_hex, put_number, put_number_line, put_percent};
 use pathkey::Errno;
 use reference::{Kind, Reply};
 use std::io::Write;
+use textio::output::{WriteFailed, put};
+use textio::text::{is_plain, put_hex, put_number, put_number_line, put_percent};
+use textio::write_buffer::WriteBuffer;
 
 /// Writes the lines of a reply, or a beginning of them.
 pub fn write_reply<W: Write>(writer: &mut W, reply: &Reply) -> Result<(), WriteFailed>
@@ -93,7 +93,7 @@ fn put_entries<W: Write>(writer: &mut W, entries: &[(Kind, Vec<u8>)]) -> Result<
     ensures ok { OnOk result (Appends (W.contents writer.old) (W.contents writer.new) (flat_map entry_line (pairs_of entries.now))) }
     ensures err { OnErr result (AppendsPart (W.contents writer.old) (W.contents writer.new) (flat_map entry_line (pairs_of entries.now))) }
 {
-    let mut gathered = Gathered::new();
+    let mut gathered = WriteBuffer::new();
     for (kind, name) in entries {
         gather_entry(&mut gathered, writer, *kind, name.as_slice())?;
     }
@@ -102,7 +102,7 @@ fn put_entries<W: Write>(writer: &mut W, entries: &[(Kind, Vec<u8>)]) -> Result<
 
 // Puts the line of an entry behind what is gathered; of a name with an escaped byte all is written.
 fn gather_entry<W: Write>(
-    gathered: &mut Gathered,
+    gathered: &mut WriteBuffer,
     writer: &mut W,
     kind: Kind,
     name: &[u8],
@@ -119,7 +119,7 @@ fn gather_entry<W: Write>(
 
 // The same of a name of which each byte stands for itself.
 fn gather_plain<W: Write>(
-    gathered: &mut Gathered,
+    gathered: &mut WriteBuffer,
     writer: &mut W,
     kind: Kind,
     name: &[u8],

@@ -25,12 +25,12 @@ pub enum Request {
     /// The live tree is to become that of the snapshot.
     Restore(SnapName),
     /// A look into the tree of the snapshot of that name.
-    Past(SnapName, Look),
+    Past(SnapName, ReadCall),
 }
 
 /// A file call that reads.
 #[derive(Drop)]
-pub enum Look {
+pub enum ReadCall {
     /// So many bytes of a file at most, from an offset on.
     Read(Path, u64, u64),
     /// What stands at a path.

@@ -1,28 +1,28 @@
 //! Runs a script: reads it piece by piece, does each line, and writes its reply.
 ghost use Rattle.std.specs.Prelude.{◌≡◌, ◌≢◌, ◌≤◌, ◌<◌, ◌+◌, ℕ, List, [], length, vec_capacity, OnOk, OnErr};
 ghost use Rattle.std.specs.Io.KnownBytes.{Appends};
-ghost use Rattle.lines.specs.Parts.{AppendsPart};
+ghost use Rattle.textio.specs.Parts.{AppendsPart};
 ghost use Rattle.shell.specs.Replies.{reply_text};
 ghost use Rattle.shell.specs.Script.{Answers, Does, Script, Tells, settled_reply};
 ghost use Rattle.reference.specs.Worlds.{World};
 ghost use Rattle.volume.specs.Volumes.{Means};
 ghost use Rattle.shell.specs.Runs.{DoesAll, DoesGiven, DoesUntil, Leads, Left, Meant};
 ghost use Rattle.shell.specs.Progress.{FailedIn, Went, last_line};
-ghost use Rattle.lines.specs.Held.{Holds};
+ghost use Rattle.textio.specs.Held.{Holds};
 
 use crate::command::read_request;
 use crate::pace::Pace;
 use crate::reply::{put_fault, write_reply};
 use crate::request::Request;
 use crate::session::Session;
-use lines::held::{LONGEST_LINE, PIECE, hold};
-use lines::input::read_some;
-use lines::output::{WriteFailed, flush, put};
-use lines::words::cut_line;
 use pathkey::Errno;
 use reference::Reply;
 use std::alloc::Global;
 use std::io::{Read, Write};
+use textio::input::read_some;
+use textio::line_buffer::{LONGEST_LINE, READ_SIZE, push_limited};
+use textio::output::{WriteFailed, flush, put};
+use textio::words::split_line;
 use thiserror::Error;
 use volume::Volume;
 
@@ -85,7 +85,7 @@ pub(crate) fn run_lines<S: Session, R: Read, W: Write, P: Pace>(
     ensures write { result ≡ Err ScriptFault.Write → Leads (Meant (S.means session.old) at.old) (Meant (S.means session.new) at.new)
         (DoesUntil (R.remaining reader.old)) (Appends (W.contents writer.old) (W.contents writer.new)) }
 {
-    let Ok(mut piece) = Vec::from_elem(alloc, 0u8, PIECE) else {
+    let Ok(mut piece) = Vec::from_elem(alloc, 0u8, READ_SIZE) else {
         return Err(ScriptFault::Memory);
     };
     let Ok(mut line) = Vec::with_capacity(alloc, LONGEST_LINE + 1) else {
@@ -166,17 +166,17 @@ fn take_piece<S: Session, W: Write, P: Pace>(
         (FailedIn held piece.now) (Appends (W.contents writer.old) (W.contents writer.new))) }
 {
     let mut rest = piece;
-    while let Some((end, after)) = cut_line(rest) {
+    while let Some((end, after)) = split_line(rest) {
         if line.is_empty() {
             do_line(alloc, session, at, end, writer, pace)?;
         } else {
-            hold(line, end);
+            push_limited(line, end);
             do_line(alloc, session, at, line.as_slice(), writer, pace)?;
             line.clear();
         }
         rest = after;
     }
-    hold(line, rest);
+    push_limited(line, rest);
     Ok(())
 }
 
@@ -216,11 +216,11 @@ fn do_line<S: Session, W: Write, P: Pace>(
         (AppendsPart (W.contents writer.old) (W.contents writer.new))) }
 {
     let request = read_request(alloc, line);
-    let told = answer(alloc, session, at, &request, writer);
+    let reported = answer(alloc, session, at, &request, writer);
     // Let go by a call: its kinds are not told apart here.
     drop(request);
-    told?;
-    session.keep_pace(alloc, pace);
+    reported?;
+    session.run_steps(alloc, pace);
     Ok(())
 }
 
@@ -263,7 +263,7 @@ fn answer<S: Session, W: Write>(
             put_settled(writer, settled)
         }
         Request::Past(name, look) => {
-            let reply = session.look_back(alloc, name, look);
+            let reply = session.read_snapshot(alloc, name, look);
             put_reply(writer, reply)
         }
     }
@@ -274,10 +274,10 @@ fn put_reply<W: Write>(writer: &mut W, reply: Reply) -> Result<(), WriteFailed>
     ensures ok { OnOk result (Appends (W.contents writer.old) (W.contents writer.new) (reply_text reply)) }
     ensures err { OnErr result (AppendsPart (W.contents writer.old) (W.contents writer.new) (reply_text reply)) }
 {
-    let told = write_reply(writer, &reply);
+    let reported = write_reply(writer, &reply);
     // Let go by a call, so that the proof costs less.
     drop(reply);
-    told
+    reported
 }
 
 // Writes the reply to a snapshot call.

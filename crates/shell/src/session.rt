@@ -1,11 +1,11 @@
 //! What the lines of a script are done on: a volume, or a client of an engine that others share.
 ghost use Rattle.reference.specs.Worlds.{World, TakeSnapshot, DropSnapshot, RestoreSnapshot, Ask, Replied, Settled, Fits, next};
 ghost use Rattle.shell.specs.Script.{Tells};
-ghost use Rattle.shell.specs.Sessions.{Goes, IsTold};
+ghost use Rattle.shell.specs.Sessions.{Goes, IsReported};
 ghost use Rattle.volume.specs.Volumes.{Means};
 
-use crate::pace::{Pace, keep_pace};
-use crate::request::Look;
+use crate::pace::{Pace, run_steps};
+use crate::request::ReadCall;
 use pathkey::{Errno, SnapName};
 use reference::{Call, Reply};
 use std::alloc::Global;
@@ -35,11 +35,11 @@ pub trait Session {
         ensures { Goes (means self.old) (means self.new) (RestoreSnapshot name.now) (Settled result) };
 
     /// The reply to a look into the snapshot of that name.
-    fn look_back(&mut self, alloc: Global, name: &SnapName, look: &Look) -> Reply
+    fn read_snapshot(&mut self, alloc: Global, name: &SnapName, look: &ReadCall) -> Reply
         ensures { (w : World) → means self.old w → Tells w name.now look.now result × means self.new w };
 
     /// Does the steps that the pace picks after a line, where the pace has a volume to look at.
-    fn keep_pace<P: Pace>(&mut self, alloc: Global, pace: &mut P)
+    fn run_steps<P: Pace>(&mut self, alloc: Global, pace: &mut P)
         ensures { (w : World) → means self.old w → means self.new w };
 }
 
@@ -62,25 +62,25 @@ impl Session for Volume {
         self.restore(name)
     }
 
-    fn look_back(&mut self, alloc: Global, name: &SnapName, look: &Look) -> Reply {
+    fn read_snapshot(&mut self, alloc: Global, name: &SnapName, look: &ReadCall) -> Reply {
         match self.frozen(name) {
-            Ok(frozen) => look_into(alloc, &frozen, look),
+            Ok(frozen) => read_frozen(alloc, &frozen, look),
             Err(fault) => Reply::Fault(fault),
         }
     }
 
-    fn keep_pace<P: Pace>(&mut self, alloc: Global, pace: &mut P) {
-        keep_pace(alloc, self, pace);
+    fn run_steps<P: Pace>(&mut self, alloc: Global, pace: &mut P) {
+        run_steps(alloc, self, pace);
     }
 }
 
 /// The reply to a look into a tree that stands still.
-pub(crate) fn look_into(alloc: Global, frozen: &Frozen, look: &Look) -> Reply
-    ensures { IsTold look.now result frozen.now }
+pub(crate) fn read_frozen(alloc: Global, frozen: &Frozen, look: &ReadCall) -> Reply
+    ensures { IsReported look.now result frozen.now }
 {
     match look {
-        Look::Read(path, offset, count) => frozen.read(alloc, path, *offset, *count),
-        Look::Stat(path) => frozen.stat(alloc, path),
-        Look::Readdir(path) => frozen.readdir(alloc, path),
+        ReadCall::Read(path, offset, count) => frozen.read(alloc, path, *offset, *count),
+        ReadCall::Stat(path) => frozen.stat(alloc, path),
+        ReadCall::Readdir(path) => frozen.readdir(alloc, path),
     }
 }

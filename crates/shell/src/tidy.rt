@@ -3,7 +3,7 @@
 //! No claim rests on its choices.
 use crate::pace::Pace;
 use node::StepReply;
-use volume::{Index, Step, TRIES, Volume};
+use volume::{Index, MAX_ATTEMPTS, Step, Volume};
 
 /// For how many lines a pace that found nothing to do does not look again: a look weighs both roots.
 const REST: u8 = 7;
@@ -37,7 +37,7 @@ impl Tidy {
     }
 
     /// What makes room for the step that had none, if it was one; else the heaviest flush.
-    fn choose(&self, volume: &Volume) -> Option<Step> {
+    fn choose_step(&self, volume: &Volume) -> Option<Step> {
         match self.last {
             Some(step) if self.stuck > 0 => volume.make_room(step),
             _ => heaviest(volume),
@@ -59,7 +59,7 @@ impl Pace for Tidy {
         if self.is_idle {
             return None;
         }
-        self.last = self.choose(volume);
+        self.last = self.choose_step(volume);
         self.is_idle = self.last.is_none();
         if self.is_idle {
             self.rest = REST;
@@ -69,7 +69,7 @@ impl Pace for Tidy {
 
     fn saw(&mut self, reply: StepReply) {
         self.stuck = match reply {
-            StepReply::NoRoom if self.stuck < TRIES => self.stuck + 1,
+            StepReply::NoRoom if self.stuck < MAX_ATTEMPTS => self.stuck + 1,
             _ => 0,
         };
         self.is_idle = reply == StepReply::NoMemory;

@@ -11,7 +11,7 @@ use Rattle.message.specs.Effects.{effects, Takes}
 use Rattle.node.specs.declared.node.Slot.{Slot}
 use Rattle.node.specs.declared.shape.Shape.{Shape}
 use Rattle.node.specs.declared.step.StepReply.TheVariants.{Did}
-use Rattle.node.specs.Appended.{parts, HaveTaken, IsAppended}
+use Rattle.node.specs.Appended.{batches_by_slot, HaveTaken, IsAppended}
 use Rattle.node.specs.See.{seen_slots}
 use Rattle.node.specs.Pure.{PNode, leaf, inner, PSlots, none, more, PTree}
 use Rattle.node.specs.Lawful.{IsLawfulRoot, IsLawful, next_lo, starts_at}
@@ -26,14 +26,14 @@ module _ {U V : Type 0} (means : U → Option V → Option V) where
 
   -- slots, the last of which has no end, have taken their parts of messages
   abbrev pub HaveAll : List (Msg U V) → List (Slot U V) → List (Slot U V) → Type 0
-  HaveAll ms xs ys = HaveTaken means (seen_slots xs) (parts None ms (seen_slots xs)) (seen_slots ys)
+  HaveAll ms xs ys = HaveTaken means (seen_slots xs) (batches_by_slot None ms (seen_slots xs)) (seen_slots ys)
 
   -- whatever the rest becomes, all become that behind what was made
   abbrev pub LeavesRest : List (Msg U V) → List (Slot U V) → List (Slot U V) → List (Slot U V) → Type 0
   LeavesRest ms rest done xs = (ys : List (Slot U V)) → HaveAll ms rest ys → HaveAll ms xs (done ++ ys)
 
   -- one slot more is made
-  pub rest-next : (hi : Option (List ℕ)) (ms : List (Msg U V)) (s new : Slot U V) (rest later done more_done xs : List (Slot U V)) → rest ≡ s ∷ later → more_done ≡ done ++ new ∷ [] → hi ≡ next_lo None (seen_slots later) → HaveTaken means (seen_slots (s ∷ [])) (parts hi ms (seen_slots (s ∷ []))) (seen_slots (new ∷ [])) → LeavesRest ms rest done xs → LeavesRest ms later more_done xs
+  pub rest-next : (hi : Option (List ℕ)) (ms : List (Msg U V)) (s new : Slot U V) (rest later done more_done xs : List (Slot U V)) → rest ≡ s ∷ later → more_done ≡ done ++ new ∷ [] → hi ≡ next_lo None (seen_slots later) → HaveTaken means (seen_slots (s ∷ [])) (batches_by_slot hi ms (seen_slots (s ∷ []))) (seen_slots (new ∷ [])) → LeavesRest ms rest done xs → LeavesRest ms later more_done xs
   rest-next hi ms s new rest later done more_done xs e m h t f ys r =
       let here : Takes means s.pending.0 (pieces s.lo (next_lo None (seen_slots later)) ms) new.pending.0 = subst (λ (z : Option (List ℕ)). Takes means s.pending.0 (pieces s.lo z ms) new.pending.0) h t.1 in
       let first : HaveAll ms (s ∷ later) (new ∷ ys) = (t.0, here, t.2, r) in
@@ -49,7 +49,7 @@ module _ {U V : Type 0} where
   -- ---- the messages
 
   -- the list of the slot that holds a key has taken the messages at that key
-  msgs-taken : (means : U → Option V → Option V) (hi : Option (List ℕ)) (ms : List (Msg U V)) (lo : List ℕ) (old : List (Msg U V)) (n : PNode U V) (ss new : PSlots U V) (k : List ℕ) (v : Option V) → HaveTaken means (more lo old n ss) (parts hi ms (more lo old n ss)) new → reaches lo k ≡ true → is_below k hi ≡ true → effects means (msgs_at new k) k v ≡ effects means ms k (effects means (msgs_at (more lo old n ss) k) k v)
+  msgs-taken : (means : U → Option V → Option V) (hi : Option (List ℕ)) (ms : List (Msg U V)) (lo : List ℕ) (old : List (Msg U V)) (n : PNode U V) (ss new : PSlots U V) (k : List ℕ) (v : Option V) → HaveTaken means (more lo old n ss) (batches_by_slot hi ms (more lo old n ss)) new → reaches lo k ≡ true → is_below k hi ≡ true → effects means (msgs_at new k) k v ≡ effects means ms k (effects means (msgs_at (more lo old n ss) k) k v)
   msgs-taken means hi ms lo old n ss none k v t low high = absurd t
   msgs-taken means hi ms lo old n none (more lp new o none) k v t low high = effects-taken means lo hi old ms new k v t.1 (ap (λ z. z && is_below k hi) low ∙ high)
   msgs-taken means hi ms lo old n none (more lp new o (more lq nq oq ts)) k v t low high = absurd t.3

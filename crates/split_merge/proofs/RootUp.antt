@@ -108,16 +108,16 @@ module _ {U V : Type 0} where
     child_value-emptied (more lo ms n ss) k = ap (λ c. cond c (slots_value means (emptied ss) k) (value means n k)) (begins_by-emptied ss k) ∙ ap (λ z. cond (begins_by ss k) z (value means n k)) (child_value-emptied ss k)
 
     -- the messages of the new root mean at each key what those of the slot that held it meant
-    above-same : (S : Shape) (h : ℕ) (ss : PSlots U V) (b : PNode U V) (k : List ℕ) (v : Option V) → AreLawfulSlots S ss h None → (i : IsAbove means ss b) → effects means i.msgs k v ≡ effects means (msgs_at ss k) k v
-    above-same S h ss b k v l i = i.taken.meaning k v ∙ effects-all S h None ss k v l
+    node_over_slots-same : (S : Shape) (h : ℕ) (ss : PSlots U V) (b : PNode U V) (k : List ℕ) (v : Option V) → AreLawfulSlots S ss h None → (i : IsAbove means ss b) → effects means i.msgs k v ≡ effects means (msgs_at ss k) k v
+    node_over_slots-same S h ss b k v l i = i.taken.meaning k v ∙ effects-all S h None ss k v l
 
     -- the root above means at each key what the old one meant
-    pub value-above : (S : Shape) (h : ℕ) (ss : PSlots U V) (b : PNode U V) (k : List ℕ) → AreLawfulSlots S ss h None → IsAbove means ss b → value means b k ≡ slots_value means ss k
-    value-above S h ss b k l i = ap (λ z. value means z k) i.is ∙ ap (effects means i.msgs k) (child_value-emptied ss k) ∙ above-same S h ss b k _ l i ∙ sym (slots_value_parts means ss k)
+    pub value-node_over_slots : (S : Shape) (h : ℕ) (ss : PSlots U V) (b : PNode U V) (k : List ℕ) → AreLawfulSlots S ss h None → IsAbove means ss b → value means b k ≡ slots_value means ss k
+    value-node_over_slots S h ss b k l i = ap (λ z. value means z k) i.is ∙ ap (effects means i.msgs k) (child_value-emptied ss k) ∙ node_over_slots-same S h ss b k _ l i ∙ sym (slots_value_parts means ss k)
 
     -- the root above is the old one raised
-    raised-above : (S : Shape) (h : ℕ) (ss : PSlots U V) (b : PNode U V) → AreLawfulSlots S ss h None → IsAbove means ss b → RootRaised means (inner ss) b
-    raised-above S h ss b l i = record { slots = ss; msgs = i.msgs; was = refl; is = i.is; same = λ k v. above-same S h ss b k v l i; no_more = omega (arith, i.taken.bound, length-all_msgs ss) }
+    new_root_up-node_over_slots : (S : Shape) (h : ℕ) (ss : PSlots U V) (b : PNode U V) → AreLawfulSlots S ss h None → IsAbove means ss b → RootRaised means (inner ss) b
+    new_root_up-node_over_slots S h ss b l i = record { slots = ss; msgs = i.msgs; was = refl; is = i.is; same = λ k v. node_over_slots-same S h ss b k v l i; no_more = omega (arith, i.taken.bound, length-all_msgs ss) }
 
   -- what starts somewhere has a slot
   some_slot : (lo : List ℕ) (ss : PSlots U V) → starts_at lo ss → 1 ≤ slot_count ss
@@ -125,8 +125,8 @@ module _ {U V : Type 0} where
   some_slot lo (more l ms n ss) h = omega arith
 
   -- the root above is lawful, one level higher
-  lawful-above : (means : U → Option V → Option V) (S : Shape) (h : ℕ) (ss : PSlots U V) (b : PNode U V) → IsLawfulRoot S (inner ss) h → levels (inner ss) < 16 → IsAbove means ss b → IsLawfulRoot S b (suc h)
-  lawful-above means S h ss b l e i =
+  lawful-node_over_slots : (means : U → Option V → Option V) (S : Shape) (h : ℕ) (ss : PSlots U V) (b : PNode U V) → IsLawfulRoot S (inner ss) h → levels (inner ss) < 16 → IsAbove means ss b → IsLawfulRoot S b (suc h)
+  lawful-node_over_slots means S h ss b l e i =
       let s = some_slot [] ss l.3 in
       let n : slot_count (emptied ss) ≤ S.fanout = subst (λ z. z ≤ S.fanout) (sym (slot_count-emptied ss)) l.2 in
       subst (λ z. IsLawfulRoot S z (suc h)) (sym i.is)
@@ -150,7 +150,7 @@ module _ {U V : Type 0} where
     where
       by_root : (means : U → Option V → Option V) (S : Shape) (h : ℕ) (a b : PNode U V) → IsTrue (is_shape S) → IsLawfulRoot S a h → Raised means a b → IsLawful (record { shape = S; root = b })
       by_root means S h (leaf es) b ok l q = absurd q
-      by_root means S h (inner ss) b ok l q = record { shape = ok; levels = suc h; root = lawful-above means S h ss b l q.1 q.2 }
+      by_root means S h (inner ss) b ok l q = record { shape = ok; levels = suc h; root = lawful-node_over_slots means S h ss b l q.1 q.2 }
 
   -- what root_up answers, where it has done its step
   pub answers_raised : (means : U → Option V → Option V) (a b : PTree U V) (n : PNode U V) → IsLawful a → Raised means a.root n → b ≡ with_root n a → AnswersUp means (Did 0) a b
@@ -159,9 +159,9 @@ module _ {U V : Type 0} where
       by_root : (r : PNode U V) → IsLawfulRoot a.shape r l.levels → Raised means r n → AnswersUp means (Did 0) (with_root r a) (with_root n a)
       by_root (leaf es) m q = absurd q
       by_root (inner ss) m q = record {
-        value_kept = λ k. value-above means a.shape l.levels ss n k m.4 q.2;
+        value_kept = λ k. value-node_over_slots means a.shape l.levels ss n k m.4 q.2;
         shape_kept = refl;
-        did = (refl, raised-above means a.shape l.levels ss n m.4 q.2);
+        did = (refl, new_root_up-node_over_slots means a.shape l.levels ss n m.4 q.2);
         not_there = (λ z. (cc), λ z. absurd (both_ways (has_one_slot (inner ss)) q.0 z));
         no_room = (λ z. (cc), λ z. absurd (omega (arith, z.1, q.1)));
         unchanged = tt;

@@ -52,7 +52,7 @@ module _ {U V : Type 0} where
 
   -- and not both
   not_both : (shape : Shape) (root : Bool) (ss : PSlots U V) (n : ℕ) → CanPart shape root ss 0 n → CannotPart shape root ss 0 n → ⊥
-  not_both shape root ss n can cannot = ⊎_elim (λ f. omega (arith, f, can.0)) (λ p. omega (arith, p.1, can.1 p.0)) cannot
+  not_both shape root ss n applies cannot = ⊎_elim (λ f. omega (arith, f, applies.0)) (λ p. omega (arith, p.1, applies.1 p.0)) cannot
 
   -- where the code says that there is no room, the node has none
   pub no_room : (means : U → Option V → Option V) (shape : Shape) (root : Bool) (i : ℕ) (xs : List (Slot U V)) (s : Slot U V) (ms : List (Msg U V)) → i < length xs → s ≡ get_or xs i s → ms ≡ s.pending.0 → CannotPart shape root (seen_slots xs) 0 (range_count ms) → HasNoRoom means SplitInner shape root i (seen_slots xs)

@@ -1,4 +1,4 @@
-pub mod Halves
+pub mod SplitNode
 pub mod Merged
 pub mod Raised
 pub mod Swept

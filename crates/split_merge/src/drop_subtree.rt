@@ -12,7 +12,7 @@ ghost use Rattle.split_merge.specs.Swept.{bare, Swept};
 
 use message::Update;
 use node::search::next_pivot;
-use node::{Body, Change, Node, Place, Shape, Slot, StepReply, Tree};
+use node::{Body, Node, Place, Shape, Slot, SlotStep, StepReply, Tree};
 use pathkey::{Key, NoMemory};
 use pending::Pending;
 use std::alloc::Global;
@@ -51,7 +51,11 @@ fn node_above<U: Update>(
 /// An empty subtree from `lo` on, as deep as this one: a node with one slot for each level, down to an empty leaf.
 ///
 /// It walks down the first children alone.
-fn bare_like<U: Update>(alloc: Global, lo: &Key, node: &Node<U>) -> Result<Arc<Node<U>>, NoMemory>
+fn empty_subtree_like<U: Update>(
+    alloc: Global,
+    lo: &Key,
+    node: &Node<U>,
+) -> Result<Arc<Node<U>>, NoMemory>
     ensures { IfOk result (λ n. n.value ≡ bare lo.now node.now) }
 {
     let Body::Inner(slots) = node.body() else {
@@ -60,14 +64,14 @@ fn bare_like<U: Update>(alloc: Global, lo: &Key, node: &Node<U>) -> Result<Arc<N
     let child = match slots.first() {
         // Not met in a lawful tree, whose inner nodes have slots.
         None => Arc::new(alloc, Node::empty_leaf(alloc))?,
-        Some(first) => bare_like(alloc, lo, &first.child)?,
+        Some(first) => empty_subtree_like(alloc, lo, &first.child)?,
     };
     node_above(alloc, lo, child)
 }
 
 /// Takes the oldest message away from a slot that begins at `lo`, and the subtree below it, in whose place an empty
 /// one comes.
-fn sweep<U: Update>(
+fn clear_slot<U: Update>(
     alloc: Global,
     lo: &Key,
     pending: &mut Pending<U>,
@@ -76,10 +80,10 @@ fn sweep<U: Update>(
     ensures { Swept result lo.now pending.old.0 pending.new.0 child.old.value child.new.value }
 {
     if pending.len() == 0 {
-        // Not met: `can` has found the message.
+        // Not met: `applies` has found the message.
         return StepReply::NotThere;
     }
-    let Ok(empty) = bare_like(alloc, lo, child) else {
+    let Ok(empty) = empty_subtree_like(alloc, lo, child) else {
         return StepReply::NoMemory;
     };
     pending.drop_front(1);
@@ -90,10 +94,10 @@ fn sweep<U: Update>(
 /// The drop of what stands below one slot.
 struct CoveredDrop;
 
-impl<U: Update> Change<U> for CoveredDrop {
+impl<U: Update> SlotStep<U> for CoveredDrop {
     ghost kind = { DropCovered };
 
-    fn can(&self, slots: &[Slot<U>], i: usize, hi: Option<&Key>) -> bool {
+    fn applies(&self, slots: &[Slot<U>], i: usize, hi: Option<&Key>) -> bool {
         if i >= slots.len() {
             return false;
         }
@@ -113,11 +117,11 @@ impl<U: Update> Change<U> for CoveredDrop {
         i: usize,
     ) -> StepReply {
         if i >= slots.len() {
-            // Not met: `can` has found the slot.
+            // Not met: `applies` has found the slot.
             return StepReply::NotThere;
         }
         let slot = &mut slots[i];
-        sweep(alloc, &slot.lo, &mut slot.pending, &mut slot.child)
+        clear_slot(alloc, &slot.lo, &mut slot.pending, &mut slot.child)
     }
 }
 

@@ -1,7 +1,7 @@
 //! The root one level down.
 ghost use Rattle.std.specs.Prelude.{◌≡◌, ◌∷◌, [], None, IfOk, IfErr};
 ghost use Rattle.std.specs.Option.{option_copied};
-ghost use Rattle.node.specs.Appended.{parts, HaveTaken, IsAppended};
+ghost use Rattle.node.specs.Appended.{batches_by_slot, HaveTaken, IsAppended};
 ghost use Rattle.node.specs.Pure.{inner};
 ghost use Rattle.node.specs.RootSteps.{AnswersDown};
 ghost use Rattle.node.specs.See.{seen_slots};
@@ -23,12 +23,12 @@ fn slot_over<U: Update>(
     hi: Option<&Key>,
     list: &Pending<U>,
 ) -> Result<Slot<U>, NoMemory>
-    ensures { IfOk result (λ s. HaveTaken U.means (seen_slots (slot.now ∷ [])) (parts (option_copied hi.entry) list.now.0 (seen_slots (slot.now ∷ []))) (seen_slots (s ∷ []))) }
+    ensures { IfOk result (λ s. HaveTaken U.means (seen_slots (slot.now ∷ [])) (batches_by_slot (option_copied hi.entry) list.now.0 (seen_slots (slot.now ∷ []))) (seen_slots (s ∷ []))) }
 {
     let lo = slot.lo.copy(alloc)?;
     let mut pending = slot.pending.copy(alloc)?;
     let mut part = list.copy_between(alloc, 0, &slot.lo, hi)?;
-    part.sink_all(&mut pending)?;
+    part.flush_all(&mut pending)?;
     let child = Arc::try_clone(&slot.child)?;
     Ok(Slot { lo, pending, child })
 }
@@ -40,7 +40,7 @@ fn slots_over<U: Update>(
     slots: &[Slot<U>],
     list: &Pending<U>,
 ) -> Result<Vec<Slot<U>>, NoMemory>
-    ensures { IfOk result (λ v. HaveTaken U.means (seen_slots slots.now) (parts None list.now.0 (seen_slots slots.now)) (seen_slots v.items)) }
+    ensures { IfOk result (λ v. HaveTaken U.means (seen_slots slots.now) (batches_by_slot None list.now.0 (seen_slots slots.now)) (seen_slots v.items)) }
 {
     let mut all = Vec::with_capacity(alloc, slots.len())?;
     let mut rest = slots;
@@ -66,7 +66,7 @@ fn appended<U: Update>(
 }
 
 /// The root's only child with the root's messages, or why there is none.
-fn lowered<U: Update>(alloc: Global, root: &Node<U>) -> Result<Arc<Node<U>>, StepReply>
+fn new_root_down<U: Update>(alloc: Global, root: &Node<U>) -> Result<Arc<Node<U>>, StepReply>
     ensures ok { IfOk result (λ n. Lowered U.means root.now n.value) }
     ensures err { IfErr result (λ e. Stays e root.now) }
 {
@@ -96,7 +96,7 @@ fn lowered<U: Update>(alloc: Global, root: &Node<U>) -> Result<Arc<Node<U>>, Ste
 pub fn root_down<U: Update>(alloc: Global, tree: &mut Tree<U>) -> StepReply
     ensures { AnswersDown U.means result tree.old tree.new }
 {
-    let root = match lowered(alloc, tree.root()) {
+    let root = match new_root_down(alloc, tree.root()) {
         Ok(root) => root,
         Err(reply) => return reply,
     };

@@ -15,8 +15,8 @@ ghost use Rattle.node.specs.declared.step.StepKind.TheVariants.{MergeLeaves, Mer
 ghost use Rattle.split_merge.specs.Merged.{are_alike, both, IsJoined, MergeReplies};
 
 use message::Update;
-use node::count::held;
-use node::{Body, Change, Node, Place, Shape, Slot, StepReply, Tree};
+use node::count::pending_len;
+use node::{Body, Node, Place, Shape, Slot, SlotStep, StepReply, Tree};
 use pathkey::{Key, NoMemory};
 use pending::Pending;
 use std::alloc::Global;
@@ -47,7 +47,7 @@ fn slots_fit<U: Update>(shape: Shape, left: &[Slot<U>], right: &[Slot<U>]) -> bo
     ensures no { result ≡ false → (shape.fanout < length left.now + length right.now) ⊎ (shape.pending < pending_of (seen_slots left.now) + pending_of (seen_slots right.now)) }
 {
     fit(left.len() as u128, right.len() as u128, shape.fanout)
-        && fit(held(left), held(right), shape.pending)
+        && fit(pending_len(left), pending_len(right), shape.pending)
 }
 
 /// Whether one node has room for what two nodes hold, or they are of two kinds.
@@ -77,7 +77,7 @@ fn pair_fits<U: Update>(shape: Shape, slots: &[Slot<U>], i: usize) -> bool
     ensures no { result ≡ false → AreTooMany shape (slots_from i (seen_slots slots.now)) }
 {
     if !has_next(slots, i) {
-        // Not met: `can` has found the next slot.
+        // Not met: `applies` has found the next slot.
         return true;
     }
     let first = &slots[i];
@@ -98,7 +98,7 @@ fn are_of_one_kind<U: Update>(left: &Node<U>, right: &Node<U>) -> bool
 }
 
 /// Moves what the node `right` holds behind what `left` holds.
-fn join_nodes<U: Update>(left: &mut Arc<Node<U>>, right: &mut Arc<Node<U>>) -> Result<(), NoMemory>
+fn merge_nodes<U: Update>(left: &mut Arc<Node<U>>, right: &mut Arc<Node<U>>) -> Result<(), NoMemory>
     requires { are_alike left.old.value right.old.value ≡ true }
     ensures ok { OnOk result (left.new.value ≡ both left.old.value right.old.value) }
     ensures err { OnErr result ((left.new.value ≡ left.old.value) × (right.new.value ≡ right.old.value)) }
@@ -113,12 +113,12 @@ fn join_nodes<U: Update>(left: &mut Arc<Node<U>>, right: &mut Arc<Node<U>>) -> R
         (Body::Leaf(_), Body::Inner(_)) => unreachable!(),
         (Body::Inner(_), Body::Leaf(_)) => unreachable!(),
     }
-    left.weigh();
+    left.update_weight();
     Ok(())
 }
 
 /// A list of what waits in two slots, the messages of the right one behind the others. Both lists stay as they are, and are shared.
-fn both_lists<U: Update>(
+fn merged_pending<U: Update>(
     alloc: Global,
     left: &Slot<U>,
     right: &Slot<U>,
@@ -126,18 +126,22 @@ fn both_lists<U: Update>(
     ensures { IfOk result (λ p. Takes U.means left.now.pending.0 right.now.pending.0 p.0) }
 {
     let list = left.pending.copy(alloc)?;
-    list.joined(alloc, right.pending.copy(alloc)?, &right.lo)
+    list.merged(alloc, right.pending.copy(alloc)?, &right.lo)
 }
 
 /// Moves the messages of the slot `right`, and what its child holds, behind those of `left`.
-fn join<U: Update>(alloc: Global, left: &mut Slot<U>, right: &mut Slot<U>) -> Result<(), NoMemory>
+fn merge_into_left<U: Update>(
+    alloc: Global,
+    left: &mut Slot<U>,
+    right: &mut Slot<U>,
+) -> Result<(), NoMemory>
     requires { are_alike left.old.child.value right.old.child.value ≡ true }
     ensures ok { OnOk result (IsJoined U.means left.old right.old left.new) }
     ensures err { OnErr result ((see_slot left.new ≡ see_slot left.old) × (see_slot right.new ≡ see_slot right.old)) }
 {
     // First, since nothing may be refused once the nodes are joined.
-    let list = both_lists(alloc, left, right)?;
-    join_nodes(&mut left.child, &mut right.child)?;
+    let list = merged_pending(alloc, left, right)?;
+    merge_nodes(&mut left.child, &mut right.child)?;
     left.pending = list;
     Ok(())
 }
@@ -149,14 +153,14 @@ fn merge_slots<U: Update>(alloc: Global, slots: &mut Vec<Slot<U>>, i: usize) -> 
     ensures { (shape : Shape) (root : Bool) → MergeReplies U.means shape root i result (seen_slots slots.old.items) (seen_slots slots.new.items) }
 {
     if !has_next(slots.as_slice(), i) {
-        // Not met, nor are two kinds: `can` has found two nodes of one kind.
+        // Not met, nor are two kinds: `applies` has found two nodes of one kind.
         return StepReply::NotThere;
     }
     if !are_of_one_kind(&slots[i].child, &slots[i + 1].child) {
         return StepReply::NotThere;
     }
     let mut right = slots.remove(i + 1);
-    if join(alloc, &mut slots[i], &mut right).is_ok() {
+    if merge_into_left(alloc, &mut slots[i], &mut right).is_ok() {
         return StepReply::Did(0);
     }
     // Refused memory: the slot goes back to the place that it has just left.
@@ -169,10 +173,10 @@ fn merge_slots<U: Update>(alloc: Global, slots: &mut Vec<Slot<U>>, i: usize) -> 
 /// The merge of the leaves below two slots.
 struct LeafMerge;
 
-impl<U: Update> Change<U> for LeafMerge {
+impl<U: Update> SlotStep<U> for LeafMerge {
     ghost kind = { MergeLeaves };
 
-    fn can(&self, slots: &[Slot<U>], i: usize, _hi: Option<&Key>) -> bool {
+    fn applies(&self, slots: &[Slot<U>], i: usize, _hi: Option<&Key>) -> bool {
         if !has_next(slots, i) {
             return false;
         }
@@ -200,10 +204,10 @@ impl<U: Update> Change<U> for LeafMerge {
 /// The merge of the inner nodes below two slots.
 struct InnerMerge;
 
-impl<U: Update> Change<U> for InnerMerge {
+impl<U: Update> SlotStep<U> for InnerMerge {
     ghost kind = { MergeInner };
 
-    fn can(&self, slots: &[Slot<U>], i: usize, _hi: Option<&Key>) -> bool {
+    fn applies(&self, slots: &[Slot<U>], i: usize, _hi: Option<&Key>) -> bool {
         if !has_next(slots, i) {
             return false;
         }

@@ -31,19 +31,19 @@ fn has_levels<U: Update>(node: &Node<U>, n: u8) -> bool
 }
 
 /// A list of all messages of the slots, which it shares with them, slot by slot.
-fn gathered<U: Update>(alloc: Global, slots: &[Slot<U>]) -> Result<Pending<U>, NoMemory>
+fn collected_msgs<U: Update>(alloc: Global, slots: &[Slot<U>]) -> Result<Pending<U>, NoMemory>
     ensures { IfOk result (λ p. Takes U.means [] (all_msgs (seen_slots slots.now)) p.0) }
 {
     let mut all = Pending::new(alloc);
     for slot in slots {
         let own = slot.pending.copy(alloc)?;
-        all = all.joined(alloc, own, &slot.lo)?;
+        all = all.merged(alloc, own, &slot.lo)?;
     }
     Ok(all)
 }
 
 /// The slots without their messages, over the same children.
-fn hollowed<U: Update>(alloc: Global, slots: &[Slot<U>]) -> Result<Vec<Slot<U>>, NoMemory>
+fn slots_without_msgs<U: Update>(alloc: Global, slots: &[Slot<U>]) -> Result<Vec<Slot<U>>, NoMemory>
     ensures { IfOk result (λ v. map see_slot v.items ≡ map hollow slots.now) }
 {
     let mut copy = Vec::with_capacity(alloc, slots.len())?;
@@ -60,13 +60,13 @@ fn hollowed<U: Update>(alloc: Global, slots: &[Slot<U>]) -> Result<Vec<Slot<U>>,
 }
 
 /// A node with one slot over these, which holds their messages.
-fn above<U: Update>(alloc: Global, slots: &[Slot<U>]) -> Result<Arc<Node<U>>, NoMemory>
+fn node_over_slots<U: Update>(alloc: Global, slots: &[Slot<U>]) -> Result<Arc<Node<U>>, NoMemory>
     ensures { IfOk result (λ n. IsAbove U.means (seen_slots slots.now) n.value) }
 {
-    let body = Body::Inner(hollowed(alloc, slots)?);
+    let body = Body::Inner(slots_without_msgs(alloc, slots)?);
     let slot = Slot {
         lo: Key::new(alloc),
-        pending: gathered(alloc, slots)?,
+        pending: collected_msgs(alloc, slots)?,
         child: Arc::new(alloc, Node::of(body))?,
     };
     let mut one = Vec::with_capacity(alloc, 1)?;
@@ -76,7 +76,7 @@ fn above<U: Update>(alloc: Global, slots: &[Slot<U>]) -> Result<Arc<Node<U>>, No
 }
 
 /// A root above this one, or why there is none.
-fn raised<U: Update>(alloc: Global, root: &Node<U>) -> Result<Arc<Node<U>>, StepReply>
+fn new_root_up<U: Update>(alloc: Global, root: &Node<U>) -> Result<Arc<Node<U>>, StepReply>
     ensures ok { IfOk result (λ n. Raised U.means root.now n.value) }
     ensures err { IfErr result (λ e. Refused U.means e root.now) }
 {
@@ -90,7 +90,7 @@ fn raised<U: Update>(alloc: Global, root: &Node<U>) -> Result<Arc<Node<U>>, Step
     if has_levels(root, 16) {
         return Err(StepReply::NoRoom);
     }
-    let Ok(new) = above(alloc, slots.as_slice()) else {
+    let Ok(new) = node_over_slots(alloc, slots.as_slice()) else {
         return Err(StepReply::NoMemory);
     };
     Ok(new)
@@ -103,7 +103,7 @@ fn raised<U: Update>(alloc: Global, root: &Node<U>) -> Result<Arc<Node<U>>, Step
 pub fn root_up<U: Update>(alloc: Global, tree: &mut Tree<U>) -> StepReply
     ensures { AnswersUp U.means result tree.old tree.new }
 {
-    let root = match raised(alloc, tree.root()) {
+    let root = match new_root_up(alloc, tree.root()) {
         Ok(root) => root,
         Err(reply) => return reply,
     };

@@ -6,20 +6,20 @@ ghost use Rattle.node.specs.StepRows.{is_divisible as is_divided};
 ghost use Rattle.node.specs.See.{seen_slots};
 ghost use Rattle.node.specs.Steps.{Answers};
 ghost use Rattle.node.specs.declared.step.StepKind.TheVariants.{SplitInner};
-ghost use Rattle.split_merge.specs.Halves.{HalvesOf};
+ghost use Rattle.split_merge.specs.SplitNode.{HalvesOf};
 
-use message::{Changes, Update};
+use message::{Update, UpdateTarget};
 use node::copy::copy_slots;
-use node::count::can_part;
-use node::cut::cut_slot;
-use node::{Body, Change, Node, Place, Shape, Slot, StepReply, Tree};
+use node::count::can_split;
+use node::cut::split_slot;
+use node::{Body, Node, Place, Shape, Slot, SlotStep, StepReply, Tree};
 use pathkey::{Key, NoMemory};
 use std::alloc::Global;
 use std::sync::Arc;
 
 /// The halves of an inner node, and the pivot between them.
 #[derive(Drop)]
-struct Halves<U: Changes> {
+struct SplitNode<U: UpdateTarget> {
     pivot: Key,
     left: Arc<Node<U>>,
     right: Arc<Node<U>>,
@@ -34,7 +34,7 @@ fn node_over<U: Update>(alloc: Global, slots: &[Slot<U>]) -> Result<Arc<Node<U>>
 }
 
 /// The halves of a node, where it is an inner node with two slots or more.
-fn halve<U: Update>(alloc: Global, node: &Node<U>) -> Result<Option<Halves<U>>, NoMemory>
+fn split_half<U: Update>(alloc: Global, node: &Node<U>) -> Result<Option<SplitNode<U>>, NoMemory>
     ensures { IfOk result (HalvesOf node.now) }
 {
     let Body::Inner(slots) = node.body() else {
@@ -45,7 +45,7 @@ fn halve<U: Update>(alloc: Global, node: &Node<U>) -> Result<Option<Halves<U>>, 
         return Ok(None);
     }
     let (first, second) = slots.as_slice().split_at(half);
-    Ok(Some(Halves {
+    Ok(Some(SplitNode {
         pivot: second[0].lo.copy(alloc)?,
         left: node_over(alloc, first)?,
         right: node_over(alloc, second)?,
@@ -65,10 +65,10 @@ fn is_divisible<U: Update>(node: &Node<U>) -> bool
 /// The split of the inner node below one slot.
 struct InnerSplit;
 
-impl<U: Update> Change<U> for InnerSplit {
+impl<U: Update> SlotStep<U> for InnerSplit {
     ghost kind = { SplitInner };
 
-    fn can(&self, slots: &[Slot<U>], i: usize, _hi: Option<&Key>) -> bool {
+    fn applies(&self, slots: &[Slot<U>], i: usize, _hi: Option<&Key>) -> bool {
         if i >= slots.len() {
             return false;
         }
@@ -78,11 +78,11 @@ impl<U: Update> Change<U> for InnerSplit {
 
     fn has_room(&self, shape: Shape, root: bool, slots: &[Slot<U>], i: usize) -> bool {
         if i >= slots.len() {
-            // Not met: `can` has found the slot.
+            // Not met: `applies` has found the slot.
             return true;
         }
         let slot = &slots[i];
-        can_part(shape, root, slots, 0, &slot.pending)
+        can_split(shape, root, slots, 0, &slot.pending)
     }
 
     fn change(
@@ -94,20 +94,20 @@ impl<U: Update> Change<U> for InnerSplit {
         i: usize,
     ) -> StepReply {
         if i >= slots.len() {
-            // Not met: `can` has found the slot.
+            // Not met: `applies` has found the slot.
             return StepReply::NotThere;
         }
-        let Ok(halves) = halve(alloc, &slots[i].child) else {
+        let Ok(halves) = split_half(alloc, &slots[i].child) else {
             return StepReply::NoMemory;
         };
-        let Some(Halves { pivot, left, right }) = halves else {
-            // Not met: `can` has found an inner node with two slots or more.
+        let Some(SplitNode { pivot, left, right }) = halves else {
+            // Not met: `applies` has found an inner node with two slots or more.
             return StepReply::NotThere;
         };
         if slots.reserve(1).is_err() {
             return StepReply::NoMemory;
         }
-        let Ok(back) = cut_slot(alloc, &mut slots[i], 0, pivot, left, right) else {
+        let Ok(back) = split_slot(alloc, &mut slots[i], 0, pivot, left, right) else {
             return StepReply::NoMemory;
         };
         let Ok(()) = slots.insert(i + 1, back) else {

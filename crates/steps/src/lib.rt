@@ -10,11 +10,13 @@ use node::{StepKind, StepReply, Tree, TreeStep};
 use split_merge::{drop_covered, merge_inner, merge_leaves, root_down, root_up, split_inner};
 use std::alloc::Global;
 
-pub mod relief;
+pub mod compaction;
 pub mod room;
 
-pub use relief::{Alone, Lane, TRIES, Turn, relieve, relieve_in};
-pub use room::{make_room, part_ahead};
+pub use compaction::{
+    CompactTarget, MAX_ATTEMPTS, SingleTree, TriedStep, compact_in, compact_step,
+};
+pub use room::{make_room, preemptive_split};
 
 /// Does the step. Whatever it answers, the tree means what it meant.
 ///

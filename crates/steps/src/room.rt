@@ -2,7 +2,7 @@
 //!
 //! No claim rests on the choices that are made here: every step keeps what the tree means, and is proved to.
 use message::Update;
-use node::count::held;
+use node::count::pending_len;
 use node::{Body, Node, Place, Shape, Slot, StepKind, Tree, TreeStep};
 
 /// The slots of the node that the numbers lead to; `None` where no inner node is there.
@@ -15,7 +15,7 @@ fn slots_at<'a, U: Update>(root: &'a Node<U>, numbers: &[u8]) -> Option<&'a [Slo
 }
 
 /// The place that these numbers lead to; `None` where they are more than 15.
-fn place_of(numbers: &[u8]) -> Option<Place> {
+fn place_from(numbers: &[u8]) -> Option<Place> {
     let mut at = Place::root();
     for number in numbers {
         at = at.under(*number)?;
@@ -64,14 +64,14 @@ fn of_root(kind: StepKind) -> TreeStep {
 }
 
 /// The step that parts the node at a place: at the root a new root goes above it first.
-fn part(at: Place) -> Option<TreeStep> {
+fn split_node(at: Place) -> Option<TreeStep> {
     let Some((last, above)) = at.numbers().split_last() else {
         return Some(of_root(StepKind::RootUp));
     };
     Some(TreeStep {
         kind: StepKind::SplitInner,
         // Always a place: these are the numbers of one without the last.
-        at: place_of(above)?,
+        at: place_from(above)?,
         slot: *last,
     })
 }
@@ -123,7 +123,7 @@ fn merge_in<U: Update>(shape: Shape, slots: &[Slot<U>], at: Place) -> Option<Tre
 }
 
 /// The first merge in the nodes on the way from the root to the node that the numbers lead to, in that one too.
-fn merge_on_way<U: Update>(tree: &Tree<U>, numbers: &[u8]) -> Option<TreeStep> {
+fn merge_on_path<U: Update>(tree: &Tree<U>, numbers: &[u8]) -> Option<TreeStep> {
     let mut node: &Node<U> = tree.root();
     let mut at = Place::root();
     for number in numbers {
@@ -156,7 +156,7 @@ fn lower<U: Update>(tree: &Tree<U>) -> Option<TreeStep> {
 fn shrink<U: Update>(tree: &Tree<U>, at: Place) -> Option<TreeStep> {
     match lower(tree) {
         Some(step) => Some(step),
-        None => merge_on_way(tree, at.numbers()),
+        None => merge_on_path(tree, at.numbers()),
     }
 }
 
@@ -173,7 +173,7 @@ fn part_full<U: Update>(tree: &Tree<U>, flush: TreeStep) -> Option<TreeStep> {
     let shape = tree.shape();
     let are_full = slots.len() >= shape.fanout as usize && entries.len() >= shape.leaf as usize;
     if are_full && slot.pending.len() > 1 {
-        part(flush.at)
+        split_node(flush.at)
     } else {
         None
     }
@@ -181,7 +181,7 @@ fn part_full<U: Update>(tree: &Tree<U>, flush: TreeStep) -> Option<TreeStep> {
 
 /// The step that reshapes the nodes on the way to a flush before the flush is tried: a merge of nodes that removals have left
 /// nearly empty, or else a cut of the flush's node. `None` if the flush is to be tried at once.
-pub fn part_ahead<U: Update>(tree: &Tree<U>, flush: TreeStep) -> Option<TreeStep> {
+pub fn preemptive_split<U: Update>(tree: &Tree<U>, flush: TreeStep) -> Option<TreeStep> {
     match shrink(tree, flush.at) {
         Some(step) => Some(step),
         None => part_full(tree, flush),
@@ -217,7 +217,8 @@ fn merge_fitting<U: Update>(tree: &Tree<U>, at: Place) -> Option<TreeStep> {
 fn takes_any<U: Update>(shape: Shape, slot: &Slot<U>) -> bool {
     match slot.child.slots() {
         // A message has at most one piece for each slot.
-        Some(below) => held(below).saturating_add(below.len() as u128) <= shape.pending as u128,
+        Some(below) => pending_len(below).saturating_add(below.len() as u128)
+            <= shape.pending as u128,
         None => false,
     }
 }
@@ -254,14 +255,14 @@ fn flush_or_part<U: Update>(slots: &[Slot<U>], flush: TreeStep) -> Option<TreeSt
         return Some(other);
     }
     // The flush's own slot is the fullest, and it has no room: the node is parted.
-    part(flush.at)
+    split_node(flush.at)
 }
 
 /// What gives the step's node room for one slot more, or makes that needless.
-fn widen<U: Update>(tree: &Tree<U>, step: TreeStep) -> Option<TreeStep> {
+fn widen_parent<U: Update>(tree: &Tree<U>, step: TreeStep) -> Option<TreeStep> {
     let slots = slots_at(tree.root(), step.at.numbers())?;
     if slots.len() >= tree.shape().fanout as usize {
-        return part(step.at);
+        return split_node(step.at);
     }
     match step.kind {
         StepKind::SplitInner => unload(tree, slots, step),
@@ -278,7 +279,7 @@ fn widen<U: Update>(tree: &Tree<U>, step: TreeStep) -> Option<TreeStep> {
 pub fn make_room<U: Update>(tree: &Tree<U>, step: TreeStep) -> Option<TreeStep> {
     match step.kind {
         StepKind::FlushInner => flush_fullest(tree, step.at.under(step.slot)?),
-        StepKind::FlushLeaf | StepKind::SplitInner => widen(tree, step),
+        StepKind::FlushLeaf | StepKind::SplitInner => widen_parent(tree, step),
         // For a merge and for a new root none is known; a drop and a root down always have room.
         _ => None,
     }

@@ -2,8 +2,8 @@
 use node::Shape;
 use pathkey::SnapName;
 use reference::Call;
-use samples::Ask;
 use std::alloc::Global;
+use test_support::SampleCall;
 
 /// The smallest shape.
 pub const SMALL: Shape = Shape {
@@ -13,7 +13,7 @@ pub const SMALL: Shape = Shape {
 };
 
 /// The call.
-pub fn call_of(alloc: Global, ask: Ask<'_>) -> Option<Call> {
+pub fn call_of(alloc: Global, ask: SampleCall<'_>) -> Option<Call> {
     ask.call(alloc).ok()
 }
 

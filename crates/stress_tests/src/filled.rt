@@ -1,11 +1,11 @@
 //! Volumes of many files, from whose roots jobs can be taken.
 use crate::asked::{SMALL, call_of, name_of};
 use crate::own::{OWNED, PLACE, mark_of};
-use engine::Room;
+use engine::EngineBuilder;
 use pathkey::Errno;
 use reference::{Call, Reply};
-use samples::{Ask, Told, file_name};
 use std::alloc::Global;
+use test_support::{ExpectedReply, SampleCall, file_name};
 use volume::{Index, TakeReply, Volume};
 
 /// How many files there are.
@@ -20,7 +20,12 @@ fn reply_to(alloc: Global, volume: &mut Volume, call: &Call) -> Reply {
 }
 
 /// Whether a call of the volume is answered so.
-pub fn answers(alloc: Global, volume: &mut Volume, ask: Ask<'_>, told: Told<'_>) -> bool {
+pub fn answers(
+    alloc: Global,
+    volume: &mut Volume,
+    ask: SampleCall<'_>,
+    told: ExpectedReply<'_>,
+) -> bool {
     match call_of(alloc, ask) {
         Some(call) => told.is(&reply_to(alloc, volume, &call)),
         None => false,
@@ -29,8 +34,13 @@ pub fn answers(alloc: Global, volume: &mut Volume, ask: Ask<'_>, told: Told<'_>)
 
 /// Makes a file with a byte.
 fn makes(alloc: Global, volume: &mut Volume, text: &str) -> bool {
-    answers(alloc, volume, Ask::Create(text), Told::Done)
-        && answers(alloc, volume, Ask::Write(text, 0, b"a"), Told::Count(1))
+    answers(alloc, volume, SampleCall::Create(text), ExpectedReply::Done)
+        && answers(
+            alloc,
+            volume,
+            SampleCall::Write(text, 0, b"a"),
+            ExpectedReply::Count(1),
+        )
 }
 
 /// Makes the file of a number.
@@ -48,7 +58,7 @@ fn fills(alloc: Global, volume: &mut Volume) -> bool {
         is_right &= makes_one(alloc, volume, number);
     }
     for _ in 0..STEPS {
-        if volume.relieve(alloc).is_none() {
+        if volume.compact_step(alloc).is_none() {
             return is_right;
         }
     }
@@ -88,8 +98,8 @@ fn writes_first(alloc: Global, volume: &mut Volume, number: u32) -> bool {
             answers(
                 alloc,
                 volume,
-                Ask::Write(text.as_str(), PLACE, &bytes),
-                Told::Count(8),
+                SampleCall::Write(text.as_str(), PLACE, &bytes),
+                ExpectedReply::Count(8),
             )
         }
         None => false,
@@ -131,14 +141,14 @@ fn kept_volume(alloc: Global) -> Option<Volume> {
 }
 
 /// A room with such a volume.
-pub fn kept_room(alloc: Global) -> Option<Room> {
+pub fn kept_room(alloc: Global) -> Option<EngineBuilder> {
     room_of(alloc, kept_volume(alloc))
 }
 
 /// A room with a volume, if there is one.
-fn room_of(alloc: Global, volume: Option<Volume>) -> Option<Room> {
+fn room_of(alloc: Global, volume: Option<Volume>) -> Option<EngineBuilder> {
     match volume {
-        Some(volume) => Room::new(alloc, volume).ok(),
+        Some(volume) => EngineBuilder::new(alloc, volume).ok(),
         None => None,
     }
 }
@@ -150,7 +160,7 @@ pub fn take(alloc: Global, volume: &mut Volume, index: Index, slot: u8) -> TakeR
 
 /// Whether a job was taken of the slot of the metadata's root in which the most messages wait.
 fn takes(alloc: Global, volume: &mut Volume) -> bool {
-    match volume.load(Index::Meta) {
+    match volume.backlog(Index::Meta) {
         Some(load) => matches!(
             take(alloc, volume, Index::Meta, load.slot),
             TakeReply::Taken(_)
@@ -161,9 +171,9 @@ fn takes(alloc: Global, volume: &mut Volume) -> bool {
 
 /// Whether a job was taken of the one slot of the metadata's root in which a message waits: a new file, whose directory has its moment.
 fn marks(alloc: Global, volume: &mut Volume) -> bool {
-    answers(alloc, volume, Ask::Create("/z"), Told::Done)
+    answers(alloc, volume, SampleCall::Create("/z"), ExpectedReply::Done)
         && takes(alloc, volume)
-        && volume.load(Index::Meta).is_none()
+        && volume.backlog(Index::Meta).is_none()
 }
 
 /// This volume, once one file more waits behind marks.
@@ -184,6 +194,6 @@ fn marked_volume(alloc: Global) -> Option<Volume> {
 }
 
 /// A room with such a volume.
-pub fn marked_room(alloc: Global) -> Option<Room> {
+pub fn marked_room(alloc: Global) -> Option<EngineBuilder> {
     room_of(alloc, marked_volume(alloc))
 }

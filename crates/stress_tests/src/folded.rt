@@ -2,8 +2,8 @@
 use crate::asked::call_of;
 use crate::filled::{answers, filled_volume, take};
 use pathkey::NoMemory;
-use samples::{Ask, Told};
 use std::alloc::Global;
+use test_support::{ExpectedReply, SampleCall};
 use volume::{Answer, Event, FinishAnswer, Index, Job, TakeReply, Volume};
 
 /// The file that is written.
@@ -17,8 +17,8 @@ fn writes(alloc: Global, volume: &mut Volume, offset: u64) -> bool {
     answers(
         alloc,
         volume,
-        Ask::Write(FILE, offset, b"x"),
-        Told::Count(1),
+        SampleCall::Write(FILE, offset, b"x"),
+        ExpectedReply::Count(1),
     )
 }
 
@@ -40,7 +40,12 @@ fn waits_alone(volume: &Volume, index: Index) -> bool {
 fn is_folded(alloc: Global, volume: &mut Volume) -> bool {
     waits_alone(volume, Index::Meta)
         && waits_alone(volume, Index::Block)
-        && answers(alloc, volume, Ask::Stat(FILE), Told::File(WRITES + 3))
+        && answers(
+            alloc,
+            volume,
+            SampleCall::Stat(FILE),
+            ExpectedReply::File(WRITES + 3),
+        )
 }
 
 /// The job of a taking.
@@ -53,7 +58,7 @@ fn taken(reply: TakeReply) -> Option<Job> {
 
 /// The job of the slot in which something waits.
 fn job_of(alloc: Global, volume: &mut Volume, index: Index) -> Option<Job> {
-    match volume.load(index) {
+    match volume.backlog(index) {
         Some(load) => taken(take(alloc, volume, index, load.slot)),
         None => None,
     }
@@ -84,7 +89,7 @@ fn folds_where_cancelled(
 
 /// The event that takes a job of the slot in which something waits.
 fn taking(volume: &Volume, index: Index) -> Option<Event> {
-    match volume.load(index) {
+    match volume.backlog(index) {
         Some(load) => Some(Event::Take(index, load.slot)),
         None => None,
     }
@@ -92,7 +97,7 @@ fn taking(volume: &Volume, index: Index) -> Option<Event> {
 
 /// The event that writes a byte.
 fn writing(alloc: Global, offset: u64) -> Option<Event> {
-    match call_of(alloc, Ask::Write(FILE, offset, b"x")) {
+    match call_of(alloc, SampleCall::Write(FILE, offset, b"x")) {
         Some(call) => Some(Event::Call(call, 0)),
         None => None,
     }

@@ -2,7 +2,7 @@
 ghost use Rattle.std.specs.Prelude.{◌≡◌};
 
 use crate::filled::marked_room;
-use engine::{Between, Engine, Flusher, Naming, Room, TurnReply};
+use engine::{Between, Engine, EngineBuilder, EngineId, Flusher, TurnReply};
 use std::alloc::Global;
 use std::marker::Brand;
 use std::sync::Wait;
@@ -16,12 +16,12 @@ impl Between for Nothing {
 }
 
 /// Whether a turn takes a job and installs it.
-fn installs<J: Naming, R: Wait>(rt: &R, alloc: Global, mut flusher: Flusher<J>) -> bool {
+fn installs<J: EngineId, R: Wait>(rt: &R, alloc: Global, mut flusher: Flusher<J>) -> bool {
     flusher.turn(rt, alloc, &mut Nothing) == TurnReply::Installed
 }
 
 /// Whether a turn of a flusher of this engine takes a job and installs it.
-fn installs_with<J: Naming, R: Wait>(rt: &R, alloc: Global, engine: &mut Engine<J>) -> bool {
+fn installs_with<J: EngineId, R: Wait>(rt: &R, alloc: Global, engine: &mut Engine<J>) -> bool {
     match engine.flusher() {
         Ok(flusher) => installs(rt, alloc, flusher),
         Err(_) => false,
@@ -29,7 +29,7 @@ fn installs_with<J: Naming, R: Wait>(rt: &R, alloc: Global, engine: &mut Engine<
 }
 
 /// Whether a turn of a flusher of an engine in this room takes a job and installs it.
-fn installs_in<J: Naming, R: Wait>(rt: &R, alloc: Global, room: Room) -> bool
+fn installs_in<J: EngineId, R: Wait>(rt: &R, alloc: Global, room: EngineBuilder) -> bool
     requires { (room.0 ≡ J.table) × (room.1 ≡ J.opening) × (J.clients ≡ 1) }
 {
     match Engine::<J>::open(alloc, room, 1) {
@@ -39,7 +39,7 @@ fn installs_in<J: Naming, R: Wait>(rt: &R, alloc: Global, room: Room) -> bool
 }
 
 /// An engine in this room.
-fn run<R: Wait>(rt: &R, alloc: Global, room: Room) -> bool {
+fn run<R: Wait>(rt: &R, alloc: Global, room: EngineBuilder) -> bool {
     installs_in::<Brand, R>(rt, alloc, room)
 }
 

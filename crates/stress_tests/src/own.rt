@@ -3,14 +3,14 @@ ghost use Rattle.std.specs.Prelude.{◌≡◌};
 
 use crate::asked::{call_of, name_of};
 use crate::tally::{Course, Tally};
-use engine::{Client, Naming};
+use engine::{Client, EngineId};
 use pathkey::Errno;
 use reference::{Call, Reply};
-use samples::{Ask, file_name};
 use std::alloc::Global;
 use std::sync::Wait;
 use std::thread::Parker;
 use std::time::Duration;
+use test_support::{SampleCall, file_name};
 
 /// How many clients there are.
 pub const CLIENTS: usize = 8;
@@ -31,23 +31,23 @@ const TAG: u64 = 1 << 32;
 pub const LATER: &str = "t";
 
 /// What all clients ask for, over names that they share.
-const SHARED: &[Ask] = &[
-    Ask::Mkdir("/d"),
-    Ask::Create("/d/x"),
-    Ask::Write("/d/x", 4_090, b"over the end of a block"),
-    Ask::Read("/d/x", 0, 5_000),
-    Ask::Rename("/d/x", "/y"),
-    Ask::Mkdir("/d/e"),
-    Ask::Write("/y", 0, b"shared"),
-    Ask::Truncate("/y", 4_091),
-    Ask::Readdir("/"),
-    Ask::Rename("/d", "/e"),
-    Ask::Stat("/e/x"),
-    Ask::Unlink("/y"),
-    Ask::Readdir("/d"),
-    Ask::Rename("/e", "/d"),
-    Ask::Rmdir("/d/e"),
-    Ask::Rmtree("/d"),
+const SHARED: &[SampleCall] = &[
+    SampleCall::Mkdir("/d"),
+    SampleCall::Create("/d/x"),
+    SampleCall::Write("/d/x", 4_090, b"over the end of a block"),
+    SampleCall::Read("/d/x", 0, 5_000),
+    SampleCall::Rename("/d/x", "/y"),
+    SampleCall::Mkdir("/d/e"),
+    SampleCall::Write("/y", 0, b"shared"),
+    SampleCall::Truncate("/y", 4_091),
+    SampleCall::Readdir("/"),
+    SampleCall::Rename("/d", "/e"),
+    SampleCall::Stat("/e/x"),
+    SampleCall::Unlink("/y"),
+    SampleCall::Readdir("/d"),
+    SampleCall::Rename("/e", "/d"),
+    SampleCall::Rmdir("/d/e"),
+    SampleCall::Rmtree("/d"),
 ];
 
 /// The eight bytes of a file's mark: the number of the file, and how many marks came before, none at the first.
@@ -207,7 +207,7 @@ fn found_in(reply: &Reply) -> Found {
 }
 
 /// The reply to a call of the client. It ensures nothing, so that no proof of a test reads what a call means.
-fn reply_to<J: Naming, R: Wait>(
+fn reply_to<J: EngineId, R: Wait>(
     rt: &R,
     alloc: Global,
     client: &mut Client<J>,
@@ -217,7 +217,7 @@ fn reply_to<J: Naming, R: Wait>(
 }
 
 /// What a call of the client is answered.
-fn found_by<J: Naming, R: Wait>(
+fn found_by<J: EngineId, R: Wait>(
     rt: &R,
     alloc: Global,
     client: &mut Client<J>,
@@ -227,7 +227,12 @@ fn found_by<J: Naming, R: Wait>(
 }
 
 /// What the client is answered.
-fn asks<J: Naming, R: Wait>(rt: &R, alloc: Global, client: &mut Client<J>, ask: Ask<'_>) -> Found {
+fn asks<J: EngineId, R: Wait>(
+    rt: &R,
+    alloc: Global,
+    client: &mut Client<J>,
+    ask: SampleCall<'_>,
+) -> Found {
     match call_of(alloc, ask) {
         Some(call) => found_by(rt, alloc, client, &call),
         None => Found::Other,
@@ -235,7 +240,7 @@ fn asks<J: Naming, R: Wait>(rt: &R, alloc: Global, client: &mut Client<J>, ask: 
 }
 
 /// What the client is answered where it writes a mark to the file of a number.
-fn writes_mark<J: Naming, R: Wait>(
+fn writes_mark<J: EngineId, R: Wait>(
     rt: &R,
     alloc: Global,
     client: &mut Client<J>,
@@ -244,26 +249,31 @@ fn writes_mark<J: Naming, R: Wait>(
 ) -> Found {
     let bytes = mark_of(u64::from(file), count);
     match file_name(alloc, file) {
-        Some(text) => asks(rt, alloc, client, Ask::Write(text.as_str(), PLACE, &bytes)),
+        Some(text) => asks(
+            rt,
+            alloc,
+            client,
+            SampleCall::Write(text.as_str(), PLACE, &bytes),
+        ),
         None => Found::Other,
     }
 }
 
 /// What the client is answered where it reads the mark of the file of a number.
-fn reads_mark<J: Naming, R: Wait>(
+fn reads_mark<J: EngineId, R: Wait>(
     rt: &R,
     alloc: Global,
     client: &mut Client<J>,
     file: u32,
 ) -> Found {
     match file_name(alloc, file) {
-        Some(text) => asks(rt, alloc, client, Ask::Read(text.as_str(), PLACE, 9)),
+        Some(text) => asks(rt, alloc, client, SampleCall::Read(text.as_str(), PLACE, 9)),
         None => Found::Other,
     }
 }
 
 /// Writes the next mark to one of its files.
-fn writes<J: Naming, R: Wait>(
+fn writes<J: EngineId, R: Wait>(
     rt: &R,
     alloc: Global,
     client: &mut Client<J>,
@@ -279,7 +289,7 @@ fn writes<J: Naming, R: Wait>(
 }
 
 /// Reads what one of its files holds.
-fn reads<J: Naming, R: Wait>(
+fn reads<J: EngineId, R: Wait>(
     rt: &R,
     alloc: Global,
     client: &mut Client<J>,
@@ -298,7 +308,7 @@ fn is_settled(settled: Result<(), Errno>) -> bool {
 }
 
 /// Keeps the later snapshot.
-fn keeps<J: Naming, R: Wait>(rt: &R, alloc: Global, client: &mut Client<J>) -> bool {
+fn keeps<J: EngineId, R: Wait>(rt: &R, alloc: Global, client: &mut Client<J>) -> bool {
     match name_of(alloc, LATER) {
         Some(name) => is_settled(client.snapshot(rt, alloc, &name)),
         None => false,
@@ -306,7 +316,7 @@ fn keeps<J: Naming, R: Wait>(rt: &R, alloc: Global, client: &mut Client<J>) -> b
 }
 
 /// Drops the later snapshot.
-fn drops<J: Naming, R: Wait>(rt: &R, alloc: Global, client: &mut Client<J>) -> bool {
+fn drops<J: EngineId, R: Wait>(rt: &R, alloc: Global, client: &mut Client<J>) -> bool {
     match name_of(alloc, LATER) {
         Some(name) => is_settled(client.drop_snapshot(rt, &name)),
         None => false,
@@ -314,7 +324,7 @@ fn drops<J: Naming, R: Wait>(rt: &R, alloc: Global, client: &mut Client<J>) -> b
 }
 
 /// A call on names that all share: whatever is answered, there is memory.
-fn shares<J: Naming, R: Wait>(
+fn shares<J: EngineId, R: Wait>(
     rt: &R,
     alloc: Global,
     client: &mut Client<J>,
@@ -325,7 +335,7 @@ fn shares<J: Naming, R: Wait>(
 }
 
 /// The next call.
-fn next<J: Naming, R: Wait>(
+fn next<J: EngineId, R: Wait>(
     rt: &R,
     alloc: Global,
     client: &mut Client<J>,
@@ -346,7 +356,7 @@ fn next<J: Naming, R: Wait>(
 
 /// Calls, the last on one of the client's own files, as long as the flushers want more of them. Whether each was
 /// answered as it may be, and recorded once.
-pub fn work<J: Naming, R: Wait>(
+pub fn work<J: EngineId, R: Wait>(
     rt: &R,
     alloc: Global,
     client: &mut Client<J>,

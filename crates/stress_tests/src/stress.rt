@@ -6,7 +6,7 @@ use crate::asked::name_of;
 use crate::filled::{FIRST, kept_room};
 use crate::own::{CLIENTS, LATER, Own, rest, work};
 use crate::tally::{Course, Tally};
-use engine::{Between, Client, Clients, Engine, Flusher, Naming, Room, TurnReply};
+use engine::{Between, Client, Clients, Engine, EngineBuilder, EngineId, Flusher, TurnReply};
 use std::alloc::Global;
 use std::marker::Brand;
 use std::sync::Wait;
@@ -25,7 +25,7 @@ const LEFT: u32 = 10_000;
 /// A flusher's client. Where the flusher's turn has taken a job and the next restore may come, it restores a snapshot,
 /// so that the job is stale. Else it rests, so that clients come between.
 #[derive(Drop)]
-struct Restorer<'a, J: Naming, R: Wait> {
+struct Restorer<'a, J: EngineId, R: Wait> {
     rt: &'a R,
     alloc: Global,
     client: Client<J>,
@@ -33,7 +33,7 @@ struct Restorer<'a, J: Naming, R: Wait> {
     is_taken: bool,
 }
 
-impl<'a, J: Naming, R: Wait> Between for Restorer<'a, J, R> {
+impl<'a, J: EngineId, R: Wait> Between for Restorer<'a, J, R> {
     fn build(&mut self, alloc: Global, job: Job) -> Result<Done, Job> {
         self.is_taken = true;
         job.build(alloc)
@@ -49,7 +49,7 @@ impl<'a, J: Naming, R: Wait> Between for Restorer<'a, J, R> {
 }
 
 /// Whether the snapshot of a name is restored.
-fn restores_one<J: Naming, R: Wait>(
+fn restores_one<J: EngineId, R: Wait>(
     rt: &R,
     alloc: Global,
     client: &mut Client<J>,
@@ -62,7 +62,7 @@ fn restores_one<J: Naming, R: Wait>(
 }
 
 /// Restores a snapshot, and tells when it begins and ends.
-fn restores<J: Naming, R: Wait>(rt: &R, alloc: Global, client: &mut Client<J>, tally: &Tally) {
+fn restores<J: EngineId, R: Wait>(rt: &R, alloc: Global, client: &mut Client<J>, tally: &Tally) {
     tally.begin_restore();
     let is_later = tally.has_later() && restores_one(rt, alloc, client, LATER);
     let is_done = is_later || restores_one(rt, alloc, client, FIRST);
@@ -70,7 +70,7 @@ fn restores<J: Naming, R: Wait>(rt: &R, alloc: Global, client: &mut Client<J>, t
 }
 
 /// A turn with a restore or a rest in it. A restore follows where nothing waits any more, so that there is more to do.
-fn turn<J: Naming, R: Wait>(
+fn turn<J: EngineId, R: Wait>(
     rt: &R,
     alloc: Global,
     flusher: &mut Flusher<J>,
@@ -85,7 +85,7 @@ fn turn<J: Naming, R: Wait>(
 }
 
 /// A turn or, where nothing is restored, many with the flusher's own rests between them.
-fn turns<J: Naming, R: Wait>(
+fn turns<J: EngineId, R: Wait>(
     rt: &R,
     alloc: Global,
     flusher: &mut Flusher<J>,
@@ -99,7 +99,7 @@ fn turns<J: Naming, R: Wait>(
 }
 
 /// Turns until the clients are done, and enough jobs were installed and stale.
-fn flush<J: Naming, R: Wait>(
+fn flush<J: EngineId, R: Wait>(
     rt: &R,
     alloc: Global,
     mut flusher: Flusher<J>,
@@ -118,7 +118,7 @@ fn flush<J: Naming, R: Wait>(
 }
 
 /// Starts a flusher with its client in a thread of its own.
-fn start<'s, E, J: Naming + Send + Sync + 's, R: Wait + Sync>(
+fn start<'s, E, J: EngineId + Send + Sync + 's, R: Wait + Sync>(
     scope: &Scope<'s, E>,
     rt: &'s R,
     alloc: Global,
@@ -139,7 +139,7 @@ fn start<'s, E, J: Naming + Send + Sync + 's, R: Wait + Sync>(
 }
 
 /// Starts a flusher of the engine with this client, if there are both.
-fn hire<'s, E, J: Naming + Send + Sync + 's, R: Wait + Sync>(
+fn hire<'s, E, J: EngineId + Send + Sync + 's, R: Wait + Sync>(
     scope: &Scope<'s, E>,
     rt: &'s R,
     alloc: Global,
@@ -156,7 +156,7 @@ fn hire<'s, E, J: Naming + Send + Sync + 's, R: Wait + Sync>(
 }
 
 /// The clients work, each in a thread of its own.
-fn work_all<J: Naming + Send + Sync, R: Threads + Wait + Sync>(
+fn work_all<J: EngineId + Send + Sync, R: Threads + Wait + Sync>(
     rt: &R,
     alloc: Global,
     clients: &mut [Client<J>],
@@ -175,7 +175,7 @@ fn work_all<J: Naming + Send + Sync, R: Threads + Wait + Sync>(
 
 /// The clients work while flushers make turns. Whether each client was answered as it may be, each of its calls was
 /// recorded once, and enough jobs were installed and stale.
-fn beside<J: Naming + Send + Sync, R: Threads + Wait + Sync>(
+fn beside<J: EngineId + Send + Sync, R: Threads + Wait + Sync>(
     rt: &R,
     alloc: Global,
     engine: &mut Engine<J>,
@@ -194,10 +194,10 @@ fn beside<J: Naming + Send + Sync, R: Threads + Wait + Sync>(
 }
 
 /// Whether the clients of an engine in the room are answered as they may be beside flushers, and enough jobs are installed and stale.
-fn in_room<J: Naming + Send + Sync, R: Threads + Wait + Sync>(
+fn in_room<J: EngineId + Send + Sync, R: Threads + Wait + Sync>(
     rt: &R,
     alloc: Global,
-    room: Room,
+    room: EngineBuilder,
     course: Course,
 ) -> bool
     requires { (room.0 ≡ J.table) × (room.1 ≡ J.opening) × (J.clients ≡ 12) }
@@ -209,7 +209,12 @@ fn in_room<J: Naming + Send + Sync, R: Threads + Wait + Sync>(
 }
 
 /// Whether the clients of an engine in the room, under a name, are answered as they may be beside flushers.
-fn run<R: Threads + Wait + Sync>(rt: &R, alloc: Global, room: Room, course: Course) -> bool {
+fn run<R: Threads + Wait + Sync>(
+    rt: &R,
+    alloc: Global,
+    room: EngineBuilder,
+    course: Course,
+) -> bool {
     in_room::<Brand, R>(rt, alloc, room, course)
 }
 

@@ -11,14 +11,14 @@ use Rattle.jobs.specs.Marks.{one_more}
 use Rattle.jobs.proofs.Fitting.{built_fits}
 use Rattle.jobs.proofs.MarkFacts.{none_later, place_later}
 use Rattle.meta_index.specs.Updates.{means as meta_means}
-use Rattle.volume.specs.Held.{held_ticket, MayInstall, place_of, with_ticket, others, without_held, IsHeld, AreHeld}
+use Rattle.volume.specs.RunJob.{held_ticket, MayInstall, position, with_ticket, others, without_held, IsHeld, AreHeld}
 use Rattle.volume.specs.Jobs.{AnswersTaking}
 use Rattle.volume.specs.Marked.{PLive, PMarks, KeepsMarks, without_mark}
 use Rattle.volume.specs.Runs.{IsAgain}
 use Rattle.volume.specs.declared.event.Index.{Index}
 use Rattle.volume.specs.declared.event.Index.TheVariants.{Meta, Block}
-use Rattle.volume.specs.declared.held.Held.{Held}
-use Rattle.volume.specs.declared.held.Held.TheVariants.{Taken, Built}
+use Rattle.volume.specs.declared.run_job.RunJob.{RunJob}
+use Rattle.volume.specs.declared.run_job.RunJob.TheVariants.{Taken, Built}
 use Rattle.volume.specs.declared.job.Done.{Done}
 use Rattle.volume.specs.declared.job.Done.TheVariants.{Meta as MetaDone, Block as BlockDone}
 use Rattle.volume.specs.declared.job.Job.{Job}
@@ -28,18 +28,18 @@ use Rattle.volume.specs.declared.job.TakeReply.TheVariants.{Taken as TakenAs}
 -- ---- what stays held
 
 -- over a call that keeps what fits
-pub still_held : (h : Held) (a b : PLive) → KeepsMarks a b → IsHeld a h → IsHeld b h
+pub still_held : (h : RunJob) (a b : PLive) → KeepsMarks a b → IsHeld a h → IsHeld b h
 still_held (Taken (MetaJob j)) a b k h = (omega (arith, k.given, h.0), k.meta.fits j.ticket (job_content meta_means j) h.0 h.1)
 still_held (Taken (BlockJob j)) a b k h = (omega (arith, k.given, h.0), k.block.fits j.ticket (job_content block_means j) h.0 h.1)
 still_held (Built (MetaDone d)) a b k h = (omega (arith, k.given, h.0), k.meta.fits d.ticket (done_content meta_means d) h.0 h.1)
 still_held (Built (BlockDone d)) a b k h = (omega (arith, k.given, h.0), k.block.fits d.ticket (done_content block_means d) h.0 h.1)
 
-pub all_still_held : (hs : List Held) (a b : PLive) → KeepsMarks a b → AreHeld a hs → AreHeld b hs
+pub all_still_held : (hs : List RunJob) (a b : PLive) → KeepsMarks a b → AreHeld a hs → AreHeld b hs
 all_still_held [] a b k h = tt
 all_still_held (x ∷ xs) a b k h = (still_held x a b k h.0, all_still_held xs a b k h.1)
 
 -- what may be installed of a held job is held in its place
-pub built_held : (h : Held) (d : Done) (l : PLive) → MayInstall h d → IsHeld l h → IsHeld l (Built d)
+pub built_held : (h : RunJob) (d : Done) (l : PLive) → MayInstall h d → IsHeld l h → IsHeld l (Built d)
 built_held (Taken (MetaJob j)) (MetaDone d) l b h = (subst (λ n. n < l.marks.given) (sym b.ticket) h.0, built_fits meta_means j d l.indexes.meta.tree l.marks.meta b h.1)
 built_held (Taken (MetaJob j)) (BlockDone d) l b h = absurd b
 built_held (Taken (BlockJob j)) (MetaDone d) l b h = absurd b
@@ -54,18 +54,18 @@ taken_held Block i (MetaJob j) a b h = absurd h.taken
 taken_held Block i (BlockJob j) a b h = (omega (arith, h.taken.0.ticket, h.taken.0.given), h.fits)
 
 -- a job that may be held again is held
-pub again_held : (h again : Held) (l : PLive) → IsAgain h again → IsHeld l h → IsHeld l again
+pub again_held : (h again : RunJob) (l : PLive) → IsAgain h again → IsHeld l h → IsHeld l again
 again_held h again l (inl e) k = subst (IsHeld l) (sym e) k
 again_held h again l (inr d) k = subst (IsHeld l) (sym d.2) (built_held h d.0 l d.1 k)
 
 -- with one more
-pub held_more : (hs : List Held) (h : Held) (l : PLive) → AreHeld l hs → IsHeld l h → AreHeld l (hs ++ h ∷ [])
+pub held_more : (hs : List RunJob) (h : RunJob) (l : PLive) → AreHeld l hs → IsHeld l h → AreHeld l (hs ++ h ∷ [])
 held_more [] h l a k = (k, tt)
 held_more (x ∷ xs) h l a k = (a.0, held_more xs h l a.1 k)
 
 -- ---- the first with a ticket
 
-pub found_held : (t : ℕ) (hs : List Held) (job : Held) (l : PLive) → with_ticket t hs ≡ Some job → AreHeld l hs → IsHeld l job
+pub found_held : (t : ℕ) (hs : List RunJob) (job : RunJob) (l : PLive) → with_ticket t hs ≡ Some job → AreHeld l hs → IsHeld l job
 found_held t [] job l e a = (cc)
 found_held t (h ∷ hs) job l e a =
     (elim (held_ticket h == t) as (λ b. cond b (Some h) (with_ticket t hs) ≡ Some job → IsHeld l job) [
@@ -73,11 +73,11 @@ found_held t (h ∷ hs) job l e a =
       | false ↦ λ q. found_held t hs job l q a.1
     ]) e
 
-pub others_held : (t : ℕ) (hs : List Held) (l : PLive) → AreHeld l hs → AreHeld l (others t hs)
+pub others_held : (t : ℕ) (hs : List RunJob) (l : PLive) → AreHeld l hs → AreHeld l (others t hs)
 others_held t [] l a = tt
 others_held t (h ∷ hs) l a = cond_both (held_ticket h == t) hs (h ∷ others t hs) (AreHeld l) (λ e. a.1) (λ e. (a.0, others_held t hs l a.1))
 
-pub one_less : (t : ℕ) (hs : List Held) (job : Held) → with_ticket t hs ≡ Some job → length (others t hs) + 1 ≡ length hs
+pub one_less : (t : ℕ) (hs : List RunJob) (job : RunJob) → with_ticket t hs ≡ Some job → length (others t hs) + 1 ≡ length hs
 one_less t [] job e = (cc)
 one_less t (h ∷ hs) job e =
     (elim (held_ticket h == t) as (λ b. cond b (Some h) (with_ticket t hs) ≡ Some job → length (cond b hs (h ∷ others t hs)) + 1 ≡ length (h ∷ hs)) [
@@ -86,7 +86,7 @@ one_less t (h ∷ hs) job e =
     ]) e
 
 -- where there is none, all are left
-pub all_left : (t : ℕ) (hs : List Held) → with_ticket t hs ≡ None → others t hs ≡ hs
+pub all_left : (t : ℕ) (hs : List RunJob) → with_ticket t hs ≡ None → others t hs ≡ hs
 all_left t [] e = refl
 all_left t (h ∷ hs) e =
     (elim (held_ticket h == t) as (λ b. cond b (Some h) (with_ticket t hs) ≡ None → cond b hs (h ∷ others t hs) ≡ h ∷ hs) [
@@ -97,53 +97,53 @@ all_left t (h ∷ hs) e =
 -- ---- its place
 
 -- there is none without a place
-pub none_there : (t : ℕ) (hs : List Held) → place_of t hs ≡ None → with_ticket t hs ≡ None
+pub none_there : (t : ℕ) (hs : List RunJob) → position t hs ≡ None → with_ticket t hs ≡ None
 none_there t [] e = refl
 none_there t (h ∷ hs) e =
-    (elim (held_ticket h == t) as (λ b. cond b (Some 0) (one_more (place_of t hs)) ≡ None → cond b (Some h) (with_ticket t hs) ≡ None) [
+    (elim (held_ticket h == t) as (λ b. cond b (Some 0) (one_more (position t hs)) ≡ None → cond b (Some h) (with_ticket t hs) ≡ None) [
       | true ↦ λ q. (cc)
-      | false ↦ λ q. none_there t hs (none_later (place_of t hs) q)
+      | false ↦ λ q. none_there t hs (none_later (position t hs) q)
     ]) e
 
 -- it is the job at its place, and the others are those that are left without it
-pub found_there : (t i : ℕ) (hs : List Held) (d : Held) → place_of t hs ≡ Some i → (with_ticket t hs ≡ Some (get_or hs i d)) × (others t hs ≡ remove hs i)
+pub found_there : (t i : ℕ) (hs : List RunJob) (d : RunJob) → position t hs ≡ Some i → (with_ticket t hs ≡ Some (get_or hs i d)) × (others t hs ≡ remove hs i)
 found_there t i [] d e = (cc)
 found_there t i (h ∷ hs) d e =
-    (elim (held_ticket h == t) as (λ b. cond b (Some 0) (one_more (place_of t hs)) ≡ Some i → (cond b (Some h) (with_ticket t hs) ≡ Some (get_or (h ∷ hs) i d)) × (cond b hs (h ∷ others t hs) ≡ remove (h ∷ hs) i)) [
+    (elim (held_ticket h == t) as (λ b. cond b (Some 0) (one_more (position t hs)) ≡ Some i → (cond b (Some h) (with_ticket t hs) ≡ Some (get_or (h ∷ hs) i d)) × (cond b hs (h ∷ others t hs) ≡ remove (h ∷ hs) i)) [
       | true ↦ λ q. subst (λ n. (Some h ≡ Some (get_or (h ∷ hs) n d)) × (hs ≡ remove (h ∷ hs) n)) (same_Some 0 i q) (refl, refl)
       | false ↦ λ q.
-          let p = place_later i (place_of t hs) q in
+          let p = place_later i (position t hs) q in
           let r = found_there t p.0 hs d p.1 in
           subst (λ n. (with_ticket t hs ≡ Some (get_or (h ∷ hs) n d)) × (h ∷ others t hs ≡ remove (h ∷ hs) n)) (sym (add-one p.0) ∙ p.2) (r.0, ap (λ z. h ∷ z) r.1)
     ]) e
 
 -- none of the first so many has the ticket, and the next one has it
-pub found_first : (t : ℕ) (xs : List Held) (h : Held) (ys : List Held) → place_of t xs ≡ None → held_ticket h ≡ t → place_of t (xs ++ h ∷ ys) ≡ Some (length xs)
+pub found_first : (t : ℕ) (xs : List RunJob) (h : RunJob) (ys : List RunJob) → position t xs ≡ None → held_ticket h ≡ t → position t (xs ++ h ∷ ys) ≡ Some (length xs)
 found_first t [] h ys e q =
-    elim (held_ticket h == t) as (λ b. (held_ticket h == t) ≡ b → cond b (Some 0) (one_more (place_of t ys)) ≡ Some 0) [
+    elim (held_ticket h == t) as (λ b. (held_ticket h == t) ≡ b → cond b (Some 0) (one_more (position t ys)) ≡ Some 0) [
       | true ↦ λ d. refl
       | false ↦ λ d. absurd (grind (arith, nat_tests))
     ] refl
 found_first t (x ∷ xs) h ys e q =
-    (elim (held_ticket x == t) as (λ b. cond b (Some 0) (one_more (place_of t xs)) ≡ None → cond b (Some 0) (one_more (place_of t (xs ++ h ∷ ys))) ≡ Some (length (x ∷ xs))) [
+    (elim (held_ticket x == t) as (λ b. cond b (Some 0) (one_more (position t xs)) ≡ None → cond b (Some 0) (one_more (position t (xs ++ h ∷ ys))) ≡ Some (length (x ∷ xs))) [
       | true ↦ λ d. (cc)
-      | false ↦ λ d. ap one_more (found_first t xs h ys (none_later (place_of t xs) d) q) ∙ ap (λ (n : ℕ). Some n) (add-one (length xs))
+      | false ↦ λ d. ap one_more (found_first t xs h ys (none_later (position t xs) d) q) ∙ ap (λ (n : ℕ). Some n) (add-one (length xs))
     ]) e
 
 -- nor has one more that has another
-pub none_with : (t : ℕ) (xs : List Held) (h : Held) → place_of t xs ≡ None → (held_ticket h ≡ t → ⊥) → place_of t (xs ++ h ∷ []) ≡ None
+pub none_with : (t : ℕ) (xs : List RunJob) (h : RunJob) → position t xs ≡ None → (held_ticket h ≡ t → ⊥) → position t (xs ++ h ∷ []) ≡ None
 none_with t [] h e q =
-    elim (held_ticket h == t) as (λ b. (held_ticket h == t) ≡ b → cond b (Some 0) (one_more (place_of t [])) ≡ None) [
+    elim (held_ticket h == t) as (λ b. (held_ticket h == t) ≡ b → cond b (Some 0) (one_more (position t [])) ≡ None) [
       | true ↦ λ d. absurd (q (grind (arith, nat_tests)))
       | false ↦ λ d. refl
     ] refl
 none_with t (x ∷ xs) h e q =
-    (elim (held_ticket x == t) as (λ b. cond b (Some 0) (one_more (place_of t xs)) ≡ None → cond b (Some 0) (one_more (place_of t (xs ++ h ∷ []))) ≡ None) [
+    (elim (held_ticket x == t) as (λ b. cond b (Some 0) (one_more (position t xs)) ≡ None → cond b (Some 0) (one_more (position t (xs ++ h ∷ []))) ≡ None) [
       | true ↦ λ d. (cc)
-      | false ↦ λ d. ap one_more (none_with t xs h (none_later (place_of t xs) d) q)
+      | false ↦ λ d. ap one_more (none_with t xs h (none_later (position t xs) d) q)
     ]) e
 
 -- one more that is cancelled
-pub without_more : (xs : List Held) (h : Held) (m : PMarks) → without_held (xs ++ h ∷ []) m ≡ without_mark (held_ticket h) (without_held xs m)
+pub without_more : (xs : List RunJob) (h : RunJob) (m : PMarks) → without_held (xs ++ h ∷ []) m ≡ without_mark (held_ticket h) (without_held xs m)
 without_more [] h m = refl
 without_more (x ∷ xs) h m = without_more xs h (without_mark (held_ticket x) m)

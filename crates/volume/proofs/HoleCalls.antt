@@ -21,7 +21,7 @@ use Rattle.reference.proofs.Unique.{one_meaning}
 use Rattle.volume.specs.Changes.{Does}
 use Rattle.volume.specs.Holes.{Punches, hole_in}
 use Rattle.volume.specs.Marked.{PLive, KeepMarkedLists, KeepsMarks, Stands}
-use Rattle.volume.specs.Rooted.{after_call, reply_to}
+use Rattle.volume.specs.FsRoot.{after_call, reply_to}
 use Rattle.volume.specs.Typed.{IsCount}
 use Rattle.volume.specs.Volumes.{PVolume, IsVolume, Means, live_of}
 use Rattle.volume.proofs.Leading.{Arriving, volume, called, kept_same, nothing_comes, same_live}
@@ -54,7 +54,7 @@ module _ (v : PVolume) (is : IsVolume v) (p : Path) (off n at : ℕ) (l : PLive)
   abbrev new : PVolume
   new = volume l v.live.modified v.snapshots
 
-  module _ (r : Reply) (msgs : Messages) (made : IsPunched v.live.indexes p off n at r msgs) (arrives : Appends msgs v.live.indexes l.indexes) (lists : KeepMarkedLists msgs (live_of v) l) (marks : l.marks ≡ v.marks) (kept : KeepsMarks (live_of v) l) where
+  module _ (r : Reply) (msgs : Messages) (made : IsPunched v.live.indexes p off n at r msgs) (arrives : Appends msgs v.live.indexes l.indexes) (lists : KeepMarkedLists msgs (live_of v) l) (marks : l.marks ≡ v.marks) (snapshot_root : KeepsMarks (live_of v) l) where
     -- the write of zeros in the one tree that is meant
     does_it : (w : World) → Means v w → Does (zeroing p off n w.live) at r v.live.indexes l.indexes
     does_it w m t meant =
@@ -81,7 +81,7 @@ module _ (v : PVolume) (is : IsVolume v) (p : Path) (off n at : ℕ) (l : PLive)
       gone = λ m e i li low high. arrives.taken.block.value_after (block_key p i) ∙ made.gone is.world.live is.means.live.indexes m e i li low high;
       snapshots = refl;
       marks = marks;
-      kept = kept;
+      kept = snapshot_root;
     }
 
   -- what is replied
@@ -96,4 +96,4 @@ module _ (v : PVolume) (is : IsVolume v) (p : Path) (off n at : ℕ) (l : PLive)
 
   -- the type of volumes keeps what it keeps
   pub hole_lasts : (r : Reply) → Punches p off n at r v new → Stands l → IsVolume new
-  hole_lasts r made stands = record { world = next is.world (hole_in p off n at is.world) (Replied r); means = (made.leads is.world is.means).1; few = is.few; stands = stands }
+  hole_lasts r made assert_invariant = record { world = next is.world (hole_in p off n at is.world) (Replied r); means = (made.leads is.world is.means).1; few = is.few; stands = assert_invariant }

@@ -5,11 +5,11 @@ use Rattle.block_index.specs.Updates.{means as block_means}
 use Rattle.block_index.specs.declared.update.BlockUpdate.{BlockUpdate}
 use Rattle.jobs.specs.Content.{job_content}
 use Rattle.jobs.specs.Job.{PJob, PDone, IsJob}
-use Rattle.jobs.specs.Marks.{Each, place_of, without}
+use Rattle.jobs.specs.Marks.{Each, position, without}
 use Rattle.jobs.specs.Replies.{Fits, IsJobOf, IsPlaced, mark_of, IfInstalled as IfPlaced, UnlessInstalled as UnlessPlaced, IfGivenBack as IfBack}
 use Rattle.jobs.specs.declared.mark.Mark.{Mark}
-use Rattle.jobs.specs.declared.reply.InstallReply.{InstallReply as Placing}
-use Rattle.jobs.specs.declared.reply.InstallReply.TheVariants.{Installed as Placed, Stale as Gone, NoMemory as Lacking}
+use Rattle.jobs.specs.declared.outcome.InstallOutcome.{InstallOutcome as Placing}
+use Rattle.jobs.specs.declared.outcome.InstallOutcome.TheVariants.{Installed as Placed, Stale as Gone, NoMemory as Lacking}
 use Rattle.jobs.proofs.Installing.{fewer_installed, each_installed}
 use Rattle.meta_index.specs.Updates.{means as meta_means}
 use Rattle.meta_index.specs.declared.update.MetaUpdate.{MetaUpdate}
@@ -79,7 +79,7 @@ one_more_mark ms new m e = ap length e ∙ length_push ms m
 -- what one tree's marks answer to an install
 pub record Answered {U V : Type 0} (means : U → Option V → Option V) (d : PDone U V) (r : Placing U V) (a : PTree U V) (ms : List Mark) (b : PTree U V) (new : List Mark) : Type 0 where
   pub installed : IfPlaced r ((new ≡ without d.ticket ms) × IsPlaced means d a b)
-  pub stale : (r ≡ Gone) ↔ (place_of d.ticket ms ≡ None)
+  pub stale : (r ≡ Gone) ↔ (position d.ticket ms ≡ None)
   pub back : IfBack r (λ x. x ≡ d)
   pub unchanged : UnlessPlaced r ((new ≡ ms) × (b ≡ a))
   pub value : (k : List ℕ) → value means b.root k ≡ value means a.root k

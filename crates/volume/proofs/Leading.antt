@@ -35,16 +35,16 @@ use Rattle.volume.specs.declared.job.TakeReply.{TakeReply}
 use Rattle.volume.specs.declared.job.TakeReply.TheVariants.{Taken, NotThere, NoRoom, NoMemory}
 use Rattle.volume.specs.declared.event.Index.{Index}
 use Rattle.volume.specs.declared.event.Index.TheVariants.{Meta, Block}
-use Rattle.volume.specs.declared.event.Relief.{Relief}
+use Rattle.volume.specs.declared.event.CompactStep.{CompactStep}
 use Rattle.volume.specs.declared.event.Step.{Step}
 use Rattle.node.specs.declared.step.StepReply.{StepReply}
 use Rattle.call_compiler.specs.Compiled.{IsCompiled, Messages, no_messages, touches_root, MeanTree}
 use Rattle.call_compiler.specs.Laws.{HaveTaken}
 use Rattle.call_compiler.proofs.RootMoment.{root_moment}
 use Rattle.call_compiler.proofs.Compiling.{nothing_sent}
-use Rattle.volume.specs.Rooted.{after_call, reply_to}
+use Rattle.volume.specs.FsRoot.{after_call, reply_to}
 use Rattle.volume.specs.Volumes.{Kept, PVolume, Alike, MeanRooted, Means, IsVolume, live_of}
-use Rattle.volume.specs.declared.rooted.Rooted.{Rooted}
+use Rattle.volume.specs.declared.fs_root.FsRoot.{FsRoot}
 use Rattle.volume.specs.Changes.{Leads, Does, Batched, Called, Settles, KeptAs, Dropped, Restored, StepsLive, Stepped}
 use Rattle.volume.proofs.Pairs.{same_names, alike_insert, alike_remove, found_alike, same_len}
 use Rattle.volume.proofs.Trees.{Appends, compiled_batched, compiled_does, nothing_appended, tree_kept, tree_same_values, step_same}
@@ -65,7 +65,7 @@ kept_same l m e = subst (λ (x : PLive). KeepsMarks l x) (sym e) (kept_all l)
 
 -- the type of volumes keeps what it keeps
 pub lasts : (old new : PVolume) (e : Event) (a : Answer) → IsVolume old → Leads e a old new → finite.len new.snapshots ≤ 64 → Stands (live_of new) → IsVolume new
-lasts old new e a is leads few stands = record { world = next is.world e a; means = (leads is.world is.means).1; few = few; stands = stands }
+lasts old new e a is leads few assert_invariant = record { world = next is.world e a; means = (leads is.world is.means).1; few = few; stands = assert_invariant }
 
 -- ---- file calls
 
@@ -124,13 +124,13 @@ not_touched : (c : Call) (r : Reply) (at modified : ℕ) (e : Errno) → r ≡ F
 not_touched c r at modified e h = ap (λ (q : Reply). after_call (touches_root c) q at modified) h
 
 pub call_done : (v : PVolume) (c : Call) (at : ℕ) (r : Reply) (l : PLive) → Does c at r v.live.indexes l.indexes → ((e : Errno) → r ≡ Fault e → l.indexes ≡ v.live.indexes) → Batched c at (live_of v) l → l.marks ≡ v.marks → KeepsMarks (live_of v) l → Called c at r v (volume l (after_call (touches_root c) r at v.live.modified) v.snapshots)
-call_done v c at r l does_it refused batch marks kept = record {
+call_done v c at r l does_it refused batch marks snapshot_root = record {
   leads = called v c at r l does_it;
   refused = λ e h. ap (λ (k : PLive). volume k (after_call (touches_root c) r at v.live.modified) v.snapshots) (same_live (live_of v) l (refused e h) marks) ∙ ap (λ (n : ℕ). volume (live_of v) n v.snapshots) (not_touched c r at v.live.modified e h);
   batch = batch;
   snapshots = refl;
   marks = marks;
-  kept = kept;
+  kept = snapshot_root;
 }
 
 -- what became of live indexes to which messages were to be appended
@@ -151,8 +151,8 @@ answered v c at r msgs (Ok x) l made h =
 answered v c at r msgs (Err e) l made h = lacks_call v c at l h.err
 
 pub answered_lasts : {T E : Type 0} (v : PVolume) (c : Call) (at : ℕ) (r : Reply) (msgs : Messages) (a : Result T E) (l : PLive) → IsVolume v → IsCompiled v.live.indexes c at r msgs → Arriving msgs a (live_of v) l → Stands l → IsVolume (volume l (after_call (touches_root c) (reply_to a r) at v.live.modified) v.snapshots)
-answered_lasts v c at r msgs a l is made h stands =
-    lasts v (volume l (after_call (touches_root c) (reply_to a r) at v.live.modified) v.snapshots) (Ask c at) (Replied (reply_to a r)) is (answered v c at r msgs a l made h).leads is.few stands
+answered_lasts v c at r msgs a l is made h assert_invariant =
+    lasts v (volume l (after_call (touches_root c) (reply_to a r) at v.live.modified) v.snapshots) (Ask c at) (Replied (reply_to a r)) is (answered v c at r msgs a l made h).leads is.few assert_invariant
 
 -- ---- snapshot calls
 
@@ -173,24 +173,24 @@ takes_one v s n w m =
     let few : finite.len w.snapshots < 64 = subst (λ (k : ℕ). k < 64) (same_len MeanRooted v.snapshots w.snapshots m.snapshots) n.few in
     takes w.live w.snapshots s (sym (same_names MeanRooted v.snapshots w.snapshots m.snapshots s) ∙ n.new) (lt-leb 64 (finite.len w.snapshots) few)
 
-taken : (v : PVolume) (s : List ℕ) (kept : Kept) → IsNewName v s → kept ≡ finite.insert v.snapshots s v.live → Leads (TakeSnapshot s) (Settled (Ok tt)) v (volume (live_of v) v.live.modified kept)
-taken v s kept n e w m =
-    fits_as (volume (live_of v) v.live.modified kept) w (record w { snapshots = finite.insert w.snapshots s w.live }) (TakeSnapshot s) (Ok tt) (ap settled (takes_one v s n w m)) refl (record {
+taken : (v : PVolume) (s : List ℕ) (snapshot_root : Kept) → IsNewName v s → snapshot_root ≡ finite.insert v.snapshots s v.live → Leads (TakeSnapshot s) (Settled (Ok tt)) v (volume (live_of v) v.live.modified snapshot_root)
+taken v s snapshot_root n e w m =
+    fits_as (volume (live_of v) v.live.modified snapshot_root) w (record w { snapshots = finite.insert w.snapshots s w.live }) (TakeSnapshot s) (Ok tt) (ap settled (takes_one v s n w m)) refl (record {
       live = m.live;
       snapshots = subst (λ (k : Kept). Alike MeanRooted k (finite.insert w.snapshots s w.live)) (sym e) (alike_insert MeanRooted v.snapshots w.snapshots s v.live w.live m.snapshots m.live);
     })
 
-pub snapshot_taken : (v : PVolume) (s : List ℕ) (kept : Kept) → finite.contains_key v.snapshots s ≡ false → finite.len v.snapshots < 64 → kept ≡ finite.insert v.snapshots s v.live → Settles (TakeSnapshot s) (KeptAs s) (Ok tt) v (volume (live_of v) v.live.modified kept)
-snapshot_taken v s kept new few e = record { leads = taken v s kept (record { new = new; few = few }) e; done = ap (volume (live_of v) v.live.modified) e; refused = tt; kept = kept_all (live_of v) }
+pub snapshot_taken : (v : PVolume) (s : List ℕ) (snapshot_root : Kept) → finite.contains_key v.snapshots s ≡ false → finite.len v.snapshots < 64 → snapshot_root ≡ finite.insert v.snapshots s v.live → Settles (TakeSnapshot s) (KeptAs s) (Ok tt) v (volume (live_of v) v.live.modified snapshot_root)
+snapshot_taken v s snapshot_root new few e = record { leads = taken v s snapshot_root (record { new = new; few = few }) e; done = ap (volume (live_of v) v.live.modified) e; refused = tt; kept = kept_all (live_of v) }
 
-one_more : (m : Kept) (s : List ℕ) (i : Rooted) → finite.contains_key m s ≡ false → finite.len m < 64 → finite.len (finite.insert m s i) ≤ 64
+one_more : (m : Kept) (s : List ℕ) (i : FsRoot) → finite.contains_key m s ≡ false → finite.len m < 64 → finite.len (finite.insert m s i) ≤ 64
 one_more m s i new few =
     let l : finite.len (finite.insert m s i) ≡ finite.len m + 1 = finite.len-insert nat_list_cmp_total m s i ∙ ap (λ (b : Bool). cond b (finite.len m) (finite.len m + 1)) new in
     omega (arith, l, few)
 
-pub snapshot_lasts : (v : PVolume) (s : List ℕ) (kept : Kept) → IsVolume v → finite.contains_key v.snapshots s ≡ false → finite.len v.snapshots < 64 → kept ≡ finite.insert v.snapshots s v.live → IsVolume (volume (live_of v) v.live.modified kept)
-snapshot_lasts v s kept is new few e =
-    lasts v (volume (live_of v) v.live.modified kept) (TakeSnapshot s) (Settled (Ok tt)) is (taken v s kept (record { new = new; few = few }) e)
+pub snapshot_lasts : (v : PVolume) (s : List ℕ) (snapshot_root : Kept) → IsVolume v → finite.contains_key v.snapshots s ≡ false → finite.len v.snapshots < 64 → snapshot_root ≡ finite.insert v.snapshots s v.live → IsVolume (volume (live_of v) v.live.modified snapshot_root)
+snapshot_lasts v s snapshot_root is new few e =
+    lasts v (volume (live_of v) v.live.modified snapshot_root) (TakeSnapshot s) (Settled (Ok tt)) is (taken v s snapshot_root (record { new = new; few = few }) e)
     (subst (λ (k : Kept). finite.len k ≤ 64) (sym e) (one_more v.snapshots s v.live new few)) is.stands
 
 pub snapshot_full : (v : PVolume) (s : List ℕ) → finite.contains_key v.snapshots s ≡ false → 64 ≤ finite.len v.snapshots → Settles (TakeSnapshot s) (KeptAs s) (Err ENOSPC) v v
@@ -211,24 +211,24 @@ snapshot_lacks v now s new few e = record {
   kept = subst (λ (x : PVolume). KeepsMarks (live_of v) (live_of x)) (sym e) (kept_all (live_of v));
 }
 
-dropped : (v : PVolume) (s : List ℕ) (kept : Kept) → finite.contains_key v.snapshots s ≡ true → kept ≡ finite.remove v.snapshots s → Leads (DropSnapshot s) (Settled (Ok tt)) v (volume (live_of v) v.live.modified kept)
-dropped v s kept old e w m =
-    fits_as (volume (live_of v) v.live.modified kept) w (record w { snapshots = finite.remove w.snapshots s }) (DropSnapshot s) (Ok tt) (ap settled (drops w.live w.snapshots s (sym (same_names MeanRooted v.snapshots w.snapshots m.snapshots s) ∙ old))) refl (record {
+dropped : (v : PVolume) (s : List ℕ) (snapshot_root : Kept) → finite.contains_key v.snapshots s ≡ true → snapshot_root ≡ finite.remove v.snapshots s → Leads (DropSnapshot s) (Settled (Ok tt)) v (volume (live_of v) v.live.modified snapshot_root)
+dropped v s snapshot_root old e w m =
+    fits_as (volume (live_of v) v.live.modified snapshot_root) w (record w { snapshots = finite.remove w.snapshots s }) (DropSnapshot s) (Ok tt) (ap settled (drops w.live w.snapshots s (sym (same_names MeanRooted v.snapshots w.snapshots m.snapshots s) ∙ old))) refl (record {
       live = m.live;
       snapshots = subst (λ (k : Kept). Alike MeanRooted k (finite.remove w.snapshots s)) (sym e) (alike_remove MeanRooted v.snapshots w.snapshots s m.snapshots);
     })
 
-pub snapshot_dropped : (v : PVolume) (s : List ℕ) (kept : Kept) → finite.contains_key v.snapshots s ≡ true → kept ≡ finite.remove v.snapshots s → Settles (DropSnapshot s) (Dropped s) (Ok tt) v (volume (live_of v) v.live.modified kept)
-snapshot_dropped v s kept old e = record { leads = dropped v s kept old e; done = ap (volume (live_of v) v.live.modified) e; refused = tt; kept = kept_all (live_of v) }
+pub snapshot_dropped : (v : PVolume) (s : List ℕ) (snapshot_root : Kept) → finite.contains_key v.snapshots s ≡ true → snapshot_root ≡ finite.remove v.snapshots s → Settles (DropSnapshot s) (Dropped s) (Ok tt) v (volume (live_of v) v.live.modified snapshot_root)
+snapshot_dropped v s snapshot_root old e = record { leads = dropped v s snapshot_root old e; done = ap (volume (live_of v) v.live.modified) e; refused = tt; kept = kept_all (live_of v) }
 
 one_less : (m : Kept) (s : List ℕ) → finite.contains_key m s ≡ true → finite.len m ≤ 64 → finite.len (finite.remove m s) ≤ 64
 one_less m s old few =
     let l : finite.len (finite.remove m s) ≡ finite.len m - 1 = finite.len-remove nat_list_cmp_total m s ∙ ap (λ (b : Bool). cond b (finite.len m - 1) (finite.len m)) old in
     omega (arith, l, few)
 
-pub drop_lasts : (v : PVolume) (s : List ℕ) (kept : Kept) → IsVolume v → finite.contains_key v.snapshots s ≡ true → kept ≡ finite.remove v.snapshots s → IsVolume (volume (live_of v) v.live.modified kept)
-drop_lasts v s kept is old e =
-    lasts v (volume (live_of v) v.live.modified kept) (DropSnapshot s) (Settled (Ok tt)) is (dropped v s kept old e)
+pub drop_lasts : (v : PVolume) (s : List ℕ) (snapshot_root : Kept) → IsVolume v → finite.contains_key v.snapshots s ≡ true → snapshot_root ≡ finite.remove v.snapshots s → IsVolume (volume (live_of v) v.live.modified snapshot_root)
+drop_lasts v s snapshot_root is old e =
+    lasts v (volume (live_of v) v.live.modified snapshot_root) (DropSnapshot s) (Settled (Ok tt)) is (dropped v s snapshot_root old e)
     (subst (λ (k : Kept). finite.len k ≤ 64) (sym e) (one_less v.snapshots s old is.few)) is.stands
 
 pub put_back : (v : PVolume) (s : List ℕ) (l : PLive) (modified : ℕ) → finite.get v.snapshots s ≡ Some (record { indexes = l.indexes; modified = modified }) → Leads (RestoreSnapshot s) (Settled (Ok tt)) v (volume l modified v.snapshots)
@@ -238,9 +238,9 @@ put_back v s l modified e w m =
     fits_as new w (record w { live = f.0 }) (RestoreSnapshot s) (Ok tt) (ap (λ (o : Option Tree). settled (restored w o)) f.1) refl (record { live = f.2; snapshots = m.snapshots })
 
 pub snapshot_restored : (v : PVolume) (s : List ℕ) (l : PLive) (modified : ℕ) → finite.get v.snapshots s ≡ Some (record { indexes = l.indexes; modified = modified }) → l.marks ≡ no_marks v.marks.given → KeepsMarks (live_of v) l → Settles (RestoreSnapshot s) (Restored s) (Ok tt) v (volume l modified v.snapshots)
-snapshot_restored v s l modified e marks kept = record { leads = put_back v s l modified e; done = (e, refl, marks); refused = tt; kept = kept }
+snapshot_restored v s l modified e marks snapshot_root = record { leads = put_back v s l modified e; done = (e, refl, marks); refused = tt; kept = snapshot_root }
 
-pub restore_lacks : (v now : PVolume) (s : List ℕ) (i : Rooted) → finite.get v.snapshots s ≡ Some i → now ≡ v → Settles (RestoreSnapshot s) (Restored s) (Err ENOMEM) v now
+pub restore_lacks : (v now : PVolume) (s : List ℕ) (i : FsRoot) → finite.get v.snapshots s ≡ Some i → now ≡ v → Settles (RestoreSnapshot s) (Restored s) (Err ENOMEM) v now
 restore_lacks v now s i e same = record {
   leads = λ w m.
       let f : (t : Tree) × (finite.get w.snapshots s ≡ Some t) × MeanRooted i t = found_alike MeanRooted v.snapshots w.snapshots s i m.snapshots e in
@@ -289,11 +289,11 @@ refused_as (Ok x) e h = absurd h
 refused_as (Err x) e h = ap {B = Snapped} (λ (y : Errno). Err y) h
 
 -- a step, or none, where nothing changed
-pub relieved : (v : PVolume) (r : Option Relief) (l : PLive) → IfSome r (λ t. StepsLive t.step t.reply (live_of v) l) → IfSome r (λ t. Stepped t.step t.reply v (volume l v.live.modified v.snapshots))
+pub relieved : (v : PVolume) (r : Option CompactStep) (l : PLive) → IfSome r (λ t. StepsLive t.step t.reply (live_of v) l) → IfSome r (λ t. Stepped t.step t.reply v (volume l v.live.modified v.snapshots))
 relieved v None l some = some
 relieved v (Some t) l some = stepped v t.step t.reply l some
 
-pub relief_keeps : (v : PVolume) (r : Option Relief) (l : PLive) → IfSome r (λ t. StepsLive t.step t.reply (live_of v) l) → IfNone r (l ≡ live_of v)
+pub relief_keeps : (v : PVolume) (r : Option CompactStep) (l : PLive) → IfSome r (λ t. StepsLive t.step t.reply (live_of v) l) → IfNone r (l ≡ live_of v)
     → (w : World) → Means v w → Means (volume l v.live.modified v.snapshots) w
 relief_keeps v None l some none w m = subst (λ (k : PLive). Means (volume k v.live.modified v.snapshots) w) (sym none) m
 relief_keeps v (Some t) l some none w m = (stepped v t.step t.reply l some).keeps w m

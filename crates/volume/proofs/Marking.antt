@@ -85,32 +85,32 @@ abbrev pub KeptBy : {U V : Type 0} → (U → Option V → Option V) → PTree U
 KeptBy means a ms b new = (given : ℕ) → AreMarks a.root 0 ms given → AllKept means a b new given
 
 pub meta_stepped_lasts : (l : PLive) (s : TreeStep) (r : StepReply) (t : PTree MetaUpdate MetaValue) (new : List Mark) → AreMarked l → new ≡ left s r l.indexes.meta.tree l.marks.meta → KeptBy meta_means l.indexes.meta.tree l.marks.meta t new → AreMarked (with_meta l t new l.marks.given)
-meta_stepped_lasts l s r t new is e kept =
+meta_stepped_lasts l s r t new is e snapshot_root =
     let fewer : length new ≤ length l.marks.meta = left_fewer s r l.indexes.meta.tree l.marks.meta new e in
-    meta_lasts l t new l.marks.given is (kept l.marks.given is.meta).0 (omega arith) is.given (omega (arith, fewer, is.few))
+    meta_lasts l t new l.marks.given is (snapshot_root l.marks.given is.meta).0 (omega arith) is.given (omega (arith, fewer, is.few))
 
 pub block_stepped_lasts : (l : PLive) (s : TreeStep) (r : StepReply) (t : PTree BlockUpdate (List ℕ)) (new : List Mark) → AreMarked l → new ≡ left s r l.indexes.block.tree l.marks.block → KeptBy block_means l.indexes.block.tree l.marks.block t new → AreMarked (with_block l t new l.marks.given)
-block_stepped_lasts l s r t new is e kept =
+block_stepped_lasts l s r t new is e snapshot_root =
     let fewer : length new ≤ length l.marks.block = left_fewer s r l.indexes.block.tree l.marks.block new e in
-    block_lasts l t new l.marks.given is (kept l.marks.given is.block).0 (omega arith) is.given (omega (arith, fewer, is.few))
+    block_lasts l t new l.marks.given is (snapshot_root l.marks.given is.block).0 (omega arith) is.given (omega (arith, fewer, is.few))
 
 pub meta_stepped : (l : PLive) (x : Index) (s : TreeStep) (r : StepReply) (t : PTree MetaUpdate MetaValue) (new : List Mark) → x ≡ Meta → AreMarked l → StepAnswers meta_means s.kind (way s.at) s.slot r l.indexes.meta.tree t → new ≡ left s r l.indexes.meta.tree l.marks.meta → KeptBy meta_means l.indexes.meta.tree l.marks.meta t new
     → StepsLive (record { index = x; step = s }) r l (with_meta l t new l.marks.given)
-meta_stepped l x s r t new x_is is answers e kept =
+meta_stepped l x s r t new x_is is answers e snapshot_root =
     let here : StepsLive (record { index = Meta; step = s }) r l (with_meta l t new l.marks.given) = record {
       index = (answers, refl);
       marks = ap (λ (z : List Mark). record (l.marks) { meta = z }) e;
-      kept = meta_keeps l t new l.marks.given (omega arith) (keeps_some meta_means l.indexes.meta.tree t l.marks.meta new l.marks.given l.marks.given (left_each s r l.indexes.meta.tree l.marks.meta new e) (kept l.marks.given is.meta).1);
+      kept = meta_keeps l t new l.marks.given (omega arith) (keeps_some meta_means l.indexes.meta.tree t l.marks.meta new l.marks.given l.marks.given (left_each s r l.indexes.meta.tree l.marks.meta new e) (snapshot_root l.marks.given is.meta).1);
     } in
     subst (λ (y : Index). StepsLive (record { index = y; step = s }) r l (with_meta l t new l.marks.given)) (sym x_is) here
 
 pub block_stepped : (l : PLive) (x : Index) (s : TreeStep) (r : StepReply) (t : PTree BlockUpdate (List ℕ)) (new : List Mark) → x ≡ Block → AreMarked l → StepAnswers block_means s.kind (way s.at) s.slot r l.indexes.block.tree t → new ≡ left s r l.indexes.block.tree l.marks.block → KeptBy block_means l.indexes.block.tree l.marks.block t new
     → StepsLive (record { index = x; step = s }) r l (with_block l t new l.marks.given)
-block_stepped l x s r t new x_is is answers e kept =
+block_stepped l x s r t new x_is is answers e snapshot_root =
     let here : StepsLive (record { index = Block; step = s }) r l (with_block l t new l.marks.given) = record {
       index = (answers, refl);
       marks = ap (λ (z : List Mark). record (l.marks) { block = z }) e;
-      kept = block_keeps l t new l.marks.given (omega arith) (keeps_some block_means l.indexes.block.tree t l.marks.block new l.marks.given l.marks.given (left_each s r l.indexes.block.tree l.marks.block new e) (kept l.marks.given is.block).1);
+      kept = block_keeps l t new l.marks.given (omega arith) (keeps_some block_means l.indexes.block.tree t l.marks.block new l.marks.given l.marks.given (left_each s r l.indexes.block.tree l.marks.block new e) (snapshot_root l.marks.given is.block).1);
     } in
     subst (λ (y : Index). StepsLive (record { index = y; step = s }) r l (with_block l t new l.marks.given)) (sym x_is) here
 

@@ -13,7 +13,7 @@ use Rattle.reference.specs.Indexes.{BlockOf, Blocks, BlocksMean, most_blocks}
 use Rattle.reference.specs.Tree.{Tree}
 use Rattle.scan.specs.Pairs.{IsFirst}
 use Rattle.call_compiler.proofs.BlockOrder.{block_before, block_below, block_reaches, blocks_range}
-use Rattle.volume.specs.StoredRuns.{IsNextStored}
+use Rattle.volume.specs.Extents.{IsNextStored}
 use Rattle.volume.specs.Walks.{IsOwn}
 
 module _ (t : Tree) (d : Blocks) (means : BlocksMean t d) (p : Path) (is_path : IsPath p) (from : ℕ) (fits : from < 2 ^ 32) where

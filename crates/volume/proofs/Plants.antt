@@ -23,7 +23,7 @@ use Rattle.reference.specs.declared.reply.Meta.{Meta}
 use Rattle.reference.proofs.Planting.{plant_law}
 use Rattle.volume.specs.Plants.{PlantsIn, Plants, is_directory, one_put}
 use Rattle.volume.specs.Marked.{PLive, Stands, KeepMarkedLists, KeepsMarks}
-use Rattle.volume.specs.Rooted.{after_planting}
+use Rattle.volume.specs.FsRoot.{after_planting}
 use Rattle.volume.specs.Volumes.{PVolume, Means, IsVolume, live_of}
 use Rattle.volume.proofs.Leading.{volume, same_live}
 use Rattle.volume.proofs.Trees.{Appends}
@@ -115,10 +115,10 @@ planted_volume v l p m (Err e) h = record {
 
 -- it is a volume still
 pub lasts_planted : (v : PVolume) (l : PLive) (p : Path) (m : Meta) (r : Snapped) → IsVolume v → PlantsLive p m r (live_of v) l → Stands l → IsVolume (volume l (after_planting r p m v.live.modified) v.snapshots)
-lasts_planted v l p m (Ok x) is h stands = record {
+lasts_planted v l p m (Ok x) is h assert_invariant = record {
   world = record is.world { live = (planted is.world.live p m).0 };
   means = planted_means v l p m h.entry is.world is.means;
   few = is.few;
-  stands = stands;
+  stands = assert_invariant;
 }
-lasts_planted v l p m (Err e) is h stands = subst (λ (k : PLive). IsVolume (volume k v.live.modified v.snapshots)) (sym (same_live (live_of v) l h.entry.refused h.marks)) is
+lasts_planted v l p m (Err e) is h assert_invariant = subst (λ (k : PLive). IsVolume (volume k v.live.modified v.snapshots)) (sym (same_live (live_of v) l h.entry.refused h.marks)) is

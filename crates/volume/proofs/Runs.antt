@@ -7,7 +7,7 @@ use Rattle.jobs.specs.declared.ticket.Ticket.{Ticket}
 use Rattle.meta_index.specs.Means.{metadata}
 use Rattle.node.specs.declared.step.StepReply.{StepReply}
 use Rattle.reference.specs.Tree.{Tree}
-use Rattle.reference.specs.Worlds.{World, Snapped, Event as Asked, Answer as Told, Ask, TakeSnapshot, DropSnapshot as DropNamed, RestoreSnapshot, Replied, Settled, Fits, next, History, IsLegal, after}
+use Rattle.reference.specs.Worlds.{World, Snapped, Event as Asked, Answer as Answered, Ask, TakeSnapshot, DropSnapshot as DropNamed, RestoreSnapshot, Replied, Settled, Fits, next, History, IsLegal, after}
 use Rattle.reference.specs.declared.call.Call.{Call}
 use Rattle.reference.specs.declared.reply.Reply.{Reply}
 use Rattle.reference.proofs.Unique.{one_meaning}
@@ -20,21 +20,21 @@ use Rattle.volume.specs.declared.event.Step.{Step}
 use Rattle.volume.specs.declared.event.TakeAnswer.{TakeAnswer}
 use Rattle.volume.specs.declared.event.FinishAnswer.{FinishAnswer}
 use Rattle.volume.specs.declared.event.FinishAnswer.TheVariants.{Installed as FinishInstalled, Stale as FinishStale, NotThere as FinishNotThere, NoMemory as FinishNoMemory}
-use Rattle.volume.specs.declared.held.Held.{Held}
-use Rattle.volume.specs.declared.held.Held.TheVariants.{Taken as HeldJob}
+use Rattle.volume.specs.declared.run_job.RunJob.{RunJob}
+use Rattle.volume.specs.declared.run_job.RunJob.TheVariants.{Taken as HeldJob}
 use Rattle.volume.specs.declared.job.TakeReply.{TakeReply}
 use Rattle.volume.specs.declared.job.TakeReply.TheVariants.{Taken, NotThere, NoRoom, NoMemory}
 use Rattle.volume.specs.Changes.{Leads, Called, Settles, KeptAs, Dropped, Restored, Stepped}
-use Rattle.volume.specs.Held.{others}
-use Rattle.volume.specs.Runs.{told, takings, with_taken, PRun, Beside, Takes, Finishes, Link, Chain, calls_alone, begun, ended, Ran}
+use Rattle.volume.specs.RunJob.{others}
+use Rattle.volume.specs.Runs.{history_of, takings, with_taken, PRun, Beside, Takes, Finishes, Link, Chain, calls_alone, begun, ended, Ran}
 use Rattle.volume.specs.Volumes.{PVolume, Both, MeanRooted, Means, IsVolume}
-use Rattle.volume.specs.declared.rooted.Rooted.{Rooted}
+use Rattle.volume.specs.declared.fs_root.FsRoot.{FsRoot}
 use Rattle.volume.proofs.Holding.{one_less}
 use Rattle.reference.proofs.PlainSnapshots.{bytes_differ}
 
 -- ---- a volume means at most one world
 
-same_tree : (r : Option Rooted) (t u : Option Tree) → Both MeanRooted r t → Both MeanRooted r u → t ≡ u
+same_tree : (r : Option FsRoot) (t u : Option Tree) → Both MeanRooted r t → Both MeanRooted r u → t ≡ u
 same_tree None None None m n = refl
 same_tree None None (Some u) m n = absurd n
 same_tree None (Some t) u m n = absurd m
@@ -45,8 +45,8 @@ same_tree (Some r) (Some t) (Some u) m n = ap (λ (x : Tree). Some x) (one_meani
 pub one_world : (v : PVolume) (w x : World) → Means v w → Means v x → w ≡ x
 one_world v w x m n =
     let live : w.live ≡ x.live = one_meaning w.live x.live (metadata v.live.indexes.meta) (blocks v.live.indexes.block) m.live.indexes n.live.indexes in
-    let kept : w.snapshots ≡ x.snapshots = finite.same_map nat_list_cmp_total bytes_differ w.snapshots x.snapshots (λ s. same_tree (finite.get v.snapshots s) (finite.get w.snapshots s) (finite.get x.snapshots s) (m.snapshots s) (n.snapshots s)) in
-    λ i. record { live = live i; snapshots = kept i }
+    let snapshot_root : w.snapshots ≡ x.snapshots = finite.same_map nat_list_cmp_total bytes_differ w.snapshots x.snapshots (λ s. same_tree (finite.get v.snapshots s) (finite.get w.snapshots s) (finite.get x.snapshots s) (m.snapshots s) (n.snapshots s)) in
+    λ i. record { live = live i; snapshots = snapshot_root i }
 
 -- ---- a link
 
@@ -108,20 +108,20 @@ chain_more (d ∷ es) (s ∷ rs) e r a b c chain link is = (chain.0, chain.1, ch
 
 -- ---- how many jobs are held
 
-same_count : (xs ys : List Held) → ys ≡ xs → length ys ≤ length xs
-same_count xs ys e = let n = ap (λ (z : List Held). length z) e in omega (arith, n)
+same_count : (xs ys : List RunJob) → ys ≡ xs → length ys ≤ length xs
+same_count xs ys e = let n = ap (λ (z : List RunJob). length z) e in omega (arith, n)
 
-more_count : (xs : List Held) (r : TakeReply) → length (with_taken xs r) ≤ length xs + 1
+more_count : (xs : List RunJob) (r : TakeReply) → length (with_taken xs r) ≤ length xs + 1
 more_count xs (Taken job) = omega (arith, length-append xs (HeldJob job ∷ []))
 more_count xs NotThere = omega arith
 more_count xs NoRoom = omega arith
 more_count xs NoMemory = omega arith
 
 finish_count : (t : ℕ) (r : FinishAnswer) (a b : PRun) → Finishes t r a b → length b.held ≤ length a.held
-finish_count t FinishInstalled a b f = omega (arith, one_less t a.held f.job f.has, ap (λ (z : List Held). length z) f.held)
-finish_count t FinishStale a b f = omega (arith, one_less t a.held f.job f.has, ap (λ (z : List Held). length z) f.held)
+finish_count t FinishInstalled a b f = omega (arith, one_less t a.held f.job f.has, ap (λ (z : List RunJob). length z) f.held)
+finish_count t FinishStale a b f = omega (arith, one_less t a.held f.job f.has, ap (λ (z : List RunJob). length z) f.held)
 finish_count t FinishNotThere a b f = same_count a.held b.held (ap (λ (x : PRun). x.held) f.1)
-finish_count t FinishNoMemory a b f = omega (arith, one_less t a.held f.job f.has, ap (λ (z : List Held). length z) f.held, length-append (others t a.held) (f.again ∷ []))
+finish_count t FinishNoMemory a b f = omega (arith, one_less t a.held f.job f.has, ap (λ (z : List RunJob). length z) f.held, length-append (others t a.held) (f.again ∷ []))
 
 -- a taking adds one at most, and no other event any
 pub link_count : (e : Event) (r : Answer) (a b : PRun) → Link e r a b → length b.held ≤ length a.held + takings (e ∷ [])
@@ -131,7 +131,7 @@ link_count e r a b link = link_cases (λ e r. length b.held ≤ length a.held + 
   drop = λ s r l. omega (arith, same_count a.held b.held l.1);
   restore = λ s r l. omega (arith, same_count a.held b.held l.1);
   step = λ s r l. omega (arith, same_count a.held b.held l.1);
-  take = λ index i r l. omega (arith, more_count a.held l.reply, ap (λ (z : List Held). length z) l.held);
+  take = λ index i r l. omega (arith, more_count a.held l.reply, ap (λ (z : List RunJob). length z) l.held);
   finish = λ t r l. omega (arith, finish_count t.number r a b l);
 }) e r link
 
@@ -162,7 +162,7 @@ record Leaves (v : PVolume) (w : World) (h : History) : Type 0 where
   legal : IsLegal w h
   means : Means v (after w h)
 
-one_first : (a b c : PVolume) (x : Asked) (y : Told) (h : History) → Leads x y a b → ((w : World) → Means b w → Leaves c w h) → (w : World) → Means a w → Leaves c w ((x, y) ∷ h)
+one_first : (a b c : PVolume) (x : Asked) (y : Answered) (h : History) → Leads x y a b → ((w : World) → Means b w → Leaves c w h) → (w : World) → Means a w → Leaves c w ((x, y) ∷ h)
 one_first a b c x y h leads rest w m =
     let one : Fits w x y × Means b (next w x y) = leads w m in
     let more : Leaves c (next w x y) h = rest (next w x y) one.1 in
@@ -175,8 +175,8 @@ finish_means t FinishNotThere a b f w m = subst (λ (x : PRun). Means x.volume w
 finish_means t FinishNoMemory a b f w m = subst (λ (x : PVolume). Means x w) (sym f.volume) m
 
 -- one link before what is known of the others
-link_leaves : (e : Event) (r : Answer) (a b : PRun) (c : PVolume) (h : History) → Link e r a b → ((w : World) → Means b.volume w → Leaves c w h) → (w : World) → Means a.volume w → Leaves c w (told e r ++ h)
-link_leaves e r a b c h link rest w m = link_cases (λ e r. Leaves c w (told e r ++ h)) a b (record {
+link_leaves : (e : Event) (r : Answer) (a b : PRun) (c : PVolume) (h : History) → Link e r a b → ((w : World) → Means b.volume w → Leaves c w h) → (w : World) → Means a.volume w → Leaves c w (history_of e r ++ h)
+link_leaves e r a b c h link rest w m = link_cases (λ e r. Leaves c w (history_of e r ++ h)) a b (record {
   call = λ d at r l. one_first a.volume b.volume c (Ask d at) (Replied r) h l.0.leads rest w m;
   snapshot = λ s r l. one_first a.volume b.volume c (TakeSnapshot s) (Settled r) h l.0.leads rest w m;
   drop = λ s r l. one_first a.volume b.volume c (DropNamed s) (Settled r) h l.0.leads rest w m;

@@ -3,7 +3,7 @@ use Rattle.std.proofs.Common.{◌≡◌, refl, sym, subst, arith, ap, ◌∙◌}
 use Rattle.std.specs.FinMap as finite
 use Rattle.call_compiler.specs.Compiled.{MeanTree}
 use Rattle.call_compiler.specs.declared.indexes.Indexes.{Indexes}
-use Rattle.volume.specs.declared.rooted.Rooted.{Rooted}
+use Rattle.volume.specs.declared.fs_root.FsRoot.{FsRoot}
 use Rattle.pathkey.specs.Order.{by_bytes}
 use Rattle.reference.specs.Tree.{Tree, Dir, nothing}
 use Rattle.node.specs.declared.shape.Shape.{Shape}
@@ -19,9 +19,9 @@ means_empty l m is e = record {
 }
 
 pub volume_empty : (l : PLive) (m : Kept) → MeanTree l.indexes (Dir 0 nothing) → m ≡ finite.empty → Stands l → IsVolume (volume l 0 m)
-volume_empty l m is e stands =
-    let few : finite.len m ≡ 0 = ap (λ (k : Kept). finite.len k) e ∙ finite.len-empty by_bytes Rooted in
-    record { world = empty_world; means = means_empty l m is e; few = omega (arith, few); stands = stands }
+volume_empty l m is e assert_invariant =
+    let few : finite.len m ≡ 0 = ap (λ (k : Kept). finite.len k) e ∙ finite.len-empty by_bytes FsRoot in
+    record { world = empty_world; means = means_empty l m is e; few = omega (arith, few); stands = assert_invariant }
 
 -- a volume of new indexes
 pub is_new : (shape : Shape) (i : Indexes) (l : PLive) (m : Kept) → i.meta.tree.shape ≡ shape → i.block.tree.shape ≡ shape → MeanTree i (Dir 0 nothing) → l.indexes ≡ i → l.marks ≡ no_marks 0 → m ≡ finite.empty → IsNew shape (volume l 0 m)

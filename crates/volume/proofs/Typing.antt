@@ -15,11 +15,11 @@ use Rattle.reference.specs.declared.reply.Reply.{Reply}
 use Rattle.reference.specs.declared.reply.Reply.TheVariants.{Done, Count, Fault, Names}
 use Rattle.volume.specs.Changes.{Called, Does}
 use Rattle.volume.specs.Marked.{PLive}
-use Rattle.volume.specs.Told.{Tells}
+use Rattle.volume.specs.HistoryOf.{Tells}
 use Rattle.volume.specs.Typed.{IsCount, IsData, IsNames, IsOfKind, IsSettled, IsStat, Looks}
-use Rattle.volume.specs.Rooted.{after_call, reply_to}
+use Rattle.volume.specs.FsRoot.{after_call, reply_to}
 use Rattle.volume.specs.Volumes.{PVolume, MeanSome, live_of}
-use Rattle.volume.specs.declared.rooted.Rooted.{Rooted}
+use Rattle.volume.specs.declared.fs_root.FsRoot.{FsRoot}
 use Rattle.reference.proofs.NoFaults.{unless_holds}
 use Rattle.reference.proofs.Touching.{reply_is}
 use Rattle.volume.proofs.Leading.{volume, call_done, kept_all, nothing_comes}
@@ -33,11 +33,11 @@ counts : (t x : Tree) (w : List ℕ) → IsCount (cond {A = Outcome} (is_empty w
 counts t x [] = tt
 counts t x (b ∷ w) = tt
 
-stands : (here : At) → IsStat (stat_of here)
-stands (Found (Dir date es)) = tt
-stands (Found (File date b)) = tt
-stands Missing = tt
-stands Blocked = tt
+assert_invariant : (here : At) → IsStat (stat_of here)
+assert_invariant (Found (Dir date es)) = tt
+assert_invariant (Found (File date b)) = tt
+assert_invariant Missing = tt
+assert_invariant Blocked = tt
 
 changed_kind : (c : Call) (at : ℕ) (t : Tree) → IsOfKind c (changed at t c).1
 unfolding changed
@@ -53,7 +53,7 @@ changed_kind (Rename o n) at t =
     cond_both {A = Outcome} (same_path o n) (t, Done) (unless t (faults_of_rename t o n) (placed (without t o) n (entry_at t o), Done)) (λ x. IsSettled x.1)
     (λ e. tt) (λ e. settles t (faults_of_rename t o n) (placed (without t o) n (entry_at t o))))
 changed_kind (Read p off n) at t = unless_holds (λ o. IsData o.1) t (faults_of_read t p n) _ (λ e. tt) (λ none. tt)
-changed_kind (AskStat p) at t = unless_holds (λ o. IsStat o.1) t (faults_of_stat t p) (t, stat_of (entry_at t p)) (λ e. tt) (λ none. stands (entry_at t p))
+changed_kind (AskStat p) at t = unless_holds (λ o. IsStat o.1) t (faults_of_stat t p) (t, stat_of (entry_at t p)) (λ e. tt) (λ none. assert_invariant (entry_at t p))
 changed_kind (Readdir p) at t = unless_holds (λ o. IsNames o.1) t (faults_of_readdir t p) (t, Names (names_of (entry_at t p))) (λ e. tt) (λ none. tt)
 
 pub of_kind : (c : Call) (at : ℕ) (t : Tree) → IsOfKind c (does at t c).1
@@ -83,8 +83,8 @@ pub compiled_kind : (c : Call) (at : ℕ) (r : Reply) (msgs : Messages) (i : Ind
 compiled_kind c at r msgs i t m h = subst (IsOfKind c) (sym (h.reply t m)) (of_kind c at t)
 
 -- and so is what is told of them
-pub told_kind : (c : Call) (r : Reply) (i : Rooted) → MeanSome i → Tells c r i → IsOfKind c r
-told_kind c r i s k = by (k s.tree 0 s.means)
+pub reported_kind : (c : Call) (r : Reply) (i : FsRoot) → MeanSome i → Tells c r i → IsOfKind c r
+reported_kind c r i s k = by (k s.tree 0 s.means)
   where
     by : (r ≡ (does 0 s.tree c).1) ⊎ (r ≡ Fault ENOMEM) → IsOfKind c r
     by (inl e) = subst (IsOfKind c) (sym e) (of_kind c 0 s.tree)

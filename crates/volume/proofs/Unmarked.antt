@@ -5,7 +5,7 @@ use Rattle.call_compiler.specs.Compiled.{Messages}
 use Rattle.jobs.specs.Marks.{kept_in, kept_numbers}
 use Rattle.jobs.specs.declared.mark.Mark.{Mark}
 use Rattle.message.specs.declared.msg.Msg.{Msg}
-use Rattle.node.specs.Appended.{parts}
+use Rattle.node.specs.Appended.{batches_by_slot}
 use Rattle.node.specs.Grafts.{KeepLists, KeepsLists}
 use Rattle.node.specs.Pure.{PNode, leaf, inner, PSlots, none, more}
 use Rattle.volume.specs.Marked.{PLive, KeepMarkedLists}
@@ -21,7 +21,7 @@ module _ {U V : Type 0} where
   no_lists_kept msgs [] (leaf es) (leaf new) e = tt
   no_lists_kept msgs [] (leaf es) (inner new) e = tt
   no_lists_kept msgs [] (inner ss) (leaf new) e = tt
-  no_lists_kept msgs [] (inner ss) (inner new) e = no_slots_kept (parts None msgs ss) ss new
+  no_lists_kept msgs [] (inner ss) (inner new) e = no_slots_kept (batches_by_slot None msgs ss) ss new
   no_lists_kept msgs (m ∷ ms) a b e = absurd (omega (arith, e))
 
 pub unmarked : {T X : Type 0} (r : Result T X) (msgs : Messages) (l new : PLive) → length l.marks.meta ≡ 0 → length l.marks.block ≡ 0 → OnOk r (KeepMarkedLists msgs l new)

@@ -15,7 +15,7 @@ use Rattle.pathkey.specs.declared.range.KeyRange.{KeyRange}
 use Rattle.pathkey.proofs.KeyFacts.{block_in_blocks, block_in_blocks_from, block_key_injective, enc_law}
 use Rattle.pathkey.proofs.KeyOrder.{not_before_from_reaches}
 use Rattle.reference.specs.Indexes.{BlockOf, Blocks, BlocksMean, Hold, Metadata, MetaMeans, PathOf, byte_of, meta_of, most_blocks}
-use Rattle.reference.specs.Looks.{Bytes, look, seen, sighted}
+use Rattle.reference.specs.Reads.{Bytes, look, seen, sighted}
 use Rattle.reference.specs.Shape.{IsTree}
 use Rattle.reference.specs.Tree.{Tree, Dir, File, At, Found, Missing, Blocked, entry_at}
 use Rattle.reference.specs.declared.reply.Meta.{Meta}
@@ -25,10 +25,10 @@ use Rattle.volume.specs.Walks.{AreBlocks, AreBlocksAt, AreEntries, AreNumbered, 
 -- ---- entries
 
 -- where metadata are told, something stands
-pub stands : (a : At) (v : Meta) → meta_of (sighted a) ≡ Some v → (x : Tree) × (a ≡ Found x)
-stands (Found x) v e = (x, refl)
-stands Missing v e = absurd (cc)
-stands Blocked v e = absurd (cc)
+pub assert_invariant : (a : At) (v : Meta) → meta_of (sighted a) ≡ Some v → (x : Tree) × (a ≡ Found x)
+assert_invariant (Found x) v e = (x, refl)
+assert_invariant Missing v e = absurd (cc)
+assert_invariant Blocked v e = absurd (cc)
 
 module _ (t : Tree) (m : Metadata) (is : IsTree t) (means : MetaMeans t m) (lo : Key) (hi : Option Key) (limit : ℕ) (ps : List (Key × Meta)) (found : IsScan m lo hi limit ps) where
   -- each key that was found is a path's
@@ -73,7 +73,7 @@ module _ (t : Tree) (m : Metadata) (is : IsTree t) (means : MetaMeans t m) (from
       (subst (λ (x : Key × Meta). before (get_or ps i (keyed d)).0 x.0 ≡ true) later (found.rising i j (keyed d) a (omega arith)))
 
   is_path_of : (p : Path) (v : Meta) → IsEntry t p v → IsPath p
-  is_path_of p v e = let at : (x : Tree) × (entry_at t p ≡ Found x) = stands (entry_at t p) v e in is.paths p at.0 at.1
+  is_path_of p v e = let at : (x : Tree) × (entry_at t p ≡ Found x) = assert_invariant (entry_at t p) v e in is.paths p at.0 at.1
 
   listed : (p : Path) (v : Meta) → IsPath p → Contains ps (enc p, v) → Contains es (p, v)
   listed p v is_path (k, l, e) =

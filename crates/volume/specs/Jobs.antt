@@ -4,7 +4,7 @@ use Rattle.block_index.specs.Updates.{means as block_means}
 use Rattle.call_compiler.specs.declared.indexes.Indexes.{Indexes}
 use Rattle.jobs.specs.Content.{job_content}
 use Rattle.jobs.specs.Job.{IsJob}
-use Rattle.jobs.specs.Marks.{place_of}
+use Rattle.jobs.specs.Marks.{position}
 use Rattle.jobs.specs.Replies.{IsBuilt, IsTaken, IsInstalled, Fits, FitsMark, can_take_at, LacksRoom}
 use Rattle.jobs.specs.declared.mark.Mark.{Mark}
 use Rattle.meta_index.specs.Updates.{means as meta_means}
@@ -131,7 +131,7 @@ marks_for (BlockDone d) m = m.block
 
 -- the mark of the value's ticket, if it stands
 abbrev pub mark_for : Done → PMarks → Option ℕ
-mark_for done m = place_of (done_ticket done) (marks_for done m)
+mark_for done m = position (done_ticket done) (marks_for done m)
 
 -- what was built took its place, its mark is gone, and the other index stays with its marks
 abbrev pub Installs : Done → PLive → PLive → Type 0

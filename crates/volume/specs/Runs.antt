@@ -15,25 +15,25 @@ use Rattle.volume.specs.declared.job.TakeReply.{TakeReply}
 use Rattle.volume.specs.declared.job.TakeReply.TheVariants.{Taken, NotThere, NoRoom, NoMemory}
 use Rattle.volume.specs.declared.job.InstallReply.{InstallReply}
 use Rattle.volume.specs.declared.job.InstallReply.TheVariants.{Installed, Stale}
-use Rattle.volume.specs.declared.held.Held.{Held}
-use Rattle.volume.specs.declared.held.Held.TheVariants.{Taken as HeldJob, Built as HeldDone}
-use Rattle.volume.specs.Held.{MayInstall, with_ticket, others, without_held}
+use Rattle.volume.specs.declared.run_job.RunJob.{RunJob}
+use Rattle.volume.specs.declared.run_job.RunJob.TheVariants.{Taken as HeldJob, Built as HeldDone}
+use Rattle.volume.specs.RunJob.{MayInstall, with_ticket, others, without_held}
 use Rattle.volume.specs.Jobs.{AnswersTaking, AnswersInstalling, ticket_of, mark_for}
 use Rattle.volume.specs.Marked.{PMarks}
 use Rattle.volume.specs.Volumes.{PVolume, Means, IsVolume, live_of}
 use Rattle.volume.specs.Changes.{Called, Settles, KeptAs, Dropped, Restored, Stepped}
 
 -- what an event with its answer is in a history of calls: a step is not in it, nor a job
-abbrev pub told : Event → Answer → History
-told (CallEvent c at) (CallAnswer r) = (Ask c at, Replied r) ∷ []
-told (Snapshot s) (Snap r) = (TakeSnapshot s, Settled r) ∷ []
-told (DropSnapshot s) (Snap r) = (DropNamed s, Settled r) ∷ []
-told (Restore s) (Snap r) = (RestoreSnapshot s, Settled r) ∷ []
-told _ _ = []
+abbrev pub history_of : Event → Answer → History
+history_of (CallEvent c at) (CallAnswer r) = (Ask c at, Replied r) ∷ []
+history_of (Snapshot s) (Snap r) = (TakeSnapshot s, Settled r) ∷ []
+history_of (DropSnapshot s) (Snap r) = (DropNamed s, Settled r) ∷ []
+history_of (Restore s) (Snap r) = (RestoreSnapshot s, Settled r) ∷ []
+history_of _ _ = []
 
 -- the calls alone, in their order, with their answers
 abbrev pub calls_alone : List Event → List Answer → History
-calls_alone (e ∷ es) (a ∷ rs) = told e a ++ calls_alone es rs
+calls_alone (e ∷ es) (a ∷ rs) = history_of e a ++ calls_alone es rs
 calls_alone _ _ = []
 
 -- how many of the events are takings
@@ -45,7 +45,7 @@ takings (e ∷ es) = takings es
 -- a volume in a run, and the jobs that the run holds
 pub record PRun : Type 0 where
   pub volume : PVolume
-  pub held : List Held
+  pub held : List RunJob
 
 -- what the contract of a call says, which leaves the jobs that are held
 abbrev pub Beside : (PVolume → PVolume → Type 0) → PRun → PRun → Type 0
@@ -61,7 +61,7 @@ take_answer NoRoom = TakeNoRoom
 take_answer NoMemory = TakeNoMemory
 
 -- a job that was taken is held too
-abbrev pub with_taken : List Held → TakeReply → List Held
+abbrev pub with_taken : List RunJob → TakeReply → List RunJob
 with_taken hs (Taken job) = hs ++ HeldJob job ∷ []
 with_taken hs NotThere = hs
 with_taken hs NoRoom = hs
@@ -70,7 +70,7 @@ with_taken hs NoMemory = hs
 -- a taking: the reply of `take_job` is told, and a job that was taken is held
 pub record Takes (index : Index) (i : ℕ) (a : TakeAnswer) (old new : PRun) : Type 0 where
   pub reply : TakeReply
-  pub told : a ≡ take_answer reply
+  pub history_of : a ≡ take_answer reply
   pub answers : AnswersTaking index i reply (live_of old.volume) (live_of new.volume)
   pub root : new.volume.live.modified ≡ old.volume.live.modified
   pub snapshots : new.volume.snapshots ≡ old.volume.snapshots
@@ -80,7 +80,7 @@ pub record Takes (index : Index) (i : ℕ) (a : TakeAnswer) (old new : PRun) : T
 -- ---- finishing
 
 -- what may be installed of the job was installed with this reply
-pub record InstalledAs (job : Held) (r : InstallReply) (old new : PVolume) : Type 0 where
+pub record InstalledAs (job : RunJob) (r : InstallReply) (old new : PVolume) : Type 0 where
   pub done : Done
   pub built : MayInstall job done
   pub answers : AnswersInstalling done r (live_of old) (live_of new)
@@ -89,17 +89,17 @@ pub record InstalledAs (job : Held) (r : InstallReply) (old new : PVolume) : Typ
   pub means : (w : World) → Means old w → Means new w
 
 -- a job that is kept: as it was, or built
-abbrev pub IsAgain : Held → Held → Type 0
+abbrev pub IsAgain : RunJob → RunJob → Type 0
 IsAgain job again = (again ≡ job) ⊎ ((done : Done) × MayInstall job done × (again ≡ HeldDone done))
 
 -- the mark of a job that was built stands
-abbrev pub MarkStands : Held → PMarks → Type 0
+abbrev pub MarkStands : RunJob → PMarks → Type 0
 MarkStands (HeldJob job) m = ⊤
 MarkStands (HeldDone done) m = mark_for done m ≡ None → ⊥
 
 -- how the finishing of a job ends: where it was refused memory the job is kept, its mark stands if it was built, and nothing has
 -- changed
-abbrev pub Ends : Held → Result FinishAnswer Held → PVolume → PVolume → Type 0
+abbrev pub Ends : RunJob → Result FinishAnswer RunJob → PVolume → PVolume → Type 0
 Ends job (Ok FinishInstalled) old new = InstalledAs job Installed old new
 Ends job (Ok FinishStale) old new = InstalledAs job Stale old new
 Ends job (Ok FinishNotThere) old new = ⊥
@@ -108,7 +108,7 @@ Ends job (Err again) old new = IsAgain job again × MarkStands again old.marks �
 
 -- the held job with the ticket was installed with this reply, and is gone
 pub record Installing (t : ℕ) (r : InstallReply) (old new : PRun) : Type 0 where
-  pub job : Held
+  pub job : RunJob
   pub has : with_ticket t old.held ≡ Some job
   pub installed : InstalledAs job r old.volume new.volume
   pub held : new.held ≡ others t old.held
@@ -116,9 +116,9 @@ pub record Installing (t : ℕ) (r : InstallReply) (old new : PRun) : Type 0 whe
 -- the held job with the ticket was refused memory: nothing has changed but that it is held last, as it was, or built and with its
 -- mark standing
 pub record Refused (t : ℕ) (old new : PRun) : Type 0 where
-  pub job : Held
+  pub job : RunJob
   pub has : with_ticket t old.held ≡ Some job
-  pub again : Held
+  pub again : RunJob
   pub same : IsAgain job again
   pub stands : MarkStands again old.volume.marks
   pub volume : new.volume ≡ old.volume

@@ -9,16 +9,16 @@ use Rattle.pathkey.specs.Order.{by_bytes}
 use Rattle.reference.specs.Tree.{Tree, Dir, nothing, moment}
 use Rattle.reference.specs.Worlds.{World}
 use Rattle.volume.specs.Marked.{PMarks, PLive, Stands, no_marks}
-use Rattle.volume.specs.declared.rooted.Rooted.{Rooted}
+use Rattle.volume.specs.declared.fs_root.FsRoot.{FsRoot}
 
 -- indexes under names, each with the moment of its root
 abbrev pub Kept : Type 0
-Kept = finite.FinMap by_bytes Rooted
+Kept = finite.FinMap by_bytes FsRoot
 
 -- a volume: its live indexes and those of each named snapshot, with the moments of their roots, and the marks of the jobs taken from
 -- the live ones
 pub record PVolume : Type 0 where
-  pub live : Rooted
+  pub live : FsRoot
   pub snapshots : Kept
   pub marks : PMarks
 
@@ -27,8 +27,8 @@ abbrev pub live_of : PVolume → PLive
 live_of v = record { indexes = v.live.indexes; marks = v.marks }
 
 -- the entries of a map, as a finite map
-abbrev pub kept : BTreeMap (List ℕ) Rooted → Kept
-kept m = finite.from_entries m.entries
+abbrev pub snapshot_root : BTreeMap (List ℕ) FsRoot → Kept
+snapshot_root m = finite.from_entries m.entries
 
 -- its names, one after the other
 abbrev pub names_in : Kept → List (List ℕ)
@@ -40,12 +40,12 @@ pub record AreNames (m : Kept) (names : List (List ℕ)) : Type 0 where
   pub all : (s : List ℕ) → IsSome (finite.get m s) ↔ Contains names s
 
 -- the indexes mean the directory tree, and the moment is that of its root
-pub record MeanRooted (r : Rooted) (t : Tree) : Type 0 where
+pub record MeanRooted (r : FsRoot) (t : Tree) : Type 0 where
   pub indexes : MeanTree r.indexes t
   pub root : moment t ≡ r.modified
 
 -- they mean some directory tree
-pub record MeanSome (r : Rooted) : Type 0 where
+pub record MeanSome (r : FsRoot) : Type 0 where
   pub tree : Tree
   pub means : MeanRooted r tree
 

@@ -4,7 +4,7 @@ use Rattle.message.specs.Ranges.{before, reaches}
 use Rattle.pathkey.specs.Keys.{Key, block_key, enc}
 use Rattle.pathkey.specs.Names.{IsPath}
 use Rattle.reference.specs.Indexes.{meta_of, most_blocks}
-use Rattle.reference.specs.Looks.{sight}
+use Rattle.reference.specs.Reads.{sight}
 use Rattle.reference.specs.Tree.{Path, Tree, File, At, Found}
 use Rattle.reference.specs.declared.reply.Meta.{Meta}
 

@@ -7,7 +7,7 @@ ghost use Rattle.volume.specs.Cursors.{StandsAt, is_passed};
 use message::Update;
 use node::Tree;
 use pathkey::{Key, KeyRange, NoMemory};
-use scan::piecewise::Pieces;
+use scan::readahead::Readahead;
 use std::alloc::Global;
 use std::collections::VecDeque;
 
@@ -21,7 +21,7 @@ pub(crate) struct Cursor<U: Update> {
     /// The first pair of the range, if it was taken.
     pub(crate) first: Option<(Key, U::Value)>,
     /// Those behind it.
-    pub(crate) pieces: Pieces<U>,
+    pub(crate) pieces: Readahead<U>,
 }
 
 impl<U: Update> Cursor<U> {
@@ -36,31 +36,31 @@ impl<U: Update> Cursor<U> {
                 hi: None,
             },
             first: None,
-            pieces: Pieces::new(alloc),
+            pieces: Readahead::new(alloc),
         }
     }
 
     /// Goes to a key, and takes the first pair from there on into `first`; none where the tree has none there.
     ///
     /// It fails only for want of memory, and stands at the key then, with no pair taken.
-    pub(crate) fn go_to(&mut self, alloc: Global, tree: &Tree<U>, key: Key) -> Result<(), NoMemory>
+    pub(crate) fn seek(&mut self, alloc: Global, tree: &Tree<U>, key: Key) -> Result<(), NoMemory>
         requires { StandsAt (value_at U.means tree.now.root) self.old.range self.old.first self.old.pieces.all self.old.pieces.pairs.items }
         ensures first { OnOk result (IsFirst (value_at U.means tree.now.root) key self.old.range.hi self.new.first) }
         ensures stands { StandsAt (value_at U.means tree.now.root) self.new.range self.new.first self.new.pieces.all self.new.pieces.pairs.items }
         ensures end { self.new.range.hi ≡ self.old.range.hi }
     {
-        self.turn_to(alloc, key);
+        self.seek_key(alloc, key);
         self.take_first(alloc, tree)
     }
 
     /// Goes to a key. What was taken stays where it lies at the key or behind it, and goes where it lies before. Behind a key that
     /// was passed nothing is known, so that all goes.
-    fn turn_to(&mut self, alloc: Global, key: Key)
+    fn seek_key(&mut self, alloc: Global, key: Key)
         ensures stands { (f : List ℕ → Option U.Value) → StandsAt f self.old.range self.old.first self.old.pieces.all self.old.pieces.pairs.items → StandsAt f self.new.range self.new.first self.new.pieces.all self.new.pieces.pairs.items }
         ensures range { self.new.range ≡ record { lo = key; hi = self.old.range.hi } }
     {
         if key.cmp(&self.range.lo).is_lt() {
-            self.pieces = Pieces::new(alloc);
+            self.pieces = Readahead::new(alloc);
             self.first = None;
         } else if self.is_passed(&key) {
             self.first = None;
@@ -99,7 +99,7 @@ impl<U: Update> Cursor<U> {
                 Ok(())
             }
             Err(NoMemory) => {
-                self.pieces = Pieces::new(alloc);
+                self.pieces = Readahead::new(alloc);
                 Err(NoMemory)
             }
         }

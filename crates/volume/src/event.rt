@@ -43,7 +43,7 @@ pub struct Step {
 
 /// A step that was tried, and its reply.
 #[derive(Clone, Copy)]
-pub struct Relief {
+pub struct CompactStep {
     /// The step.
     pub step: Step,
     /// What it answered.

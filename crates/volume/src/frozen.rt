@@ -1,10 +1,10 @@
 //! The tree of a volume as it stood at one moment.
 ghost use Rattle.std.specs.Prelude.{◌≡◌, IfOk, []};
-ghost use Rattle.volume.specs.Told.{Tells};
+ghost use Rattle.volume.specs.HistoryOf.{Tells};
 ghost use Rattle.volume.specs.Volumes.{MeanSome};
 
-use crate::rooted::Rooted;
-use call_compiler::reading::{read, readdir, stat};
+use crate::fs_root::FsRoot;
+use call_compiler::read::{read, readdir, stat};
 use call_compiler::{Call, Indexes, Reply};
 use pathkey::{Errno, NoMemory, Path};
 use reference::Kind;
@@ -13,7 +13,7 @@ use std::marker::Model;
 
 /// A tree that stands still: later changes of the volume do not touch it. Contracts see its indexes with the moment of its root.
 pub struct Frozen {
-    rooted: Rooted,
+    rooted: FsRoot,
 }
 
 // Written out, as that of `pathkey::Key`.
@@ -25,9 +25,9 @@ impl Drop for Frozen {
 
 impl Model for Frozen {
     ghost use Rattle.volume.specs.Codes.{coded_rooted};
-    ghost use Rattle.volume.specs.declared.rooted.Rooted.{Rooted};
+    ghost use Rattle.volume.specs.declared.fs_root.FsRoot.{FsRoot};
 
-    ghost Value = { Rooted };
+    ghost Value = { FsRoot };
 
     ghost coded = { coded_rooted };
 
@@ -40,7 +40,7 @@ impl Model for Frozen {
 
 impl Frozen {
     /// The tree that these indexes mean.
-    pub(crate) fn new(rooted: Rooted) -> Frozen
+    pub(crate) fn new(rooted: FsRoot) -> Frozen
         requires { MeanSome rooted }
         ensures { result ≡ rooted }
     {
@@ -48,7 +48,7 @@ impl Frozen {
     }
 
     /// What its type keeps: it means a directory tree. It does nothing.
-    pub fn means_a_tree(&self)
+    pub fn assert_invariant(&self)
         ensures { MeanSome self.now }
     {
         let _ = &self.rooted;

@@ -6,16 +6,16 @@ ghost use Rattle.pathkey.specs.Keys.{block_key as key_of_block};
 ghost use Rattle.reference.specs.Indexes.{most_blocks};
 ghost use Rattle.reference.specs.Tree.{Tree, File, Found, entry_at};
 ghost use Rattle.volume.specs.Holes.{Punches};
-ghost use Rattle.volume.specs.StoredRuns.{AreStored, IsRun, RunsIn};
+ghost use Rattle.volume.specs.Extents.{AreStored, IsRun, RunsIn};
 ghost use Rattle.volume.specs.Typed.{replied};
 
+use crate::call_methods::counted;
 use crate::frozen::Frozen;
-use crate::typed::counted;
 use crate::volume::Volume;
 use crate::walk::BlockWalk;
 use block_index::BLOCK;
-use call_compiler::measuring::file_length;
-use call_compiler::{Reply, punching};
+use call_compiler::file_length::file_length;
+use call_compiler::{Reply, punch};
 use pathkey::{Errno, NoMemory, Path};
 use std::alloc::Global;
 
@@ -24,11 +24,11 @@ impl Volume {
     /// second, within the file. Both are the file's length where there is none. Each byte from the offset to the run is zero.
     ///
     /// ENOENT, ENOTDIR and EISDIR as `read`, ENOMEM where memory is refused. It costs one walk of the run's blocks.
-    pub fn stored(&self, alloc: Global, path: &Path, offset: u64) -> Result<(u64, u64), Errno>
+    pub fn next_extent(&self, alloc: Global, path: &Path, offset: u64) -> Result<(u64, u64), Errno>
         ensures { RunsIn self.now.live.indexes path.now offset result }
     {
         let tree = self.freeze()?;
-        tree.stored(alloc, path, offset)
+        tree.next_extent(alloc, path, offset)
     }
 }
 
@@ -49,24 +49,24 @@ impl Volume {
     ) -> Result<u64, Errno>
         ensures { Punches path.now offset count at (replied (λ n. Reply.Count n) result) self.old self.new }
     {
-        let compiled = punching::punch(alloc, self.indexes(), path, offset, count, at);
+        let compiled = punch::punch(alloc, self.indexes(), path, offset, count, at);
         counted(self.send_zeros(alloc, compiled))
     }
 }
 
 impl Frozen {
-    /// The next run of stored bytes of a file, as `Volume::stored` tells it.
-    pub fn stored(&self, alloc: Global, path: &Path, offset: u64) -> Result<(u64, u64), Errno>
+    /// The next run of stored bytes of a file, as `Volume::next_extent` tells it.
+    pub fn next_extent(&self, alloc: Global, path: &Path, offset: u64) -> Result<(u64, u64), Errno>
         ensures { RunsIn self.now.indexes path.now offset result }
     {
         let size = file_length(alloc, self.indexes(), path)??;
         let mut walk = BlockWalk::new(alloc, self);
-        Ok(next_run(alloc, &mut walk, path, offset, size)?)
+        Ok(find_extent(alloc, &mut walk, path, offset, size)?)
     }
 }
 
 /// The next run of stored bytes of the file of so many bytes at the path.
-fn next_run(
+fn find_extent(
     alloc: Global,
     walk: &mut BlockWalk,
     path: &Path,
@@ -91,12 +91,12 @@ fn next_run(
         return Ok((size, size));
     }
     let last = ((size - 1) / BLOCK) as u32;
-    let end = run_end(alloc, walk, path, number + 1, last + 1)?;
+    let end = extent_end(alloc, walk, path, number + 1, last + 1)?;
     Ok((from, size.min(end as u64 * BLOCK)))
 }
 
 /// The first block of the file at the path that is not stored, from a number on; `bound` where all before that one are.
-fn run_end(
+fn extent_end(
     alloc: Global,
     walk: &mut BlockWalk,
     path: &Path,
@@ -111,7 +111,7 @@ fn run_end(
     ensures ended { IfOk result (λ end. end < bound → blocks walk.old.indexes.block (key_of_block path.now end) ≡ None) }
 {
     'each: for number in from..bound {
-        if !is_stored(alloc, walk, path, number)? {
+        if !is_allocated(alloc, walk, path, number)? {
             return Ok(number);
         }
     }
@@ -119,7 +119,7 @@ fn run_end(
 }
 
 /// Whether the block with this number of the file at the path is stored.
-fn is_stored(
+fn is_allocated(
     alloc: Global,
     walk: &mut BlockWalk,
     path: &Path,

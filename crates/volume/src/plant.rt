@@ -11,8 +11,8 @@ ghost use Rattle.reference.specs.Tree.{Tree};
 ghost use Rattle.volume.specs.Marked.{KeepMarkedLists, KeepsMarks};
 ghost use Rattle.volume.specs.Plants.{PlantsIn, is_directory, one_put};
 
-use crate::live::Live;
-use crate::rooted::moment_of;
+use crate::fs_root::mtime_of;
+use crate::live_indexes::LiveIndexes;
 use call_compiler::Batch;
 use message::Msg;
 use meta_index::MetaIndex;
@@ -21,7 +21,12 @@ use reference::{GREATEST_FILE, Meta};
 use std::alloc::Global;
 
 /// Plants an entry, by one message. A refusal changes nothing.
-pub(crate) fn plant(alloc: Global, live: &mut Live, path: &Path, meta: Meta) -> Result<(), Errno>
+pub(crate) fn plant(
+    alloc: Global,
+    live: &mut LiveIndexes,
+    path: &Path,
+    meta: Meta,
+) -> Result<(), Errno>
     ensures entry { PlantsIn path.now meta result live.old.indexes live.new.indexes }
     ensures lists { IfOk result (λ _. KeepMarkedLists (one_put path.now meta) live.old live.new) }
     ensures marks { live.new.marks ≡ live.old.marks }
@@ -30,8 +35,8 @@ pub(crate) fn plant(alloc: Global, live: &mut Live, path: &Path, meta: Meta) -> 
     if let Some(fault) = fault_of_plant(alloc, &live.indexes().meta, path, meta)? {
         return Err(fault);
     }
-    // What `moment_of` promises says that it is a moment.
-    let _early = moment_of(meta);
+    // What `mtime_of` promises says that it is a moment.
+    let _early = mtime_of(meta);
     let batch = one_put(alloc, path, meta)?;
     live.append(alloc, batch)?;
     Ok(())

@@ -1,13 +1,13 @@
 //! Lists of events.
 ghost use Rattle.std.specs.Prelude.{◌≡◌, ◌<◌, ◌+◌, ◌≤◌, ◌∷◌, [], IfOk, OnErr, length, vec_capacity};
-ghost use Rattle.volume.specs.Held.{AreHeld, IsHeld, without_held};
+ghost use Rattle.volume.specs.RunJob.{AreHeld, IsHeld, without_held};
 ghost use Rattle.volume.specs.Marked.{KeepsMarks};
 ghost use Rattle.volume.specs.Runs.{Ends, Finishes, Link, Ran, Takes, takings};
 ghost use Rattle.volume.specs.Volumes.{live_of};
 
 use crate::event::{Answer, Event, FinishAnswer, Index, TakeAnswer};
-use crate::held::{Held, take_out};
 use crate::job::{InstallReply, TakeReply};
+use crate::run_job::{RunJob, take_out};
 use crate::volume::Volume;
 use jobs::Ticket;
 use pathkey::NoMemory;
@@ -42,10 +42,10 @@ fn takings(events: &[Event]) -> usize
 
 impl Volume {
     /// Takes a job and holds it.
-    fn take_held(
+    fn take_into_run(
         &mut self,
         alloc: Global,
-        held: &mut Vec<Held>,
+        held: &mut Vec<RunJob>,
         index: Index,
         slot: u8,
     ) -> TakeAnswer
@@ -58,7 +58,7 @@ impl Volume {
         match self.take_job(alloc, index, slot) {
             TakeReply::Taken(job) => {
                 let ticket = job.ticket();
-                held.push_reserved(Held::Taken(job));
+                held.push_reserved(RunJob::Taken(job));
                 TakeAnswer::Taken(ticket)
             }
             TakeReply::NotThere => TakeAnswer::NotThere,
@@ -68,7 +68,7 @@ impl Volume {
     }
 
     /// Builds and installs a held job. Where memory is refused it comes back, as it was or built.
-    fn finish(&mut self, alloc: Global, job: Held) -> Result<FinishAnswer, Held>
+    fn finish(&mut self, alloc: Global, job: RunJob) -> Result<FinishAnswer, RunJob>
         requires { IsHeld (live_of self.old) job }
         ensures ends { Ends job result self.old self.new }
         ensures kept { KeepsMarks (live_of self.old) (live_of self.new) }
@@ -77,12 +77,12 @@ impl Volume {
         match self.install(done) {
             InstallReply::Installed => Ok(FinishAnswer::Installed),
             InstallReply::Stale => Ok(FinishAnswer::Stale),
-            InstallReply::NoMemory(done) => Err(Held::Built(done)),
+            InstallReply::NoMemory(done) => Err(RunJob::Built(done)),
         }
     }
 
     /// Builds and installs the held job with the ticket.
-    fn finish_held(&mut self, alloc: Global, held: &mut Vec<Held>, ticket: Ticket) -> FinishAnswer
+    fn finish_held(&mut self, alloc: Global, held: &mut Vec<RunJob>, ticket: Ticket) -> FinishAnswer
         requires { AreHeld (live_of self.old) held.old.items }
         ensures link { Finishes ticket.number result (record { volume = self.old; held = held.old.items }) (record { volume = self.new; held = held.new.items }) }
         ensures held { AreHeld (live_of self.new) held.new.items }
@@ -102,7 +102,7 @@ impl Volume {
     }
 
     /// Does one event, by its own call.
-    fn answer(&mut self, alloc: Global, held: &mut Vec<Held>, event: &Event) -> Answer
+    fn answer(&mut self, alloc: Global, held: &mut Vec<RunJob>, event: &Event) -> Answer
         requires held { AreHeld (live_of self.old) held.old.items }
         requires room { length held.old.items + takings (event.now ∷ []) ≤ vec_capacity held.old }
         ensures link { Link event.now result (record { volume = self.old; held = held.old.items }) (record { volume = self.new; held = held.new.items }) }
@@ -115,13 +115,15 @@ impl Volume {
             Event::DropSnapshot(name) => Answer::Snap(self.drop_snapshot(name)),
             Event::Restore(name) => Answer::Snap(self.restore(name)),
             Event::Step(step) => Answer::Step(self.step(alloc, *step)),
-            Event::Take(index, slot) => Answer::Take(self.take_held(alloc, held, *index, *slot)),
+            Event::Take(index, slot) => Answer::Take(self.take_into_run(
+                alloc, held, *index, *slot,
+            )),
             Event::Finish(ticket) => Answer::Finish(self.finish_held(alloc, held, *ticket)),
         }
     }
 
     /// Cancels the jobs. It takes no memory.
-    fn cancel_held(&mut self, held: &[Held])
+    fn cancel_held(&mut self, held: &[RunJob])
         ensures { self.new ≡ record (self.old) { marks = without_held held.now self.old.marks } }
     {
         for job in held {
@@ -138,12 +140,12 @@ impl Volume {
         ensures ran { IfOk result (λ answers. Ran events.now answers.items self.old self.new) }
         ensures err { OnErr result (self.new ≡ self.old) }
     {
-        self.means_a_world();
+        self.assert_invariant();
         let mut answers = Vec::with_capacity(alloc, events.len())?;
         let mut held = Vec::with_capacity(alloc, takings(events))?;
         for event in events {
             let answer = self.answer(alloc, &mut held, event);
-            self.means_a_world();
+            self.assert_invariant();
             answers.push_reserved(answer);
         }
         self.cancel_held(held.as_slice());

@@ -4,7 +4,7 @@ ghost use Rattle.std.specs.FinMap as finite;
 ghost use Rattle.std.specs.Option.{option_copied};
 ghost use Rattle.volume.specs.Volumes.{AreNames, most_snapshots, names_in};
 
-use crate::rooted::Rooted;
+use crate::fs_root::FsRoot;
 use pathkey::{NoMemory, SnapName};
 use std::alloc::Global;
 use std::collections::BTreeMap;
@@ -15,7 +15,7 @@ const MOST: usize = 64;
 
 /// Indexes under names, which contracts see as a finite map.
 pub struct Snapshots {
-    named: BTreeMap<SnapName, Rooted>,
+    named: BTreeMap<SnapName, FsRoot>,
 }
 
 // Written out, as that of `pathkey::Key`.
@@ -27,13 +27,13 @@ impl Drop for Snapshots {
 
 impl Model for Snapshots {
     ghost use Rattle.volume.specs.Codes.{coded_kept};
-    ghost use Rattle.volume.specs.Volumes.{Kept, kept};
+    ghost use Rattle.volume.specs.Volumes.{Kept, snapshot_root};
 
     ghost Value = { Kept };
 
     ghost coded = { coded_kept };
 
-    ghost view = { λ s. kept s.named };
+    ghost view = { λ s. snapshot_root s.named };
 }
 
 impl Snapshots {
@@ -47,7 +47,7 @@ impl Snapshots {
     }
 
     /// The indexes under a name. It takes no memory.
-    pub fn get(&self, name: &SnapName) -> Option<&Rooted>
+    pub fn get(&self, name: &SnapName) -> Option<&FsRoot>
         ensures { option_copied result ≡ finite.get self.now name.now }
     {
         self.named.get(name)
@@ -77,7 +77,7 @@ impl Snapshots {
     }
 
     /// Puts indexes under a name.
-    pub fn keep(&mut self, alloc: Global, name: &SnapName, rooted: Rooted) -> Result<(), NoMemory>
+    pub fn add(&mut self, alloc: Global, name: &SnapName, rooted: FsRoot) -> Result<(), NoMemory>
         ensures kept { OnOk result (self.new ≡ finite.insert self.old name.now rooted) }
         ensures err { OnErr result (self.new ≡ self.old) }
     {

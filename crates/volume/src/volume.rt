@@ -9,23 +9,23 @@ ghost use Rattle.reference.specs.Worlds.{World, TakeSnapshot, DropSnapshot, Rest
 ghost use Rattle.volume.specs.Changes.{Called, Settles, KeptAs, Dropped, Restored, Stepped};
 ghost use Rattle.volume.specs.Plants.{Plants};
 ghost use Rattle.volume.specs.Holes.{Compiles as HoleCompiles, Punches};
-ghost use Rattle.volume.specs.Rooted.{reply_to};
+ghost use Rattle.volume.specs.FsRoot.{reply_to};
 ghost use Rattle.volume.specs.Jobs.{AnswersInstalling, AnswersTaking, DoneFits};
 ghost use Rattle.volume.specs.Marked.{KeepsMarks, no_marks, without_mark};
 ghost use Rattle.volume.specs.Volumes.{AreNames, IsNew, IsVolume, MeanRooted, Means, live_of, names_in};
 ghost use Rattle.volume.specs.Typed.{Asks, Compiles, IsCount, IsOfKind};
-ghost use Rattle.volume.specs.Told.{Finds, HeaviestIn, busier, pending_in, report_in};
+ghost use Rattle.volume.specs.HistoryOf.{Finds, HeaviestIn, busier, pending_in, report_in};
 
-use crate::event::{Index, Relief, Step, in_tree};
+use crate::event::{CompactStep, Index, Step, in_tree};
 use crate::frozen::Frozen;
+use crate::fs_root::{FsRoot, after_call, after_planting, share};
 use crate::job::{Done, InstallReply, TakeReply};
-use crate::live::Live;
+use crate::live_indexes::LiveIndexes;
 use crate::plant::plant;
-use crate::rooted::{Rooted, after_call, after_planting, share};
 use crate::snapshots::Snapshots;
-use call_compiler::touching::touches_root;
+use call_compiler::dir_mtime::touches_root;
 use call_compiler::{Batch, Call, Indexes, Reply, compile};
-use jobs::{Load, Ticket};
+use jobs::{Backlog, Ticket};
 use node::{Shape, ShapeReport, StepReply, TreeStep};
 use pathkey::{Errno, NoMemory, Path, SnapName};
 use reference::Meta;
@@ -34,7 +34,7 @@ use std::marker::Model;
 
 /// The live indexes of a file system with the moment of the root, and those of its named snapshots.
 pub struct Volume {
-    live: Live,
+    live: LiveIndexes,
     modified: u64,
     snapshots: Snapshots,
 }
@@ -84,8 +84,8 @@ impl Volume {
             return Err(Errno::EINVAL);
         }
         let indexes = Indexes::new(alloc, shape)?;
-        let live = Live::new(alloc, indexes);
-        live.stands();
+        let live = LiveIndexes::new(alloc, indexes);
+        live.assert_invariant();
         Ok(Volume {
             live,
             modified: 0,
@@ -122,7 +122,7 @@ impl Volume {
             return Reply::Fault(Errno::ENOMEM);
         };
         let appended = self.live.append(alloc, batch);
-        self.live.stands();
+        self.live.assert_invariant();
         let reply = reply_to(appended, reply);
         self.modified = after_call(&reply, in_root, at, self.modified);
         reply
@@ -142,7 +142,7 @@ impl Volume {
             return Reply::Fault(Errno::ENOMEM);
         };
         let punched = self.live.append(alloc, batch);
-        self.live.stands();
+        self.live.assert_invariant();
         reply_to(punched, reply)
     }
 
@@ -153,7 +153,7 @@ impl Volume {
         ensures { Plants path.now meta result self.old self.new }
     {
         let answer = plant(alloc, &mut self.live, path, meta);
-        self.live.stands();
+        self.live.assert_invariant();
         self.modified = after_planting(&answer, path, meta, self.modified);
         answer
     }
@@ -170,7 +170,7 @@ impl Volume {
             return Err(Errno::ENOSPC);
         }
         let copy = share(self.live.indexes(), self.modified)?;
-        self.snapshots.keep(alloc, name, copy)?;
+        self.snapshots.add(alloc, name, copy)?;
         Ok(())
     }
 
@@ -190,13 +190,13 @@ impl Volume {
     pub fn restore(&mut self, name: &SnapName) -> Result<(), Errno>
         ensures { Settles (RestoreSnapshot name.now) (Restored name.now) result self.old self.new }
     {
-        let Some(kept) = self.snapshots.get(name) else {
+        let Some(snapshot_root) = self.snapshots.get(name) else {
             return Err(Errno::ENOENT);
         };
-        let modified = kept.modified;
-        let copy = kept.indexes.share()?;
+        let modified = snapshot_root.modified;
+        let copy = snapshot_root.indexes.share()?;
         self.live.replace(copy);
-        self.live.stands();
+        self.live.assert_invariant();
         self.modified = modified;
         Ok(())
     }
@@ -207,13 +207,13 @@ impl Volume {
         ensures { Stepped step result self.old self.new }
     {
         let reply = self.live.step(alloc, step);
-        self.live.stands();
+        self.live.assert_invariant();
         reply
     }
 
     /// What its type keeps: a volume means a world, has at most 64 snapshots, its live trees are lawful, and it has at most 64
     /// marks, each of a slot of its own in a live root. It does nothing.
-    pub fn means_a_world(&self)
+    pub fn assert_invariant(&self)
         ensures { IsVolume self.now }
     {
         let _ = &self.live;
@@ -234,10 +234,10 @@ impl Volume {
         ensures same { IfOk result (λ f. finite.get self.now.snapshots name.now ≡ Some f) }
         ensures means { (w : World) → Means self.now w → Finds name.now result w }
     {
-        let Some(kept) = self.snapshots.get(name) else {
+        let Some(snapshot_root) = self.snapshots.get(name) else {
             return Err(Errno::ENOENT);
         };
-        Ok(Frozen::new(kept.share()?))
+        Ok(Frozen::new(snapshot_root.share()?))
     }
 
     /// Its live indexes, to go through all of the live tree.
@@ -248,7 +248,7 @@ impl Volume {
     }
 
     /// The snapshot of that name, to go through all of its tree; none where there is none of that name.
-    pub fn kept(&self, name: &SnapName) -> Option<&Rooted>
+    pub fn snapshot_root(&self, name: &SnapName) -> Option<&FsRoot>
         ensures { option_copied result ≡ finite.get self.now.snapshots name.now }
     {
         self.snapshots.get(name)
@@ -286,7 +286,7 @@ impl Volume {
 
     /// Does a tree step in the index with more pending pieces, that of the metadata where both have as many: the heaviest flush
     /// or, where that has no room, what makes room for it. `None` exactly where nothing is pending in either.
-    pub fn relieve(&mut self, alloc: Global) -> Option<Relief>
+    pub fn compact_step(&mut self, alloc: Global) -> Option<CompactStep>
         ensures nothing { (result ≡ None) ↔ ((pending_in Index.Meta self.old.live.indexes ≡ 0) × (pending_in Index.Block self.old.live.indexes ≡ 0)) }
         ensures unchanged { IfNone result (self.new ≡ self.old) }
         ensures busier { IfSome result (λ r. r.step.index ≡ busier self.old.live.indexes) }
@@ -294,8 +294,8 @@ impl Volume {
         ensures means { (w : World) → Means self.old w → Means self.new w }
     {
         let index = self.busier();
-        let relief = self.live.relieve(alloc, index);
-        self.live.stands();
+        let relief = self.live.compact_step(alloc, index);
+        self.live.assert_invariant();
         relief
     }
 
@@ -323,8 +323,8 @@ impl Volume {
 
     /// The slot of an index's root of which a job would move the most messages; none where no job would move any. It takes no
     /// memory, and no claim rests on its choice.
-    pub fn load(&self, index: Index) -> Option<Load> {
-        self.live.load(index)
+    pub fn backlog(&self, index: Index) -> Option<Backlog> {
+        self.live.backlog(index)
     }
 
     /// Takes a job of the slot with this number of an index's root: it shares the slot's child and has the slot's oldest
@@ -340,7 +340,7 @@ impl Volume {
         ensures means { (w : World) → Means self.old w → Means self.new w }
     {
         let reply = self.live.take_job(alloc, index, slot);
-        self.live.stands();
+        self.live.assert_invariant();
         reply
     }
 
@@ -356,7 +356,7 @@ impl Volume {
         ensures means { (w : World) → Means self.old w → Means self.new w }
     {
         let reply = self.live.install(done);
-        self.live.stands();
+        self.live.assert_invariant();
         reply
     }
 
@@ -366,7 +366,7 @@ impl Volume {
         ensures kept { KeepsMarks (live_of self.old) (live_of self.new) }
     {
         self.live.cancel(ticket);
-        self.live.stands();
+        self.live.assert_invariant();
     }
 
     /// Takes all marks away. It takes no memory.
@@ -375,6 +375,6 @@ impl Volume {
         ensures kept { KeepsMarks (live_of self.old) (live_of self.new) }
     {
         self.live.cancel_all();
-        self.live.stands();
+        self.live.assert_invariant();
     }
 }

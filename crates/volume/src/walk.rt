@@ -7,7 +7,7 @@ ghost use Rattle.block_index.specs.Means.{blocks};
 ghost use Rattle.pathkey.specs.Keys.{block_key, enc};
 ghost use Rattle.reference.specs.Indexes.{PathOf, most_blocks};
 ghost use Rattle.reference.specs.Tree.{Tree, entry_at};
-ghost use Rattle.volume.specs.StoredRuns.{IsNextStored};
+ghost use Rattle.volume.specs.Extents.{IsNextStored};
 ghost use Rattle.volume.specs.Volumes.{MeanRooted};
 ghost use Rattle.volume.specs.Walks.{AreBlocksAt, AreEntries, IsOwn, ReadsNumbers, ReadsPaths};
 
@@ -35,7 +35,7 @@ impl Frozen {
         let lo = from.key().copy(alloc)?;
         let rest = KeyRange { lo, hi: None };
         let pairs = scan(alloc, &self.indexes().meta.tree, &rest, limit)?;
-        self.means_a_tree();
+        self.assert_invariant();
         with_paths(alloc, pairs)
     }
 
@@ -60,7 +60,7 @@ impl Frozen {
         }
         let rest = blocks_from(alloc, path, from)?;
         let pairs = scan(alloc, &self.indexes().block.tree, &rest, limit)?;
-        self.means_a_tree();
+        self.assert_invariant();
         with_numbers(alloc, pairs)
     }
 }
@@ -77,9 +77,9 @@ pub struct BlockWalk<'a> {
 
 impl<'a> Model for BlockWalk<'a> {
     ghost use Rattle.volume.specs.Codes.{coded_rooted};
-    ghost use Rattle.volume.specs.declared.rooted.Rooted.{Rooted};
+    ghost use Rattle.volume.specs.declared.fs_root.FsRoot.{FsRoot};
 
-    ghost Value = { Rooted };
+    ghost Value = { FsRoot };
 
     ghost coded = { coded_rooted };
 
@@ -125,8 +125,8 @@ impl<'a> BlockWalk<'a> {
         }
         let frozen = self.frozen;
         let key = block_key(alloc, path, from)?;
-        self.cursor.go_to(alloc, &frozen.indexes().block.tree, key)?;
-        frozen.means_a_tree();
+        self.cursor.seek(alloc, &frozen.indexes().block.tree, key)?;
+        frozen.assert_invariant();
         own_block(&self.cursor.first, path)
     }
 }

@@ -4,8 +4,8 @@
 use node::Shape;
 use pathkey::{Errno, NoMemory, SnapName};
 use reference::{Call, Reply};
-use samples::{Ask, Told};
 use std::alloc::Global;
+use test_support::{ExpectedReply, SampleCall};
 use volume::{Frozen, Index, Volume};
 
 /// The shape that `betr` uses.
@@ -61,20 +61,25 @@ fn reply_to(alloc: Global, volume: &mut Volume, call: &Call, at: u64) -> Reply {
 }
 
 /// Whether a file call at moment 0 is answered so.
-pub fn answers(alloc: Global, volume: &mut Volume, ask: Ask<'_>, told: Told<'_>) -> bool {
-    answers_at(alloc, volume, ask, 0, told)
+pub fn answers(
+    alloc: Global,
+    volume: &mut Volume,
+    ask: SampleCall<'_>,
+    reported: ExpectedReply<'_>,
+) -> bool {
+    answers_at(alloc, volume, ask, 0, reported)
 }
 
 /// Whether a file call at a moment is answered so.
 pub fn answers_at(
     alloc: Global,
     volume: &mut Volume,
-    ask: Ask<'_>,
+    ask: SampleCall<'_>,
     at: u64,
-    told: Told<'_>,
+    reported: ExpectedReply<'_>,
 ) -> bool {
     match ask.call(alloc) {
-        Ok(call) => told.is(&reply_to(alloc, volume, &call, at)),
+        Ok(call) => reported.is(&reply_to(alloc, volume, &call, at)),
         Err(_) => false,
     }
 }
@@ -90,9 +95,14 @@ fn reply_of(alloc: Global, frozen: &Frozen, call: &Call) -> Reply {
 }
 
 /// Whether a tree that stands still answers so.
-pub fn tells(alloc: Global, frozen: &Frozen, ask: Ask<'_>, told: Told<'_>) -> bool {
+pub fn tells(
+    alloc: Global,
+    frozen: &Frozen,
+    ask: SampleCall<'_>,
+    reported: ExpectedReply<'_>,
+) -> bool {
     match ask.call(alloc) {
-        Ok(call) => told.is(&reply_of(alloc, frozen, &call)),
+        Ok(call) => reported.is(&reply_of(alloc, frozen, &call)),
         Err(_) => false,
     }
 }
@@ -108,7 +118,13 @@ pub fn frozen(alloc: Global, volume: &Volume, text: &str) -> Result<Frozen, Errn
 /// Whether a file is made at a moment: the one with this number in this directory.
 pub fn creates(alloc: Global, volume: &mut Volume, directory: &str, number: u32, at: u64) -> bool {
     match format!(in alloc; "{directory}/f{number:03}") {
-        Ok(text) => answers_at(alloc, volume, Ask::Create(text.as_str()), at, Told::Done),
+        Ok(text) => answers_at(
+            alloc,
+            volume,
+            SampleCall::Create(text.as_str()),
+            at,
+            ExpectedReply::Done,
+        ),
         Err(_) => false,
     }
 }

@@ -2,8 +2,8 @@
 use crate::asked::{USUAL, freeze, new_volume};
 use crate::changes::{Change, Row, goes};
 use pathkey::NoMemory;
-use samples::ask::path;
 use std::alloc::Global;
+use test_support::ask::path;
 use volume::{Block, BlockWalk, Frozen, Path, Volume};
 
 /// Files of three blocks, of which the second is a hole, of no block, and of one, and an empty directory.
@@ -99,18 +99,18 @@ fn is_walked(alloc: Global, volume: &Volume) -> bool {
 }
 
 /// Whether the files are made in a volume, and walks through its live tree then give their blocks.
-fn is_told(alloc: Global, volume: &mut Volume) -> bool {
+fn is_reported(alloc: Global, volume: &mut Volume) -> bool {
     goes(alloc, volume, FILLED) && is_walked(alloc, volume)
 }
 
-fn is_told_anew(alloc: Global) -> bool {
+fn is_reported_anew(alloc: Global) -> bool {
     match new_volume(alloc, USUAL) {
-        Ok(mut volume) => is_told(alloc, &mut volume),
+        Ok(mut volume) => is_reported(alloc, &mut volume),
         Err(_) => false,
     }
 }
 
 #[test]
 fn gives_the_blocks_of_file_after_file(rt: HostRuntime) {
-    assert!(rt; is_told_anew(rt.alloc()));
+    assert!(rt; is_reported_anew(rt.alloc()));
 }

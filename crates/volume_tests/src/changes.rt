@@ -1,7 +1,7 @@
 //! Changes of a volume by the calls that have an answer of their own, as a table can hold them.
 use pathkey::{Errno, Path};
-use samples::ask::path;
 use std::alloc::Global;
+use test_support::ask::path;
 use volume::Volume;
 
 /// A change of one path.
@@ -21,8 +21,8 @@ pub enum Change<'a> {
 pub type Row = (u64, &'static str, Change<'static>, Result<u64, Errno>);
 
 /// What a call that tells nothing back is answered: no bytes were written.
-fn settled(told: Result<(), Errno>) -> Result<u64, Errno> {
-    match told {
+fn settled(reported: Result<(), Errno>) -> Result<u64, Errno> {
+    match reported {
         Ok(()) => Ok(0),
         Err(fault) => Err(fault),
     }

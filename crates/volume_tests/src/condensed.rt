@@ -1,21 +1,21 @@
 //! What waits for a file that is written byte by byte, and for a directory that gets many files.
 
 use crate::asked::{USUAL, answers, creates, new_volume, waiting};
-use samples::{Ask, Told};
 use std::alloc::Global;
+use test_support::{ExpectedReply, SampleCall};
 use volume::{Index, Volume};
 
 /// Whether a file is made and a thousand bytes are written one by one.
 fn write_all(alloc: Global, volume: &mut Volume) -> bool {
-    if !answers(alloc, volume, Ask::Create("/f"), Told::Done) {
+    if !answers(alloc, volume, SampleCall::Create("/f"), ExpectedReply::Done) {
         return false;
     }
     for offset in 0..1_000 {
         if !answers(
             alloc,
             volume,
-            Ask::Write("/f", offset, b"x"),
-            Told::Count(1),
+            SampleCall::Write("/f", offset, b"x"),
+            ExpectedReply::Count(1),
         ) {
             return false;
         }
@@ -46,7 +46,7 @@ fn a_thousand_writes_of_a_byte_wait_as_one_message(rt: HostRuntime) {
 /// Relieves a volume, at most so many times; whether nothing waits in the metadata then.
 fn settles(alloc: Global, volume: &mut Volume) -> bool {
     for _ in 0..100 {
-        if volume.relieve(alloc).is_none() {
+        if volume.compact_step(alloc).is_none() {
             return waiting(volume, Index::Meta) == 0;
         }
     }
@@ -66,7 +66,7 @@ fn create_all(alloc: Global, volume: &mut Volume, later: u64) -> bool {
 
 /// Whether so many messages wait then: one for each file, and none or one for their directory, which stands in a leaf.
 fn leaves(alloc: Global, volume: &mut Volume, later: u64, wanted: u128) -> bool {
-    answers(alloc, volume, Ask::Mkdir("/a"), Told::Done)
+    answers(alloc, volume, SampleCall::Mkdir("/a"), ExpectedReply::Done)
         && settles(alloc, volume)
         && create_all(alloc, volume, later)
         && waiting(volume, Index::Meta) == wanted

@@ -7,8 +7,8 @@ use node::{Place, Shape, StepKind, StepReply, TreeStep};
 use pathkey::{Errno, NoMemory, SnapName};
 use reference::plain::World;
 use reference::{Call, Reply};
-use samples::{Ask, Random};
 use std::alloc::Global;
+use test_support::{Random, SampleCall};
 use volume::{Answer, Event, FinishAnswer, Index, Step, TakeAnswer, Volume};
 
 /// A shape with nodes twice as wide as the smallest.
@@ -207,9 +207,11 @@ fn is_answer(
 ) -> bool {
     match (event, answer) {
         (Event::Call(call, at), Answer::Call(reply)) => replies(alloc, plain, call, *at, reply),
-        (Event::Snapshot(name), Answer::Snap(told)) => plain_snapshot(alloc, plain, name) == *told,
-        (Event::DropSnapshot(name), Answer::Snap(told)) => plain_drop(plain, name) == *told,
-        (Event::Restore(name), Answer::Snap(told)) => plain_restore(alloc, plain, name) == *told,
+        (Event::Snapshot(name), Answer::Snap(reported)) => plain_snapshot(alloc, plain, name)
+            == *reported,
+        (Event::DropSnapshot(name), Answer::Snap(reported)) => plain_drop(plain, name) == *reported,
+        (Event::Restore(name), Answer::Snap(reported)) => plain_restore(alloc, plain, name)
+            == *reported,
         (Event::Step(step), Answer::Step(reply)) => tally.step(step.index, *reply),
         (Event::Take(index, _), Answer::Take(answer)) => tally.take(*index, *answer),
         (Event::Finish(_), Answer::Finish(answer)) => tally.finish(*answer),
@@ -235,12 +237,12 @@ fn are_answers(
 
 /// Adds a write of one byte to each of many blocks of a file.
 fn add_blocks(alloc: Global, events: &mut Vec<Event>) -> bool {
-    let mut are_added = add(alloc, events, Act::Live(Ask::Create("/k"), 0));
+    let mut are_added = add(alloc, events, Act::Live(SampleCall::Create("/k"), 0));
     for number in 0..BLOCKS {
         are_added &= add(
             alloc,
             events,
-            Act::Live(Ask::Write("/k", number * 4_096, b"k"), number),
+            Act::Live(SampleCall::Write("/k", number * 4_096, b"k"), number),
         );
     }
     are_added
@@ -278,7 +280,8 @@ fn run_alike(
 /// Does what relieves a volume, so many times; whether memory was found.
 fn relieve(alloc: Global, volume: &mut Volume) -> bool {
     for _ in 0..STEPS {
-        if matches!(volume.relieve(alloc), Some(relief) if relief.reply == StepReply::NoMemory) {
+        if matches!(volume.compact_step(alloc), Some(relief) if relief.reply == StepReply::NoMemory)
+        {
             return false;
         }
     }

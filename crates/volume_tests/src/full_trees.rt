@@ -1,8 +1,8 @@
 //! Small trees in which no step that relief tried had room, though nothing but a choice was wrong.
 use crate::asked::{SMALL, answers, new_volume};
 use crate::changes::{Change, outcome};
-use samples::{Ask, Told};
 use std::alloc::Global;
+use test_support::{ExpectedReply, SampleCall};
 use volume::Volume;
 
 /// Files that come, and how many steps of relief follow.
@@ -36,7 +36,7 @@ const ARRIVALS: &[Arrival] = &[
 /// Does so many steps of relief, or fewer if nothing is pending.
 fn relieve(alloc: Global, volume: &mut Volume, steps: u32) {
     for _ in 0..steps {
-        if volume.relieve(alloc).is_none() {
+        if volume.compact_step(alloc).is_none() {
             return;
         }
     }
@@ -45,7 +45,7 @@ fn relieve(alloc: Global, volume: &mut Volume, steps: u32) {
 /// Whether all these files come.
 fn arrive(alloc: Global, volume: &mut Volume, arrival: &Arrival) -> bool {
     for file in arrival.files {
-        if !answers(alloc, volume, Ask::Create(file), Told::Done) {
+        if !answers(alloc, volume, SampleCall::Create(file), ExpectedReply::Done) {
             return false;
         }
     }
@@ -67,7 +67,7 @@ fn arrive_all(alloc: Global, volume: &mut Volume) -> bool {
 fn comes_to_rest(alloc: Global, volume: &mut Volume) -> bool {
     let is_done = arrive_all(alloc, volume);
     relieve(alloc, volume, 400);
-    is_done && volume.relieve(alloc).is_none()
+    is_done && volume.compact_step(alloc).is_none()
 }
 
 /// The same in a new volume.

@@ -8,8 +8,8 @@ use jobs::Ticket;
 use node::StepKind;
 use pathkey::Errno;
 use reference::Kind;
-use samples::{Ask, Told};
 use std::alloc::Global;
+use test_support::{ExpectedReply, SampleCall};
 use volume::{Done, FinishAnswer, Index, InstallReply, TakeAnswer, TakeReply, Volume};
 
 /// A taking at the first slot of the metadata's root, where no job can be taken.
@@ -42,11 +42,11 @@ pub const HAS_NO_JOB: Turn<'static> = Turn::Finish(0, FinishAnswer::NotThere);
 /// waits there. A leaf takes four messages at once, so the second flush brings down the last of five.
 pub const OPENING: &[Turn<'static>] = &[
     Turn::Snap(Snap::Keep("s"), None),
-    Turn::Live(Ask::Mkdir("/a"), Told::Done),
-    Turn::Live(Ask::Mkdir("/b"), Told::Done),
-    Turn::Live(Ask::Mkdir("/c"), Told::Done),
-    Turn::Live(Ask::Mkdir("/d"), Told::Done),
-    Turn::Live(Ask::Mkdir("/e"), Told::Done),
+    Turn::Live(SampleCall::Mkdir("/a"), ExpectedReply::Done),
+    Turn::Live(SampleCall::Mkdir("/b"), ExpectedReply::Done),
+    Turn::Live(SampleCall::Mkdir("/c"), ExpectedReply::Done),
+    Turn::Live(SampleCall::Mkdir("/d"), ExpectedReply::Done),
+    Turn::Live(SampleCall::Mkdir("/e"), ExpectedReply::Done),
     Turn::Step(Index::Meta, StepKind::FlushLeaf, 4, 4),
     Turn::Step(Index::Meta, StepKind::FlushLeaf, 1, 1),
     Turn::Flush(Index::Meta, false),
@@ -54,25 +54,40 @@ pub const OPENING: &[Turn<'static>] = &[
     Turn::Flush(Index::Meta, false),
     Turn::Flush(Index::Meta, false),
     Turn::Step(Index::Meta, StepKind::RootUp, 0, 0),
-    Turn::Live(Ask::Mkdir("/f"), Told::Done),
+    Turn::Live(SampleCall::Mkdir("/f"), ExpectedReply::Done),
 ];
 
 /// A file of five blocks, all of them below a root with one slot over an inner node, and a sixth that waits there.
 const BLOCKS: &[Turn<'static>] = &[
-    Turn::Live(Ask::Create("/x"), Told::Done),
-    Turn::Live(Ask::Write("/x", 0, b"\xa0"), Told::Count(1)),
-    Turn::Live(Ask::Write("/x", 4_096, b"\xa1"), Told::Count(1)),
-    Turn::Live(Ask::Write("/x", 8_192, b"\xa2"), Told::Count(1)),
-    Turn::Live(Ask::Write("/x", 12_288, b"\xa3"), Told::Count(1)),
-    Turn::Live(Ask::Write("/x", 16_384, b"\xa4"), Told::Count(1)),
+    Turn::Live(SampleCall::Create("/x"), ExpectedReply::Done),
+    Turn::Live(SampleCall::Write("/x", 0, b"\xa0"), ExpectedReply::Count(1)),
+    Turn::Live(
+        SampleCall::Write("/x", 4_096, b"\xa1"),
+        ExpectedReply::Count(1),
+    ),
+    Turn::Live(
+        SampleCall::Write("/x", 8_192, b"\xa2"),
+        ExpectedReply::Count(1),
+    ),
+    Turn::Live(
+        SampleCall::Write("/x", 12_288, b"\xa3"),
+        ExpectedReply::Count(1),
+    ),
+    Turn::Live(
+        SampleCall::Write("/x", 16_384, b"\xa4"),
+        ExpectedReply::Count(1),
+    ),
     Turn::Step(Index::Block, StepKind::FlushLeaf, 4, 4),
     Turn::Step(Index::Block, StepKind::FlushLeaf, 1, 1),
     Turn::Step(Index::Block, StepKind::RootUp, 0, 0),
-    Turn::Live(Ask::Write("/x", 20_480, b"\xa5"), Told::Count(1)),
+    Turn::Live(
+        SampleCall::Write("/x", 20_480, b"\xa5"),
+        ExpectedReply::Count(1),
+    ),
 ];
 
 /// What the root has after the opening.
-const SIX: Told<'static> = Told::Names(&[
+const SIX: ExpectedReply<'static> = ExpectedReply::Names(&[
     (Kind::Dir, "a"),
     (Kind::Dir, "b"),
     (Kind::Dir, "c"),
@@ -82,7 +97,7 @@ const SIX: Told<'static> = Told::Names(&[
 ]);
 
 /// What it has after one more call.
-pub const SEVEN: Told<'static> = Told::Names(&[
+pub const SEVEN: ExpectedReply<'static> = ExpectedReply::Names(&[
     (Kind::Dir, "a"),
     (Kind::Dir, "b"),
     (Kind::Dir, "c"),
@@ -104,10 +119,10 @@ const ROWS: &[Row] = &[
         &[
             TAKES,
             TAKES_NOTHING,
-            Turn::Live(Ask::Mkdir("/g"), Told::Done),
+            Turn::Live(SampleCall::Mkdir("/g"), ExpectedReply::Done),
             INSTALLS,
             HAS_NO_JOB,
-            Turn::Live(Ask::Readdir("/"), SEVEN),
+            Turn::Live(SampleCall::Readdir("/"), SEVEN),
         ],
     ],
     // what a call takes away does not come again with the job
@@ -115,9 +130,9 @@ const ROWS: &[Row] = &[
         OPENING,
         &[
             TAKES,
-            Turn::Live(Ask::Rmdir("/f"), Told::Done),
+            Turn::Live(SampleCall::Rmdir("/f"), ExpectedReply::Done),
             INSTALLS,
-            Turn::Live(Ask::Stat("/f"), Told::Fault(Errno::ENOENT)),
+            Turn::Live(SampleCall::Stat("/f"), ExpectedReply::Fault(Errno::ENOENT)),
         ],
     ],
     // another tree is not the one that the job was taken from
@@ -127,7 +142,7 @@ const ROWS: &[Row] = &[
             TAKES,
             Turn::Snap(Snap::Restore("s"), None),
             IS_STALE,
-            Turn::Live(Ask::Readdir("/"), Told::Names(&[])),
+            Turn::Live(SampleCall::Readdir("/"), ExpectedReply::Names(&[])),
         ],
     ],
     // a step at the slot of the mark ends the job
@@ -146,7 +161,7 @@ const ROWS: &[Row] = &[
             TAKES,
             INSTALLS,
             TAKES_NOTHING,
-            Turn::Live(Ask::Readdir("/"), SIX),
+            Turn::Live(SampleCall::Readdir("/"), SIX),
         ],
     ],
     // a job that is left at the end of a run has no mark any more, and its ticket is not given again
@@ -158,7 +173,7 @@ const ROWS: &[Row] = &[
             TAKES_AGAIN,
             HAS_NO_JOB,
             Turn::Finish(1, FinishAnswer::Installed),
-            Turn::Live(Ask::Readdir("/"), SIX),
+            Turn::Live(SampleCall::Readdir("/"), SIX),
         ],
     ],
     // tickets count over both indexes, and of two jobs the younger may be installed first
@@ -168,13 +183,22 @@ const ROWS: &[Row] = &[
         &[
             Turn::Take(Index::Block, 0, TakeAnswer::Taken(Ticket { number: 0 })),
             TAKES_AGAIN,
-            Turn::Live(Ask::Write("/x", 20_480, b"\xb5\xb6"), Told::Count(2)),
+            Turn::Live(
+                SampleCall::Write("/x", 20_480, b"\xb5\xb6"),
+                ExpectedReply::Count(2),
+            ),
             Turn::Finish(1, FinishAnswer::Installed),
-            Turn::Live(Ask::Stat("/x"), Told::File(20_482)),
+            Turn::Live(SampleCall::Stat("/x"), ExpectedReply::File(20_482)),
             INSTALLS,
-            Turn::Live(Ask::Stat("/x"), Told::File(20_482)),
-            Turn::Live(Ask::Read("/x", 20_480, 4), Told::Data(b"\xb5\xb6")),
-            Turn::Live(Ask::Read("/x", 16_384, 2), Told::Data(b"\xa4\0")),
+            Turn::Live(SampleCall::Stat("/x"), ExpectedReply::File(20_482)),
+            Turn::Live(
+                SampleCall::Read("/x", 20_480, 4),
+                ExpectedReply::Data(b"\xb5\xb6"),
+            ),
+            Turn::Live(
+                SampleCall::Read("/x", 16_384, 2),
+                ExpectedReply::Data(b"\xa4\0"),
+            ),
         ],
     ],
     // a new root ends the jobs of its own index alone
@@ -187,7 +211,10 @@ const ROWS: &[Row] = &[
             Turn::Step(Index::Block, StepKind::RootDown, 0, 0),
             IS_STALE,
             Turn::Finish(1, FinishAnswer::Installed),
-            Turn::Live(Ask::Read("/x", 20_479, 4), Told::Data(b"\0\xa5")),
+            Turn::Live(
+                SampleCall::Read("/x", 20_479, 4),
+                ExpectedReply::Data(b"\0\xa5"),
+            ),
         ],
     ],
     // the other index has no job there, nor has a slot that is not there
@@ -338,7 +365,7 @@ fn installs(alloc: Global, volume: &mut Volume) -> bool {
     take_and_install(alloc, volume, true) == FinishAnswer::Stale
         && take_and_install(alloc, volume, false) == FinishAnswer::Installed
         && take_and_install(alloc, volume, false) == FinishAnswer::NotThere
-        && answers(alloc, volume, Ask::Readdir("/"), SIX)
+        && answers(alloc, volume, SampleCall::Readdir("/"), SIX)
 }
 
 /// Whether in a new volume, behind the opening, the first of two jobs is cancelled and the second is installed.

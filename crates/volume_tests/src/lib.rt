@@ -23,13 +23,13 @@ mod look_alike;
 #[cfg(test)]
 mod removals;
 #[cfg(test)]
+mod reported;
+#[cfg(test)]
 mod runs;
 #[cfg(test)]
 mod some_events;
 #[cfg(test)]
 mod steps_between;
-#[cfg(test)]
-mod told;
 #[cfg(test)]
 mod typed;
 #[cfg(test)]

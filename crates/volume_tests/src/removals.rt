@@ -26,8 +26,8 @@ fn change(alloc: Global, volume: &mut Volume, number: u32, change: Change<'_>) -
         Ok(text) => outcome(alloc, volume, text.as_str(), change, 0).is_ok(),
         Err(_) => false,
     };
-    volume.relieve(alloc);
-    volume.relieve(alloc);
+    volume.compact_step(alloc);
+    volume.compact_step(alloc);
     is_done
 }
 
@@ -58,7 +58,7 @@ fn move_all(alloc: Global, volume: &mut Volume, numbers: &[u32]) -> bool {
 /// Does all that is pending.
 fn settle(alloc: Global, volume: &mut Volume) -> bool {
     for _ in 0..1_000_000 {
-        if volume.relieve(alloc).is_none() {
+        if volume.compact_step(alloc).is_none() {
             return true;
         }
     }

@@ -1,18 +1,18 @@
 //! Lists of events.
 use crate::asked::{SMALL, Snap, new_volume, snap_name};
-use crate::told::{at_first_slot, first_leaf};
+use crate::reported::{at_first_slot, first_leaf};
 use jobs::Ticket;
 use node::{StepKind, StepReply};
 use pathkey::{Errno, SnapName};
-use samples::{Ask, Told};
 use std::alloc::Global;
+use test_support::{ExpectedReply, SampleCall};
 use volume::{Answer, Event, FinishAnswer, Index, Step, TakeAnswer, Volume};
 
 /// What an event is to be, as a number or a text can say it.
 #[derive(Clone, Copy)]
 pub enum Act<'a> {
     /// A file call at a moment.
-    Live(Ask<'a>, u64),
+    Live(SampleCall<'a>, u64),
     /// A call on snapshots.
     Snap(Snap<'a>),
     /// A tree step.
@@ -27,7 +27,7 @@ pub enum Act<'a> {
 #[derive(Clone, Copy)]
 pub enum Turn<'a> {
     /// A file call.
-    Live(Ask<'a>, Told<'a>),
+    Live(SampleCall<'a>, ExpectedReply<'a>),
     /// A call on snapshots, and why it is refused, if it is.
     Snap(Snap<'a>, Option<Errno>),
     /// The flush of the leaf below the root's first slot, and whether it is done.
@@ -50,7 +50,7 @@ fn snap_event(snap: Snap<'_>, name: SnapName) -> Event {
 }
 
 /// The event of a file call at a moment.
-fn call_event(alloc: Global, ask: Ask<'_>, at: u64) -> Option<Event> {
+fn call_event(alloc: Global, ask: SampleCall<'_>, at: u64) -> Option<Event> {
     match ask.call(alloc) {
         Ok(call) => Some(Event::Call(call, at)),
         Err(_) => None,
@@ -94,7 +94,7 @@ impl<'a> Turn<'a> {
 fn is_settled(fault: Option<Errno>, settled: &Result<(), Errno>) -> bool {
     match settled {
         Ok(()) => fault.is_none(),
-        Err(told) => fault == Some(*told),
+        Err(reported) => fault == Some(*reported),
     }
 }
 
@@ -109,7 +109,7 @@ fn is_done(least: u32, most: u32, reply: StepReply) -> bool {
 /// Whether this is the answer of a turn.
 pub fn is_answer(turn: &Turn<'_>, answer: &Answer) -> bool {
     match (turn, answer) {
-        (Turn::Live(_, told), Answer::Call(reply)) => told.is(reply),
+        (Turn::Live(_, reported), Answer::Call(reply)) => reported.is(reply),
         (Turn::Snap(_, fault), Answer::Snap(settled)) => is_settled(*fault, settled),
         (Turn::Flush(_, done), Answer::Step(reply)) => matches!(reply, StepReply::Did(_)) == *done,
         (Turn::Step(_, _, least, most), Answer::Step(reply)) => is_done(*least, *most, *reply),
@@ -180,30 +180,33 @@ pub fn follows(alloc: Global, volume: &mut Volume, turns: &[Turn<'_>]) -> bool {
 
 const TURNS: &[Turn<'static>] = &[
     Turn::Flush(Index::Block, false),
-    Turn::Live(Ask::Mkdir("/a"), Told::Done),
+    Turn::Live(SampleCall::Mkdir("/a"), ExpectedReply::Done),
     Turn::Flush(Index::Meta, true),
-    Turn::Live(Ask::Stat("/a"), Told::Dir),
+    Turn::Live(SampleCall::Stat("/a"), ExpectedReply::Dir),
     Turn::Snap(Snap::Keep("s"), None),
     Turn::Snap(Snap::Keep("s"), Some(Errno::EEXIST)),
-    Turn::Live(Ask::Rmdir("/a"), Told::Done),
+    Turn::Live(SampleCall::Rmdir("/a"), ExpectedReply::Done),
     Turn::Flush(Index::Meta, true),
-    Turn::Live(Ask::Stat("/a"), Told::Fault(Errno::ENOENT)),
+    Turn::Live(SampleCall::Stat("/a"), ExpectedReply::Fault(Errno::ENOENT)),
     Turn::Snap(Snap::Restore("s"), None),
-    Turn::Live(Ask::Stat("/a"), Told::Dir),
-    Turn::Live(Ask::Create("/a/f"), Told::Done),
-    Turn::Live(Ask::Write("/a/f", 0, b"\xaa"), Told::Count(1)),
+    Turn::Live(SampleCall::Stat("/a"), ExpectedReply::Dir),
+    Turn::Live(SampleCall::Create("/a/f"), ExpectedReply::Done),
+    Turn::Live(
+        SampleCall::Write("/a/f", 0, b"\xaa"),
+        ExpectedReply::Count(1),
+    ),
     Turn::Flush(Index::Block, true),
-    Turn::Live(Ask::Read("/a/f", 0, 9), Told::Data(b"\xaa")),
+    Turn::Live(SampleCall::Read("/a/f", 0, 9), ExpectedReply::Data(b"\xaa")),
     Turn::Snap(Snap::Drop("s"), None),
     Turn::Snap(Snap::Restore("s"), Some(Errno::ENOENT)),
 ];
 
 /// A message is flushed, and none waits in the other index.
 const FLUSHED: &[Turn<'static>] = &[
-    Turn::Live(Ask::Mkdir("/a"), Told::Done),
+    Turn::Live(SampleCall::Mkdir("/a"), ExpectedReply::Done),
     Turn::Step(Index::Meta, StepKind::FlushLeaf, 1, u32::MAX),
     Turn::Flush(Index::Block, false),
-    Turn::Live(Ask::Stat("/a"), Told::Dir),
+    Turn::Live(SampleCall::Stat("/a"), ExpectedReply::Dir),
 ];
 
 /// Events are done in their order; where there are none there is no answer.

@@ -1,7 +1,7 @@
 //! What looks random: file calls at few paths and their moments, calls on three snapshots, steps of all eight kinds.
 use crate::asked::Snap;
 use node::{Place, StepKind, TreeStep};
-use samples::{Ask, Random};
+use test_support::{Random, SampleCall};
 use volume::{Index, Step};
 
 /// Paths where directories come and go.
@@ -84,56 +84,56 @@ fn some_bytes(random: &mut Random) -> &'static [u8] {
 }
 
 /// A move, mostly of a directory to a directory's path or of a file to a file's.
-fn some_move(random: &mut Random) -> Ask<'static> {
+fn some_move(random: &mut Random) -> SampleCall<'static> {
     match random.below(8) {
-        0..=2 => Ask::Rename(some_directory(random), some_directory(random)),
-        3..=5 => Ask::Rename(some_file(random), some_file(random)),
-        _ => Ask::Rename(some_path(random), some_path(random)),
+        0..=2 => SampleCall::Rename(some_directory(random), some_directory(random)),
+        3..=5 => SampleCall::Rename(some_file(random), some_file(random)),
+        _ => SampleCall::Rename(some_path(random), some_path(random)),
     }
 }
 
 /// A call that changes a file or asks for its bytes.
-fn some_file_call(random: &mut Random) -> Ask<'static> {
+fn some_file_call(random: &mut Random) -> SampleCall<'static> {
     let path = some_file(random);
     match random.below(16) {
-        0..=3 => Ask::Create(path),
-        4..=5 => Ask::Unlink(path),
-        6..=7 => Ask::Truncate(path, some_place(random)),
-        8..=12 => Ask::Write(path, some_place(random), some_bytes(random)),
-        _ => Ask::Read(path, some_place(random), some_count(random)),
+        0..=3 => SampleCall::Create(path),
+        4..=5 => SampleCall::Unlink(path),
+        6..=7 => SampleCall::Truncate(path, some_place(random)),
+        8..=12 => SampleCall::Write(path, some_place(random), some_bytes(random)),
+        _ => SampleCall::Read(path, some_place(random), some_count(random)),
     }
 }
 
 /// A call that makes a directory, takes it out or asks what stands.
-fn some_directory_call(random: &mut Random) -> Ask<'static> {
+fn some_directory_call(random: &mut Random) -> SampleCall<'static> {
     let path = some_directory(random);
     match random.below(16) {
-        0..=7 => Ask::Mkdir(path),
-        8..=9 => Ask::Rmdir(path),
-        10 => Ask::Rmtree(path),
-        _ => Ask::Readdir(path),
+        0..=7 => SampleCall::Mkdir(path),
+        8..=9 => SampleCall::Rmdir(path),
+        10 => SampleCall::Rmtree(path),
+        _ => SampleCall::Readdir(path),
     }
 }
 
 /// A call of any kind at any path.
-fn some_other_call(random: &mut Random) -> Ask<'static> {
+fn some_other_call(random: &mut Random) -> SampleCall<'static> {
     let path = some_path(random);
     match random.below(10) {
-        0 => Ask::Mkdir(path),
-        1 => Ask::Create(path),
-        2 => Ask::Write(path, some_place(random), some_bytes(random)),
-        3 => Ask::Truncate(path, some_place(random)),
-        4 => Ask::Unlink(path),
-        5 => Ask::Rmdir(path),
-        6 => Ask::Rmtree(path),
-        7 => Ask::Read(path, some_place(random), some_count(random)),
-        8 => Ask::Stat(path),
-        _ => Ask::Readdir(path),
+        0 => SampleCall::Mkdir(path),
+        1 => SampleCall::Create(path),
+        2 => SampleCall::Write(path, some_place(random), some_bytes(random)),
+        3 => SampleCall::Truncate(path, some_place(random)),
+        4 => SampleCall::Unlink(path),
+        5 => SampleCall::Rmdir(path),
+        6 => SampleCall::Rmtree(path),
+        7 => SampleCall::Read(path, some_place(random), some_count(random)),
+        8 => SampleCall::Stat(path),
+        _ => SampleCall::Readdir(path),
     }
 }
 
 /// A file call.
-pub fn some_ask(random: &mut Random) -> Ask<'static> {
+pub fn some_ask(random: &mut Random) -> SampleCall<'static> {
     match random.below(16) {
         0..=1 => some_move(random),
         2..=4 => some_other_call(random),

@@ -2,8 +2,8 @@
 use crate::asked::{SMALL, answers, creates, new_volume};
 use node::StepReply;
 use reference::Kind;
-use samples::{Ask, Told};
 use std::alloc::Global;
+use test_support::{ExpectedReply, SampleCall};
 use volume::{Index, Step, Volume};
 
 /// The next step of an index: the heaviest flush, or what makes room where the step before had none.
@@ -59,13 +59,17 @@ fn create_all(alloc: Global, volume: &mut Volume, turns: u32) -> u32 {
     created
 }
 
-const REMOVED: &[Ask<'static>] = &[Ask::Rmtree("/d"), Ask::Mkdir("/d"), Ask::Create("/d/n")];
+const REMOVED: &[SampleCall<'static>] = &[
+    SampleCall::Rmtree("/d"),
+    SampleCall::Mkdir("/d"),
+    SampleCall::Create("/d/n"),
+];
 
 /// The directory goes and comes again with one file, with so many steps after each call; how many calls were done.
 fn remove(alloc: Global, volume: &mut Volume, turns: u32) -> usize {
     let mut done = 0usize;
     for ask in REMOVED {
-        if answers(alloc, volume, *ask, Told::Done) {
+        if answers(alloc, volume, *ask, ExpectedReply::Done) {
             done = done.saturating_add(1);
         }
         tidy_both(alloc, volume, turns);
@@ -74,8 +78,8 @@ fn remove(alloc: Global, volume: &mut Volume, turns: u32) -> usize {
 }
 
 /// Whether all of that is answered so, and the directory then has the one file.
-fn is_told(alloc: Global, volume: &mut Volume, turns: u32) -> bool {
-    answers(alloc, volume, Ask::Mkdir("/d"), Told::Done)
+fn is_reported(alloc: Global, volume: &mut Volume, turns: u32) -> bool {
+    answers(alloc, volume, SampleCall::Mkdir("/d"), ExpectedReply::Done)
         && create_all(alloc, volume, turns) == 300
         && remove(alloc, volume, turns) == 3
         && lists(alloc, volume)
@@ -86,23 +90,23 @@ fn lists(alloc: Global, volume: &mut Volume) -> bool {
     answers(
         alloc,
         volume,
-        Ask::Readdir("/d"),
-        Told::Names(&[(Kind::File, "n")]),
+        SampleCall::Readdir("/d"),
+        ExpectedReply::Names(&[(Kind::File, "n")]),
     )
 }
 
 /// How many of so many steps at the end are done, if all is answered as it should be and the one file stays.
-fn told_in(alloc: Global, volume: &mut Volume, turns: u32, last: u32) -> Option<u32> {
-    let before = is_told(alloc, volume, turns);
+fn reported_in(alloc: Global, volume: &mut Volume, turns: u32, last: u32) -> Option<u32> {
+    let before = is_reported(alloc, volume, turns);
     let done = tidy_both(alloc, volume, last);
-    let is_told = before && lists(alloc, volume);
-    is_told.then_some(done)
+    let is_reported = before && lists(alloc, volume);
+    is_reported.then_some(done)
 }
 
 /// How many of so many steps at the end are done in a new volume, if all is answered as it should be.
-fn told(alloc: Global, turns: u32, last: u32) -> Option<u32> {
+fn reported(alloc: Global, turns: u32, last: u32) -> Option<u32> {
     match new_volume(alloc, SMALL) {
-        Ok(mut volume) => told_in(alloc, &mut volume, turns, last),
+        Ok(mut volume) => reported_in(alloc, &mut volume, turns, last),
         Err(_) => None,
     }
 }
@@ -113,11 +117,11 @@ const TURNS: &[u32] = &[0, 1, 1_000];
 #[test]
 fn directory_comes_again_whatever_steps_are_done(rt: HostRuntime) {
     for turns in TURNS {
-        assert_eq!(rt; told(rt.alloc(), *turns, 0), Some(0), "{turns}");
+        assert_eq!(rt; reported(rt.alloc(), *turns, 0), Some(0), "{turns}");
     }
 }
 
 #[test]
 fn directory_stands_after_many_steps(rt: HostRuntime) {
-    assert!(rt; matches!(told(rt.alloc(), 0, 1_000), Some(1..)));
+    assert!(rt; matches!(reported(rt.alloc(), 0, 1_000), Some(1..)));
 }

@@ -1,8 +1,8 @@
 //! The calls that have an answer of their own: each is done once, and refused once.
 use crate::asked::{USUAL, freeze, new_volume};
 use crate::changes::{Change, Row, goes};
-use samples::ask::path;
 use std::alloc::Global;
+use test_support::ask::path;
 use volume::{Errno, Frozen, Kind, Path, Volume};
 
 /// What is done in a new volume, in this order. The moments do not rise.

@@ -2,8 +2,8 @@
 use crate::asked::{USUAL, freeze, new_volume};
 use crate::changes::{Change, Row, goes};
 use pathkey::NoMemory;
-use samples::ask::path;
 use std::alloc::Global;
+use test_support::ask::path;
 use volume::{Block, Frozen, Meta, Path, Volume};
 
 /// A directory with a file of three blocks, of which the second is a hole, and an empty file beside the directory.
@@ -188,18 +188,18 @@ fn freezes(alloc: Global, volume: &mut Volume) -> bool {
 }
 
 /// Whether the files are made in a volume, and its tree is then walked as it should be once it is frozen.
-fn is_told(alloc: Global, volume: &mut Volume) -> bool {
+fn is_reported(alloc: Global, volume: &mut Volume) -> bool {
     goes(alloc, volume, FILLED) && freezes(alloc, volume)
 }
 
-fn is_told_anew(alloc: Global) -> bool {
+fn is_reported_anew(alloc: Global) -> bool {
     match new_volume(alloc, USUAL) {
-        Ok(mut volume) => is_told(alloc, &mut volume),
+        Ok(mut volume) => is_reported(alloc, &mut volume),
         Err(_) => false,
     }
 }
 
 #[test]
 fn walks_through_a_frozen_tree(rt: HostRuntime) {
-    assert!(rt; is_told_anew(rt.alloc()));
+    assert!(rt; is_reported_anew(rt.alloc()));
 }

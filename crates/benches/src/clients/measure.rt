@@ -4,7 +4,7 @@ ghost use Rattle.std.specs.Prelude.{◌≡◌, ◌≤◌};
 use crate::clients::map::Files;
 use crate::clients::work::{Kind, Relieved, Share, Store, calls_of, do_share};
 use crate::flushers::{Pace, Watch, start};
-use engine::{Client, Engine, Naming, Room};
+use engine::{Client, Engine, EngineBuilder, EngineId};
 use node::Shape;
 use std::alloc::Global;
 use std::collections::BTreeMap;
@@ -157,7 +157,7 @@ pub fn map_shared<R: Threads + Wait + Clock + Sync>(
 }
 
 /// Clients do the work while flushers make turns.
-fn beside<J: Naming + Send + Sync, R: Threads + Wait + Clock + Sync>(
+fn beside<J: EngineId + Send + Sync, R: Threads + Wait + Clock + Sync>(
     rt: &R,
     alloc: Global,
     engine: &mut Engine<J>,
@@ -183,10 +183,10 @@ fn beside<J: Naming + Send + Sync, R: Threads + Wait + Clock + Sync>(
 }
 
 /// An engine in the room, which so many clients call.
-fn in_room<J: Naming + Send + Sync, R: Threads + Wait + Clock + Sync>(
+fn in_room<J: EngineId + Send + Sync, R: Threads + Wait + Clock + Sync>(
     rt: &R,
     alloc: Global,
-    room: Room,
+    room: EngineBuilder,
     files: u64,
     clients: usize,
     flushers: u8,
@@ -208,9 +208,9 @@ fn in_room<J: Naming + Send + Sync, R: Threads + Wait + Clock + Sync>(
 }
 
 /// A room with a new volume.
-fn new_room(alloc: Global) -> Option<Room> {
+fn new_room(alloc: Global) -> Option<EngineBuilder> {
     match new_volume(alloc) {
-        Some(volume) => Room::new(alloc, volume).ok(),
+        Some(volume) => EngineBuilder::new(alloc, volume).ok(),
         None => None,
     }
 }

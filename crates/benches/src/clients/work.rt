@@ -1,7 +1,7 @@
 //! The work: each client makes the files of a directory of its own, writes a few bytes to each, and asks for each.
 use crate::paths::path_of;
 use bytes::Bytes;
-use engine::{Client, Naming};
+use engine::{Client, EngineId};
 use pathkey::Path;
 use reference::{Call, Reply};
 use std::alloc::Global;
@@ -69,12 +69,12 @@ pub struct Relieved {
 impl Store for Relieved {
     fn is_done<R: Wait>(&mut self, rt: &R, alloc: Global, call: &Call) -> bool {
         let is_done = self.volume.is_done(rt, alloc, call);
-        self.volume.relieve(alloc);
+        self.volume.compact_step(alloc);
         is_done
     }
 }
 
-impl<J: Naming> Store for Client<J> {
+impl<J: EngineId> Store for Client<J> {
     fn is_done<R: Wait>(&mut self, rt: &R, alloc: Global, call: &Call) -> bool {
         let reply = self.call(rt, alloc, call, 0);
         is_right(&reply)

@@ -1,7 +1,7 @@
 //! Which calls a client makes: numbers that look random choose them.
 use crate::history::call::Asked;
 use crate::history::names::{FILES, SNAPSHOTS};
-use samples::Random;
+use test_support::Random;
 
 /// How many files have half of the calls, so that clients often meet at one.
 const BUSY: u32 = 8;

@@ -5,7 +5,7 @@ use crate::flushers::{Pace, Turns, Watch, start};
 use crate::history::call::Log;
 use crate::history::names::new_volume;
 use crate::history::work::{Course, work};
-use engine::{Client, Engine, Naming, Room};
+use engine::{Client, Engine, EngineBuilder, EngineId};
 use std::alloc::Global;
 use std::marker::Brand;
 use std::sync::{Mutex, Wait};
@@ -18,7 +18,7 @@ pub const CLIENTS: usize = 8;
 pub const FLUSHERS: usize = 8;
 
 /// The clients work. Their logs come in no order.
-fn work_all<J: Naming + Send + Sync, R: Threads + Wait + Sync>(
+fn work_all<J: EngineId + Send + Sync, R: Threads + Wait + Sync>(
     rt: &R,
     alloc: Global,
     clients: &mut [Client<J>],
@@ -37,7 +37,7 @@ fn work_all<J: Naming + Send + Sync, R: Threads + Wait + Sync>(
 }
 
 /// The clients work while flushers make turns. How many turns they made.
-fn beside<J: Naming + Send + Sync, R: Threads + Wait + Sync>(
+fn beside<J: EngineId + Send + Sync, R: Threads + Wait + Sync>(
     rt: &R,
     alloc: Global,
     engine: &mut Engine<J>,
@@ -59,10 +59,10 @@ fn beside<J: Naming + Send + Sync, R: Threads + Wait + Sync>(
 }
 
 /// The clients of an engine in the room work beside flushers. How many turns these made; none where memory is refused.
-fn in_room<J: Naming + Send + Sync, R: Threads + Wait + Sync>(
+fn in_room<J: EngineId + Send + Sync, R: Threads + Wait + Sync>(
     rt: &R,
     alloc: Global,
-    room: Room,
+    room: EngineBuilder,
     course: &Course,
     logs: &Mutex<Vec<Log>>,
 ) -> Option<Turns>
@@ -78,9 +78,9 @@ fn in_room<J: Naming + Send + Sync, R: Threads + Wait + Sync>(
 }
 
 /// A room with a new volume.
-fn new_room(alloc: Global) -> Option<Room> {
+fn new_room(alloc: Global) -> Option<EngineBuilder> {
     match new_volume(alloc) {
-        Some(volume) => Room::new(alloc, volume).ok(),
+        Some(volume) => EngineBuilder::new(alloc, volume).ok(),
         None => None,
     }
 }

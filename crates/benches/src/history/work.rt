@@ -3,7 +3,7 @@ use crate::flushers::rest;
 use crate::history::call::{Answer, Asked, Log, Made};
 use crate::history::draw::Draw;
 use crate::history::names::Names;
-use engine::{Client, Errno, Frozen, Naming, Path, Reply, SnapName};
+use engine::{Client, EngineId, Errno, Frozen, Path, Reply, SnapName};
 use std::alloc::Global;
 use std::sync::Wait;
 use std::sync::atomic::{AtomicU64, Ordering};
@@ -97,7 +97,7 @@ fn see_all(alloc: Global, tree: &Frozen, files: &[Path], seen: &mut Vec<Answer>)
 }
 
 /// A call on a file.
-fn ask_file<J: Naming, R: Wait>(
+fn ask_file<J: EngineId, R: Wait>(
     rt: &R,
     alloc: Global,
     client: &mut Client<J>,
@@ -117,7 +117,7 @@ fn ask_file<J: Naming, R: Wait>(
 }
 
 /// A call on a snapshot that tells nothing back.
-fn ask_snapshot<J: Naming, R: Wait>(
+fn ask_snapshot<J: EngineId, R: Wait>(
     rt: &R,
     alloc: Global,
     client: &mut Client<J>,
@@ -133,7 +133,7 @@ fn ask_snapshot<J: Naming, R: Wait>(
 }
 
 /// A call that gives no tree back.
-fn ask<J: Naming, R: Wait>(
+fn ask<J: EngineId, R: Wait>(
     rt: &R,
     alloc: Global,
     client: &mut Client<J>,
@@ -159,7 +159,7 @@ fn ask<J: Naming, R: Wait>(
 }
 
 /// The tree of the snapshot of a name, or the live tree where there is no name.
-fn tree_of<J: Naming, R: Wait>(
+fn tree_of<J: EngineId, R: Wait>(
     rt: &R,
     client: &mut Client<J>,
     name: Option<&SnapName>,
@@ -192,7 +192,7 @@ fn seen_of(
 }
 
 /// Gets a tree, and looks at each of its files once the call has ended: it stands still.
-fn make_whole<J: Naming, R: Wait>(
+fn make_whole<J: EngineId, R: Wait>(
     rt: &R,
     alloc: Global,
     client: &mut Client<J>,
@@ -217,7 +217,7 @@ fn make_whole<J: Naming, R: Wait>(
 }
 
 /// Makes a call that gives no tree back. Its moment is what the clock says before it.
-fn make_plain<J: Naming, R: Wait>(
+fn make_plain<J: EngineId, R: Wait>(
     rt: &R,
     alloc: Global,
     client: &mut Client<J>,
@@ -237,7 +237,7 @@ fn make_plain<J: Naming, R: Wait>(
 }
 
 /// Makes a call.
-fn make<J: Naming, R: Wait>(
+fn make<J: EngineId, R: Wait>(
     rt: &R,
     alloc: Global,
     client: &mut Client<J>,
@@ -253,7 +253,7 @@ fn make<J: Naming, R: Wait>(
 }
 
 /// Makes all calls, as long as there is memory to log them.
-fn make_all<J: Naming, R: Wait>(
+fn make_all<J: EngineId, R: Wait>(
     rt: &R,
     alloc: Global,
     client: &mut Client<J>,
@@ -274,7 +274,7 @@ fn make_all<J: Naming, R: Wait>(
 }
 
 /// Makes all calls of the client of a number. What is not in the log was refused memory.
-pub fn work<J: Naming, R: Wait>(
+pub fn work<J: EngineId, R: Wait>(
     rt: &R,
     alloc: Global,
     client: &mut Client<J>,

@@ -2,12 +2,12 @@
 use crate::tree::number::Set;
 use lookup::get;
 use message::Msg;
-use node::count::held;
+use node::count::pending_len;
 use node::{Shape, StepReply, Tree};
 use pathkey::{Key, NoMemory};
 use std::alloc::Global;
 use std::collections::BTreeMap;
-use steps::relieve;
+use steps::compact_step;
 
 /// The shape of the trees.
 const SHAPE: Shape = Shape::USUAL;
@@ -40,14 +40,14 @@ fn key(alloc: Global, number: u64) -> Result<Key, NoMemory> {
 /// How many messages wait in the root.
 fn waiting(tree: &Tree<Set>) -> u128 {
     match tree.root().slots() {
-        Some(slots) => held(slots),
+        Some(slots) => pending_len(slots),
         None => 0,
     }
 }
 
 /// Does a step that relieves the tree; whether one was done.
 fn is_relieved(alloc: Global, tree: &mut Tree<Set>) -> bool {
-    match relieve(alloc, tree) {
+    match compact_step(alloc, tree) {
         Some(turn) => matches!(turn.reply, StepReply::Did(_)),
         None => false,
     }

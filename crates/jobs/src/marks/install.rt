@@ -1,13 +1,13 @@
 //! Installing what was built of a job.
 ghost use Rattle.std.specs.Prelude.{◌≡◌, ◌↔◌, None, List, ℕ};
-ghost use Rattle.jobs.specs.Marks.{AllKept, AreMarks, place_of, without};
+ghost use Rattle.jobs.specs.Marks.{AllKept, AreMarks, position, without};
 ghost use Rattle.jobs.specs.Replies.{FitsMark, IsPlaced, IfInstalled, UnlessInstalled, IfGivenBack};
-ghost use Rattle.jobs.specs.declared.reply.InstallReply.TheVariants.{Stale};
+ghost use Rattle.jobs.specs.declared.outcome.InstallOutcome.TheVariants.{Stale};
 ghost use Rattle.node.specs.Meaning.{value};
 
-use super::{Marks, place_of, remove_mark};
+use super::{Marks, position, remove_mark};
 use crate::job::Done;
-use crate::reply::InstallReply;
+use crate::outcome::InstallOutcome;
 use message::Update;
 use node::Tree;
 
@@ -16,23 +16,23 @@ impl Marks {
     /// it, and the mark. What came after the taking stays in the slot.
     ///
     /// It answers `Stale`, without memory, where the mark is gone.
-    pub fn install<U: Update>(&mut self, tree: &mut Tree<U>, done: Done<U>) -> InstallReply<U>
+    pub fn install<U: Update>(&mut self, tree: &mut Tree<U>, done: Done<U>) -> InstallOutcome<U>
         requires { FitsMark U.means done tree.old self.old }
         ensures installed { IfInstalled result ((self.new ≡ without done.ticket self.old) × IsPlaced U.means done tree.old tree.new) }
-        ensures stale { (result ≡ Stale) ↔ (place_of done.ticket self.old ≡ None) }
+        ensures stale { (result ≡ Stale) ↔ (position done.ticket self.old ≡ None) }
         ensures back { IfGivenBack result (λ d. d ≡ done) }
         ensures unchanged { UnlessInstalled result ((self.new ≡ self.old) × (tree.new ≡ tree.old)) }
         ensures value { (k : List ℕ) → value U.means tree.new.root k ≡ value U.means tree.old.root k }
         ensures kept { (given : ℕ) → AreMarks tree.old.root 0 self.old given → AllKept U.means tree.old tree.new self.new given }
     {
-        let Some(at) = place_of(self.list.as_slice(), done.ticket) else {
-            return InstallReply::Stale;
+        let Some(at) = position(self.list.as_slice(), done.ticket) else {
+            return InstallOutcome::Stale;
         };
         match done.place(tree, &self.list[at]) {
-            Err(done) => InstallReply::NoMemory(done),
+            Err(done) => InstallOutcome::NoMemory(done),
             Ok(()) => {
                 remove_mark(&mut self.list, at);
-                InstallReply::Installed
+                InstallOutcome::Installed
             }
         }
     }

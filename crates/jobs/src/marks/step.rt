@@ -96,7 +96,7 @@ fn remove_if_done(reply: StepReply, marks: &mut Vec<Mark>, k: usize)
 }
 
 /// A tree is lawful, as its type keeps. It does nothing.
-fn known<U: Update>(tree: &Tree<U>)
+fn assert_tree_invariant<U: Update>(tree: &Tree<U>)
     ensures { IsLawful tree.now }
 {
     tree.root();
@@ -114,7 +114,7 @@ impl Marks {
         ensures marks { self.new ≡ left_by result (survives step.kind (way step.at) step.slot tree.old.root) self.old }
         ensures kept { (given : ℕ) → AreMarks tree.old.root 0 self.old given → AllKept U.means tree.old tree.new self.new given }
     {
-        known(tree);
+        assert_tree_invariant(tree);
         do_step_from(alloc, tree, &mut self.list, 0, step)
     }
 }

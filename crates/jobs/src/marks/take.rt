@@ -6,7 +6,7 @@ ghost use Rattle.jobs.specs.Taking.{AreOldest, AreRootSlots, CanBeTaken};
 ghost use Rattle.jobs.specs.Marks.{AreMarks, MarkHas};
 ghost use Rattle.jobs.specs.Replies.{can_take_at, can_take_first, Fits, IfTaken, IsJobOf, IsOf, IsSlotFull, LacksRoom, mark_of, UnlessTaken};
 ghost use Rattle.jobs.specs.declared.mark.Mark.{Mark};
-ghost use Rattle.jobs.specs.declared.reply.TakeReply.TheVariants.{NotThere, NoRoom};
+ghost use Rattle.jobs.specs.declared.outcome.TakeOutcome.TheVariants.{NotThere, NoRoom};
 ghost use Rattle.node.specs.Grafts.{AtSlot};
 ghost use Rattle.node.specs.Pure.{PSlots, more};
 ghost use Rattle.node.specs.StepRows.{can_flush_inner, IsFullBelow};
@@ -16,8 +16,8 @@ ghost use Rattle.node.specs.Site.{slots_from};
 use super::{MOST_MARKS, Marks, kept_at};
 use crate::job::Job;
 use crate::mark::Mark;
-use crate::reply::TakeReply;
-use flush::inner::{few_oldest, fitting, is_flushable, spare};
+use crate::outcome::TakeOutcome;
+use flush::inner::{count_fitting, few_oldest, free_pieces, is_flushable};
 use message::ends::copy_end;
 use message::{Msg, Update};
 use node::search::end_of;
@@ -58,13 +58,13 @@ fn fitting_front<U: Update>(
     ensures fits { IfOk result (λ v. 0 < length v.items → FitBelow most v.items slot.now.child.value) }
     ensures full { IfOk result (λ v. v.items ≡ [] → (later : PSlots U U.Value) → can_flush_inner (more slot.now.lo slot.now.pending.0 slot.now.child.value later) ≡ true → IsFullBelow most (more slot.now.lo slot.now.pending.0 slot.now.child.value later)) }
 {
-    let few = few_oldest(&slot.pending, spare(&slot.child, most));
+    let few = few_oldest(&slot.pending, free_pieces(&slot.child, most));
     let mut front = slot.pending.copy_front(alloc, few)?;
     let Body::Inner(below) = slot.child.body() else {
         // Not met: `can_take` has found an inner node.
         return Ok(Vec::new(alloc));
     };
-    let count = fitting(below.as_slice(), front.as_slice(), most as usize);
+    let count = count_fitting(below.as_slice(), front.as_slice(), most as usize);
     front.truncate(count);
     Ok(front)
 }
@@ -182,7 +182,7 @@ impl Marks {
         given: u128,
         all: usize,
         slot: u8,
-    ) -> TakeReply<U>
+    ) -> TakeOutcome<U>
         requires { given ≤ 2 ^ 64 }
         ensures taken { IfTaken result (λ job. IsJobOf slot given tree.now job × (self.new ≡ self.old ++ mark_of job ∷ [])) }
         ensures few { IfTaken result (λ job. (all < 64) × (given < 2 ^ 64)) }
@@ -196,20 +196,20 @@ impl Marks {
     {
         let i = slot as usize;
         if !can_take(self.list.as_slice(), tree.root(), i) {
-            return TakeReply::NotThere;
+            return TakeOutcome::NotThere;
         }
         if all >= MOST_MARKS || given > u64::MAX as u128 {
-            return TakeReply::NoRoom;
+            return TakeOutcome::NoRoom;
         }
         match job_of(alloc, given as u64, tree, i) {
-            Err(NoMemory) => TakeReply::NoMemory,
-            Ok(None) => TakeReply::NoRoom,
+            Err(NoMemory) => TakeOutcome::NoMemory,
+            Ok(None) => TakeOutcome::NoRoom,
             Ok(Some(job)) => {
                 let Ok(()) = push_mark(alloc, &mut self.list, &job) else {
                     // The job is let go: nothing has changed yet.
-                    return TakeReply::NoMemory;
+                    return TakeOutcome::NoMemory;
                 };
-                TakeReply::Taken(job)
+                TakeOutcome::Taken(job)
             }
         }
     }

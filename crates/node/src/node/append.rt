@@ -1,31 +1,31 @@
 //! New messages in the slots of a root. Slots from which a job was taken keep their lists, with the new messages behind them.
 ghost use Rattle.std.specs.Prelude.{◌≡◌, ◌↔◌, ◌+◌, ◌<◌, ◌≤◌, ◌++◌, [], ◌∷◌, true, None, OnOk, OnErr, map, length, get_or};
 ghost use Rattle.message.specs.Effects.{Takes};
-ghost use Rattle.node.specs.Appended.{parts as parts_of, HaveTaken, IsAppended};
+ghost use Rattle.node.specs.Appended.{batches_by_slot as parts_of, HaveTaken, IsAppended};
 ghost use Rattle.node.specs.Batches.{batch_parts, HasRoomFor, HaveHomes};
 ghost use Rattle.node.specs.Grafts.{IsFirstKept, KeepLists, KeepsLists};
 ghost use Rattle.node.specs.Pure.{inner};
 ghost use Rattle.node.specs.Searchable.{IsRoot, HasRoom, see_list};
 ghost use Rattle.node.specs.See.{see_slot, seen_slots};
 
-use super::batch::{Batch, copied_parts, prepare, reserve_each};
-use super::search::home_of;
+use super::batch::{Batch, copy_batches, prepare, reserve_each};
+use super::search::target_slot;
 use super::{Body, Node, Slot};
-use message::{Msg, Taken, Update};
+use message::{Msg, MsgDrain, Update};
 use pathkey::NoMemory;
 use pending::Pending;
 use std::alloc::Global;
 
 /// Puts a part behind a list that has room for it; where `plain`, the list stays as it was.
-fn put_part<U: Update>(pending: &mut Pending<U>, part: &mut Vec<Msg<U>>, plain: bool)
-    requires { length part.old.items ≤ pending.old.1 }
-    ensures takes { Takes U.means pending.old.0 part.old.items pending.new.0 }
-    ensures kept { plain ≡ true → pending.new.0 ≡ pending.old.0 ++ part.old.items }
+fn push_batch<U: Update>(pending: &mut Pending<U>, slot_batch: &mut Vec<Msg<U>>, plain: bool)
+    requires { length slot_batch.old.items ≤ pending.old.1 }
+    ensures takes { Takes U.means pending.old.0 slot_batch.old.items pending.new.0 }
+    ensures kept { plain ≡ true → pending.new.0 ≡ pending.old.0 ++ slot_batch.old.items }
 {
     if plain {
-        pending.append_kept(part);
+        pending.append_uncondensed(slot_batch);
     } else {
-        pending.append_reserved(part);
+        pending.append_reserved(slot_batch);
     }
 }
 
@@ -41,21 +41,25 @@ fn first_kept(kept: &[u32]) -> (bool, &[u32])
 
 /// Puts each part behind what waits in its slot, where there is room for it; where the slot's number is above 0, what
 /// waits stays as it was.
-pub fn put_kept<U: Update>(slots: &mut [Slot<U>], parts: &mut [Vec<Msg<U>>], kept: &[u32])
-    requires { HasRoom slots.old parts.old }
-    ensures taken { HaveTaken U.means (seen_slots slots.old) (map see_list parts.old) (seen_slots slots.new) }
-    ensures kept { KeepLists kept.now (map see_list parts.old) (seen_slots slots.old) (seen_slots slots.new) }
+pub fn push_batches<U: Update>(
+    slots: &mut [Slot<U>],
+    batches_by_slot: &mut [Vec<Msg<U>>],
+    kept: &[u32],
+)
+    requires { HasRoom slots.old batches_by_slot.old }
+    ensures taken { HaveTaken U.means (seen_slots slots.old) (map see_list batches_by_slot.old) (seen_slots slots.new) }
+    ensures kept { KeepLists kept.now (map see_list batches_by_slot.old) (seen_slots slots.old) (seen_slots slots.new) }
 {
     let Some((slot, slots)) = slots.split_first_mut() else {
         return;
     };
-    let Some((part, parts)) = parts.split_first_mut() else {
+    let Some((slot_batch, batches_by_slot)) = batches_by_slot.split_first_mut() else {
         // No caller has fewer parts than slots.
         return;
     };
     let (plain, kept) = first_kept(kept);
-    put_part(&mut slot.pending, part, plain);
-    put_kept(slots, parts, kept)
+    push_batch(&mut slot.pending, slot_batch, plain);
+    push_batches(slots, batches_by_slot, kept)
 }
 
 /// Whether the number at the place is above 0; one that is missing is 0. It takes no memory.
@@ -69,14 +73,14 @@ fn is_kept(kept: &[u32], i: usize) -> bool
 }
 
 /// Puts a message behind a list that has room for it; where `plain`, the list stays as it was.
-fn put_message<U: Update>(pending: &mut Pending<U>, msg: Msg<U>, plain: bool)
+fn push_msg<U: Update>(pending: &mut Pending<U>, msg: Msg<U>, plain: bool)
     requires { 0 < pending.old.1 }
     ensures takes { Takes U.means pending.old.0 (msg ∷ []) pending.new.0 }
     ensures kept { plain ≡ true → pending.new.0 ≡ pending.old.0 ++ msg ∷ [] }
     ensures room { pending.old.1 ≤ pending.new.1 + 1 }
 {
     if plain {
-        pending.push_kept(msg);
+        pending.push_uncondensed(msg);
     } else {
         pending.push_reserved(msg);
     }
@@ -84,7 +88,12 @@ fn put_message<U: Update>(pending: &mut Pending<U>, msg: Msg<U>, plain: bool)
 
 /// Puts each message as it is behind what waits in the slot with the number in its place, where there is room for it; where a
 /// slot's number in `kept` is above 0, what waits stays as it was.
-fn put_whole<U: Update>(slots: &mut [Slot<U>], msgs: &mut Taken<U>, homes: &[usize], kept: &[u32])
+fn push_unsplit<U: Update>(
+    slots: &mut [Slot<U>],
+    msgs: &mut MsgDrain<U>,
+    homes: &[usize],
+    kept: &[u32],
+)
     requires { HaveHomes (length msgs.old) slots.old msgs.old homes.now }
     ensures taken { HaveTaken U.means (seen_slots slots.old) (parts_of None msgs.old (seen_slots slots.old)) (seen_slots slots.new) }
     ensures kept { KeepLists kept.now (parts_of None msgs.old (seen_slots slots.old)) (seen_slots slots.old) (seen_slots slots.new) }
@@ -101,8 +110,8 @@ fn put_whole<U: Update>(slots: &mut [Slot<U>], msgs: &mut Taken<U>, homes: &[usi
     let is_there = i < slots.len();
     prove!(is_there);
     let plain = is_kept(kept, i);
-    put_message(&mut slots[i].pending, msg, plain);
-    put_whole(slots, msgs, homes, kept)
+    push_msg(&mut slots[i].pending, msg, plain);
+    push_unsplit(slots, msgs, homes, kept)
 }
 
 /// Puts the messages behind what waits in the slots, where there is room for them; where a slot's number is above 0, what
@@ -114,12 +123,12 @@ fn put_batch<U: Update>(slots: &mut [Slot<U>], batch: Batch<U>, kept: &[u32])
 {
     match batch {
         Batch::Whole(msgs, homes) => {
-            let mut msgs = Taken::of(msgs);
-            put_whole(slots, &mut msgs, &homes, kept);
+            let mut msgs = MsgDrain::of(msgs);
+            push_unsplit(slots, &mut msgs, &homes, kept);
         }
-        Batch::Parts(parts) => {
-            let mut parts = parts;
-            put_kept(slots, parts.as_mut_slice(), kept);
+        Batch::Parts(batches_by_slot) => {
+            let mut batches_by_slot = batches_by_slot;
+            push_batches(slots, batches_by_slot.as_mut_slice(), kept);
         }
     }
 }
@@ -151,9 +160,9 @@ pub fn append_copies<U: Update>(
     ensures ok { OnOk result (HaveTaken U.means (seen_slots slots.old) (parts_of None msgs.now (seen_slots slots.old)) (seen_slots slots.new)) }
     ensures err { OnErr result (map see_slot slots.new ≡ map see_slot slots.old) }
 {
-    let mut parts = copied_parts(alloc, slots, msgs)?;
-    reserve_each(slots, parts.as_slice())?;
-    put_kept(slots, parts.as_mut_slice(), &[]);
+    let mut batches_by_slot = copy_batches(alloc, slots, msgs)?;
+    reserve_each(slots, batches_by_slot.as_slice())?;
+    push_batches(slots, batches_by_slot.as_mut_slice(), &[]);
     Ok(())
 }
 
@@ -173,7 +182,7 @@ fn append_one<U: Update>(alloc: Global, slots: &mut [Slot<U>], msg: Msg<U>) -> R
     ensures ok { OnOk result (IsAppended U.means (msg ∷ []) (inner (seen_slots slots.old)) (inner (seen_slots slots.new))) }
     ensures err { OnErr result (map see_slot slots.new ≡ map see_slot slots.old) }
 {
-    let Some(i) = home_of(slots, &msg) else {
+    let Some(i) = target_slot(slots, &msg) else {
         let mut msgs = Vec::with_capacity(alloc, 1)?;
         msgs.push(msg)?;
         return append_slots(alloc, slots, msgs, &[]);

@@ -6,25 +6,25 @@
 //! one slot each go to their slots as they are, without a part for each slot.
 ghost use Rattle.std.specs.Prelude.{◌≡◌, true, OnOk, OnErr, IfOk, map, length, ◌++◌, [], None};
 ghost use Rattle.std.specs.Option.{option_copied, option_to_list};
-ghost use Rattle.node.specs.Appended.{parts as parts_of, placed};
+ghost use Rattle.node.specs.Appended.{batches_by_slot as parts_of, placed};
 ghost use Rattle.node.specs.Batches.{batch_parts, HasRoomFor, HaveHomes, KeepsRoom};
 ghost use Rattle.node.specs.Pure.{inner};
 ghost use Rattle.node.specs.Searchable.{AreRising, Fits, AllFit, IsRoot, HasRoom, see_list};
 ghost use Rattle.node.specs.See.{see_slot, seen_slots};
 
 use super::Slot;
-use super::search::{home_of, next_pivot, slot_of};
-use message::{Changes, Msg, Update};
+use super::search::{next_pivot, slot_of, target_slot};
+use message::{Msg, Update, UpdateTarget};
 use pathkey::{Key, NoMemory};
 use std::alloc::Global;
 
 /// Puts the piece, if there is one, at the end of a part.
-fn push_some<U: Update>(part: &mut Vec<Msg<U>>, piece: Option<Msg<U>>) -> Result<(), NoMemory>
-    ensures { OnOk result (part.new.items ≡ part.old.items ++ option_to_list piece) }
+fn push_some<U: Update>(slot_batch: &mut Vec<Msg<U>>, piece: Option<Msg<U>>) -> Result<(), NoMemory>
+    ensures { OnOk result (slot_batch.new.items ≡ slot_batch.old.items ++ option_to_list piece) }
 {
     match piece {
         None => Ok(()),
-        Some(piece) => Ok(part.push(piece)?),
+        Some(piece) => Ok(slot_batch.push(piece)?),
     }
 }
 
@@ -33,21 +33,21 @@ fn place_in_all<U: Update>(
     alloc: Global,
     slots: &[Slot<U>],
     hi: Option<&Key>,
-    parts: &mut [Vec<Msg<U>>],
+    batches_by_slot: &mut [Vec<Msg<U>>],
     msg: &Msg<U>,
 ) -> Result<(), NoMemory>
-    ensures { OnOk result (map see_list parts.new ≡ placed (option_copied hi.entry) msg.now (seen_slots slots.now) (map see_list parts.old)) }
+    ensures { OnOk result (map see_list batches_by_slot.new ≡ placed (option_copied hi.entry) msg.now (seen_slots slots.now) (map see_list batches_by_slot.old)) }
 {
     let Some((slot, slots)) = slots.split_first() else {
         return Ok(());
     };
-    let Some((part, parts)) = parts.split_first_mut() else {
+    let Some((slot_batch, batches_by_slot)) = batches_by_slot.split_first_mut() else {
         // No caller has fewer parts than slots.
         return Ok(());
     };
     let piece = msg.cut_between(alloc, &slot.lo, next_pivot(slots, hi))?;
-    push_some(part, piece)?;
-    place_in_all(alloc, slots, hi, parts, msg)
+    push_some(slot_batch, piece)?;
+    place_in_all(alloc, slots, hi, batches_by_slot, msg)
 }
 
 /// Puts the pieces of the message at the end of the parts of the slots that take them; a message for
@@ -56,37 +56,37 @@ fn place<U: Update>(
     alloc: Global,
     slots: &[Slot<U>],
     hi: Option<&Key>,
-    parts: &mut [Vec<Msg<U>>],
+    batches_by_slot: &mut [Vec<Msg<U>>],
     msg: Msg<U>,
 ) -> Result<(), NoMemory>
     requires rising { AreRising (seen_slots slots.now) }
     requires fits { Fits (option_copied hi) (seen_slots slots.now) msg }
-    requires pairs { length parts.old ≡ length slots.now }
-    ensures { OnOk result (map see_list parts.new ≡ placed (option_copied hi.entry) msg (seen_slots slots.now) (map see_list parts.old)) }
+    requires pairs { length batches_by_slot.old ≡ length slots.now }
+    ensures { OnOk result (map see_list batches_by_slot.new ≡ placed (option_copied hi.entry) msg (seen_slots slots.now) (map see_list batches_by_slot.old)) }
 {
-    match msg.point() {
-        None => place_in_all(alloc, slots, hi, parts, &msg),
+    match msg.point_key() {
+        None => place_in_all(alloc, slots, hi, batches_by_slot, &msg),
         Some(key) => {
             let i = slot_of(slots, key);
-            parts[i].push(msg)?;
+            batches_by_slot[i].push(msg)?;
             Ok(())
         }
     }
 }
 
 /// An empty part for each slot.
-fn empty_parts<U: Update>(alloc: Global, slots: &[Slot<U>]) -> Result<Vec<Vec<Msg<U>>>, NoMemory>
+fn empty_batches<U: Update>(alloc: Global, slots: &[Slot<U>]) -> Result<Vec<Vec<Msg<U>>>, NoMemory>
     ensures { IfOk result (λ v. map see_list v.items ≡ map (λ s. []) slots.now) }
 {
-    let mut parts = Vec::with_capacity(alloc, slots.len())?;
+    let mut batches_by_slot = Vec::with_capacity(alloc, slots.len())?;
     for _ in slots {
-        parts.push(Vec::new(alloc))?;
+        batches_by_slot.push(Vec::new(alloc))?;
     }
-    Ok(parts)
+    Ok(batches_by_slot)
 }
 
 /// The messages as each slot takes them, cut at the pivots; `hi` is where the last slot ends, if it does.
-pub fn parts<U: Update>(
+pub fn batches_by_slot<U: Update>(
     alloc: Global,
     slots: &[Slot<U>],
     hi: Option<&Key>,
@@ -96,45 +96,45 @@ pub fn parts<U: Update>(
     requires fits { AllFit (option_copied hi) (seen_slots slots.now) msgs.items }
     ensures { IfOk result (λ v. map see_list v.items ≡ parts_of (option_copied hi.entry) msgs.items (seen_slots slots.now)) }
 {
-    let mut parts = empty_parts(alloc, slots)?;
+    let mut batches_by_slot = empty_batches(alloc, slots)?;
     for msg in msgs {
-        place(alloc, slots, hi, parts.as_mut_slice(), msg)?;
+        place(alloc, slots, hi, batches_by_slot.as_mut_slice(), msg)?;
     }
-    Ok(parts)
+    Ok(batches_by_slot)
 }
 
 /// Copies of the messages as each slot takes them, cut at the pivots; the last slot has no end.
-pub(crate) fn copied_parts<U: Update>(
+pub(crate) fn copy_batches<U: Update>(
     alloc: Global,
     slots: &[Slot<U>],
     msgs: &[Msg<U>],
 ) -> Result<Vec<Vec<Msg<U>>>, NoMemory>
     ensures { IfOk result (λ v. map see_list v.items ≡ parts_of None msgs.now (seen_slots slots.now)) }
 {
-    let mut parts = empty_parts(alloc, slots)?;
+    let mut batches_by_slot = empty_batches(alloc, slots)?;
     for msg in msgs {
-        place_in_all(alloc, slots, None, parts.as_mut_slice(), msg)?;
+        place_in_all(alloc, slots, None, batches_by_slot.as_mut_slice(), msg)?;
     }
-    Ok(parts)
+    Ok(batches_by_slot)
 }
 
 /// Reserves room in each slot's list for its part. The slots mean what they meant, whatever it answers.
 pub(crate) fn reserve_each<U: Update>(
     slots: &mut [Slot<U>],
-    parts: &[Vec<Msg<U>>],
+    batches_by_slot: &[Vec<Msg<U>>],
 ) -> Result<(), NoMemory>
     ensures same { map see_slot slots.new ≡ map see_slot slots.old }
-    ensures room { OnOk result (HasRoom slots.new parts.now) }
+    ensures room { OnOk result (HasRoom slots.new batches_by_slot.now) }
 {
     let Some((slot, slots)) = slots.split_first_mut() else {
         return Ok(());
     };
-    let Some((part, parts)) = parts.split_first() else {
+    let Some((slot_batch, batches_by_slot)) = batches_by_slot.split_first() else {
         // No caller has fewer parts than slots.
         return Ok(());
     };
-    slot.pending.reserve(part.len())?;
-    reserve_each(slots, parts)
+    slot.pending.reserve(slot_batch.len())?;
+    reserve_each(slots, batches_by_slot)
 }
 
 /// How many messages an append brings to their slots as they are, at most.
@@ -142,7 +142,7 @@ const FEW: usize = 4;
 
 /// The messages of an append as the slots take them.
 #[derive(Drop)]
-pub enum Batch<U: Changes> {
+pub enum Batch<U: UpdateTarget> {
     /// A few messages, each of which goes as it is to the slot with the number in its place.
     Whole(Vec<Msg<U>>, [usize; FEW]),
     /// The part of each slot.
@@ -152,7 +152,7 @@ pub enum Batch<U: Changes> {
 /// Reserves room for `count` messages in the slot that takes each of the messages as it is, and notes its number in the
 /// message's place; says whether each has one. The slots mean what they meant, and have the room that they had, whatever it
 /// answers.
-fn reserve_homes<U: Update>(
+fn reserve_targets<U: Update>(
     slots: &mut [Slot<U>],
     count: usize,
     msgs: &[Msg<U>],
@@ -170,16 +170,16 @@ fn reserve_homes<U: Update>(
         // Not met: `prepare` has a place for each message.
         return Ok(false);
     };
-    let Some(i) = home_of(slots, msg) else {
+    let Some(i) = target_slot(slots, msg) else {
         return Ok(false);
     };
     slots[i].pending.reserve(count)?;
     *home = i;
-    reserve_homes(slots, count, later, homes)
+    reserve_targets(slots, count, later, homes)
 }
 
 /// Cuts the messages for a root's slots and reserves room for the parts in them.
-fn prepare_parts<U: Update>(
+fn prepare_batches<U: Update>(
     alloc: Global,
     slots: &mut [Slot<U>],
     msgs: Vec<Msg<U>>,
@@ -187,11 +187,11 @@ fn prepare_parts<U: Update>(
     requires { IsRoot (inner (seen_slots slots.old)) }
     ensures same { map see_slot slots.new ≡ map see_slot slots.old }
     ensures room { IfOk result (λ v. HasRoom slots.new v.items) }
-    ensures parts { IfOk result (λ v. map see_list v.items ≡ parts_of None msgs.items (seen_slots slots.old)) }
+    ensures batches_by_slot { IfOk result (λ v. map see_list v.items ≡ parts_of None msgs.items (seen_slots slots.old)) }
 {
-    let parts = parts(alloc, slots, None, msgs)?;
-    reserve_each(slots, parts.as_slice())?;
-    Ok(parts)
+    let batches_by_slot = batches_by_slot(alloc, slots, None, msgs)?;
+    reserve_each(slots, batches_by_slot.as_slice())?;
+    Ok(batches_by_slot)
 }
 
 /// Cuts the messages for a root's slots and reserves room in them, but a few messages that have all
@@ -204,12 +204,12 @@ pub fn prepare<U: Update>(
     requires { IsRoot (inner (seen_slots slots.old)) }
     ensures same { map see_slot slots.new ≡ map see_slot slots.old }
     ensures room { IfOk result (λ b. HasRoomFor slots.new b) }
-    ensures parts { IfOk result (λ b. batch_parts b (seen_slots slots.old) ≡ parts_of None msgs.items (seen_slots slots.old)) }
+    ensures batches_by_slot { IfOk result (λ b. batch_parts b (seen_slots slots.old) ≡ parts_of None msgs.items (seen_slots slots.old)) }
 {
     let count = msgs.len();
     let mut homes = [0; FEW];
-    if count <= FEW && reserve_homes(slots, count, msgs.as_slice(), &mut homes)? {
+    if count <= FEW && reserve_targets(slots, count, msgs.as_slice(), &mut homes)? {
         return Ok(Batch::Whole(msgs, homes));
     }
-    Ok(Batch::Parts(prepare_parts(alloc, slots, msgs)?))
+    Ok(Batch::Parts(prepare_batches(alloc, slots, msgs)?))
 }

@@ -6,8 +6,8 @@ ghost use Rattle.node.specs.Shapes.{is_shape};
 ghost use Rattle.node.specs.Subtrees.{StaysSubtree};
 
 use super::Node;
-use super::change::Change;
-use super::descend::{descend, refusal};
+use super::change::SlotStep;
+use super::descend::{descend, precheck};
 use crate::place::Place;
 use crate::shape::Shape;
 use crate::step::StepReply;
@@ -21,7 +21,7 @@ use std::sync::Arc;
 ///
 /// Whatever it answers, the subtree stays lawful where it was and means what it meant at each key of its range. The nodes
 /// on the way are copied where they are shared, one level each.
-pub fn step_subtree<U: Update, C: Change<U>>(
+pub fn step_subtree<U: Update, C: SlotStep<U>>(
     alloc: Global,
     change: &C,
     shape: Shape,
@@ -39,7 +39,7 @@ pub fn step_subtree<U: Update, C: Change<U>>(
 
 /// Does a change at the slot with number `slot` of the node that these slot numbers lead to, in a
 /// subtree that ends at `hi`.
-fn step_below<U: Update, C: Change<U>>(
+fn step_below<U: Update, C: SlotStep<U>>(
     alloc: Global,
     change: &C,
     shape: Shape,
@@ -52,7 +52,7 @@ fn step_below<U: Update, C: Change<U>>(
     requires lawful { (h : ℕ) × (lo : List ℕ) × IsLawfulNode shape top.old.value h lo (option_copied hi) }
     ensures { StaysSubtree U.means shape (option_copied hi.entry) top.old.value top.new.value }
 {
-    if let Some(reply) = refusal(change, shape, false, top, numbers, slot, hi) {
+    if let Some(reply) = precheck(change, shape, false, top, numbers, slot, hi) {
         return reply;
     }
     descend(alloc, change, shape, false, top, numbers, slot)

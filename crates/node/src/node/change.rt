@@ -6,7 +6,7 @@ ghost use Rattle.node.specs.Searchable.{IsSearchable};
 ghost use Rattle.node.specs.See.{seen_slots};
 ghost use Rattle.node.specs.Shapes.{is_shape};
 ghost use Rattle.node.specs.Site.{slots_from};
-ghost use Rattle.node.specs.Steps.{can, HasNoRoom, LawfulSlots, MayHaveRoom, Replies};
+ghost use Rattle.node.specs.Steps.{applies, HasNoRoom, LawfulSlots, MayHaveRoom, Replies};
 ghost use Rattle.node.specs.declared.step.StepKind.{StepKind};
 
 use super::Slot;
@@ -17,19 +17,19 @@ use pathkey::Key;
 use std::alloc::Global;
 
 /// A step at the slot with number `i` of a node.
-pub trait Change<U: Update> {
+pub trait SlotStep<U: Update> {
     /// Which step it is.
     ghost kind: { StepKind };
 
     /// Whether the step can be done there, where the node's range ends at `hi`.
-    fn can(&self, slots: &[Slot<U>], i: usize, hi: Option<&Key>) -> bool
-        ensures { result ≡ can kind (option_copied hi.entry) (slots_from i (seen_slots slots.now)) };
+    fn applies(&self, slots: &[Slot<U>], i: usize, hi: Option<&Key>) -> bool
+        ensures { result ≡ applies kind (option_copied hi.entry) (slots_from i (seen_slots slots.now)) };
 
     /// Whether there is room for the step where it can be done, as far as reading tells; `root` says whether the node is
     /// the tree's root.
     fn has_room(&self, shape: Shape, root: bool, slots: &[Slot<U>], i: usize) -> bool
         requires { IsSearchable (inner (seen_slots slots.now)) }
-        ensures yes { result ≡ true → (h : ℕ) (lo : List ℕ) (hi : Option (List ℕ)) → LawfulSlots shape root h lo hi (seen_slots slots.now) → can kind hi (slots_from i (seen_slots slots.now)) ≡ true → MayHaveRoom U.means kind shape root i (seen_slots slots.now) }
+        ensures yes { result ≡ true → (h : ℕ) (lo : List ℕ) (hi : Option (List ℕ)) → LawfulSlots shape root h lo hi (seen_slots slots.now) → applies kind hi (slots_from i (seen_slots slots.now)) ≡ true → MayHaveRoom U.means kind shape root i (seen_slots slots.now) }
         ensures no { result ≡ false → HasNoRoom U.means kind shape root i (seen_slots slots.now) };
 
     /// Does the step, where it can be done and reading told of no lack of room.

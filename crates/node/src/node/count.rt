@@ -11,12 +11,12 @@ use super::search::next_pivot;
 use super::{Body, Node, Slot};
 use crate::report::Quantity;
 use crate::shape::Shape;
-use message::meets::meets;
+use message::range_tests::overlaps_range;
 use message::{Msg, Update};
 use pending::Pending;
 
 /// How many messages wait in the slots.
-pub fn held<U: Update>(slots: &[Slot<U>]) -> u128
+pub fn pending_len<U: Update>(slots: &[Slot<U>]) -> u128
     ensures exact { result ≡ pending_of (seen_slots slots.now) }
     ensures bound { result ≤ 18446744073709551615 * length slots.now }
 {
@@ -27,7 +27,7 @@ pub fn held<U: Update>(slots: &[Slot<U>]) -> u128
         // Not met: there is a first slot.
         return 0;
     };
-    slot.pending.len() as u128 + held(later)
+    slot.pending.len() as u128 + pending_len(later)
 }
 
 /// How many of the slots take a part of the message.
@@ -38,7 +38,7 @@ pub fn pieces_in<U: Update>(slots: &[Slot<U>], msg: &Msg<U>) -> usize
     let Some((slot, later)) = slots.split_first() else {
         return 0;
     };
-    let is_met = meets(msg, &slot.lo, next_pivot(later, None));
+    let is_met = overlaps_range(msg, &slot.lo, next_pivot(later, None));
     let more = pieces_in(later, msg);
     if is_met { more + 1 } else { more }
 }
@@ -57,23 +57,23 @@ pub fn pieces_of_oldest<U: Update>(slots: &[Slot<U>], list: &Pending<U>) -> usiz
 }
 
 /// Whether one of a node's slots can become two: the node has room for one slot more and, unless it is the root, for the
-/// range-deletes in the slot's list, which would then wait in both, once the `gone` oldest messages have left.
-pub fn can_part<U: Update>(
+/// range-deletes in the slot's list, which would then wait in both, once the `consumed` oldest messages have left.
+pub fn can_split<U: Update>(
     shape: Shape,
     root: bool,
     slots: &[Slot<U>],
-    gone: u8,
+    consumed: u8,
     list: &Pending<U>,
 ) -> bool
-    requires { gone ≤ length list.now.0 }
-    ensures room { result ≡ true → CanPart shape root (seen_slots slots.now) gone (range_count (drop gone list.now.0)) }
-    ensures none { result ≡ false → CannotPart shape root (seen_slots slots.now) gone (range_count (drop gone list.now.0)) }
+    requires { consumed ≤ length list.now.0 }
+    ensures room { result ≡ true → CanPart shape root (seen_slots slots.now) consumed (range_count (drop consumed list.now.0)) }
+    ensures none { result ≡ false → CannotPart shape root (seen_slots slots.now) consumed (range_count (drop consumed list.now.0)) }
 {
     if slots.len() >= shape.fanout as usize {
         return false;
     }
-    let twice = list.range_deletes(gone as usize) as u128;
-    root || held(slots) + twice <= shape.pending as u128 + gone as u128
+    let twice = list.range_deletes(consumed as usize) as u128;
+    root || pending_len(slots) + twice <= shape.pending as u128 + consumed as u128
 }
 
 /// The count for the node alone.
@@ -83,7 +83,7 @@ fn own<U: Update>(node: &Node<U>, quantity: Quantity) -> u128
 {
     match (quantity, &node.body) {
         (Quantity::Slots, Body::Inner(slots)) => slots.len() as u128,
-        (Quantity::Pending, Body::Inner(slots)) => held(slots.as_slice()),
+        (Quantity::Pending, Body::Inner(slots)) => pending_len(slots.as_slice()),
         (Quantity::Entries, Body::Leaf(entries)) => entries.len() as u128,
         (Quantity::Slots, Body::Leaf(_)) => 0,
         (Quantity::Pending, Body::Leaf(_)) => 0,

@@ -8,23 +8,23 @@ use pathkey::{Key, NoMemory};
 use std::alloc::Global;
 use std::sync::Arc;
 
-/// Cuts a slot in two at the pivot, without its `gone` oldest messages.
+/// Cuts a slot in two at the pivot, without its `consumed` oldest messages.
 ///
 /// The slot keeps the keys before the pivot, over `left`; the answer has those from the pivot on, over `right`. Messages
 /// are moved where they can be. On want of memory the slot is as it was.
-pub fn cut_slot<U: Update>(
+pub fn split_slot<U: Update>(
     alloc: Global,
     slot: &mut Slot<U>,
-    gone: usize,
+    consumed: usize,
     pivot: Key,
     left: Arc<Node<U>>,
     right: Arc<Node<U>>,
 ) -> Result<Slot<U>, NoMemory>
-    requires { gone ≤ length slot.old.pending.0 }
-    ensures cut { IfOk result (λ back. IsCutAt U.means gone pivot left.value right.value slot.old slot.new back) }
+    requires { consumed ≤ length slot.old.pending.0 }
+    ensures cut { IfOk result (λ back. IsCutAt U.means consumed pivot left.value right.value slot.old slot.new back) }
     ensures err { OnErr result (slot.new ≡ slot.old) }
 {
-    let pending = slot.pending.split_off(alloc, gone, &slot.lo, &pivot)?;
+    let pending = slot.pending.split_off(alloc, consumed, &slot.lo, &pivot)?;
     slot.child = left;
     Ok(Slot {
         lo: pivot,

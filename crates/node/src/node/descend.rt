@@ -7,9 +7,9 @@ ghost use Rattle.node.specs.Searchable.{IsSearchable};
 ghost use Rattle.node.specs.See.{seen_slots};
 ghost use Rattle.node.specs.Shapes.{is_shape};
 ghost use Rattle.node.specs.Site.{end_at, slots_at};
-ghost use Rattle.node.specs.Steps.{At, Refusal, Replies};
+ghost use Rattle.node.specs.Steps.{At, Precheck, Replies};
 
-use super::change::Change;
+use super::change::SlotStep;
 use super::search::end_of;
 use super::{Body, Node, Slot};
 use crate::shape::Shape;
@@ -21,7 +21,7 @@ use std::sync::Arc;
 
 /// Why the change is not done at the slot with number `slot` of this node, whose range ends at `hi`, as far as reading
 /// tells.
-fn refusal_here<U: Update, C: Change<U>>(
+fn precheck_here<U: Update, C: SlotStep<U>>(
     change: &C,
     shape: Shape,
     root: bool,
@@ -30,9 +30,9 @@ fn refusal_here<U: Update, C: Change<U>>(
     hi: Option<&Key>,
 ) -> Option<StepReply>
     requires { IsSearchable (inner (seen_slots slots.now)) }
-    ensures { Refusal U.means C.kind shape root slot (option_copied hi.entry) (Some (seen_slots slots.now)) result }
+    ensures { Precheck U.means C.kind shape root slot (option_copied hi.entry) (Some (seen_slots slots.now)) result }
 {
-    if !change.can(slots, slot, hi) {
+    if !change.applies(slots, slot, hi) {
         return Some(StepReply::NotThere);
     }
     if !change.has_room(shape, root, slots, slot) {
@@ -43,7 +43,7 @@ fn refusal_here<U: Update, C: Change<U>>(
 
 /// Why the change is not done at the slot with number `slot` of the node that `place` leads to, below
 /// or at `node`, whose range ends at `hi`, as far as reading tells.
-pub fn refusal<U: Update, C: Change<U>>(
+pub fn precheck<U: Update, C: SlotStep<U>>(
     change: &C,
     shape: Shape,
     root: bool,
@@ -53,25 +53,25 @@ pub fn refusal<U: Update, C: Change<U>>(
     hi: Option<&Key>,
 ) -> Option<StepReply>
     requires { IsSearchable node.now }
-    ensures { Refusal U.means C.kind shape root slot (end_at place.now (option_copied hi.entry) node.now) (slots_at place.now node.now) result }
+    ensures { Precheck U.means C.kind shape root slot (end_at place.now (option_copied hi.entry) node.now) (slots_at place.now node.now) result }
 {
     let Body::Inner(slots) = &node.body else {
         return Some(StepReply::NotThere);
     };
     let Some((first, rest)) = place.split_first() else {
-        return refusal_here(change, shape, root, slots.as_slice(), slot, hi);
+        return precheck_here(change, shape, root, slots.as_slice(), slot, hi);
     };
     let i = *first as usize;
     if i >= slots.len() {
         return Some(StepReply::NotThere);
     }
     let end = end_of(slots.as_slice(), i, hi);
-    refusal(change, shape, root, &slots[i].child, rest, slot, end)
+    precheck(change, shape, root, &slots[i].child, rest, slot, end)
 }
 
 /// Does the change at the slot with number `slot` of the node that `place` leads to, below or at `node`. On the way back
 /// up each node on the path is weighed again.
-pub fn descend<U: Update, C: Change<U>>(
+pub fn descend<U: Update, C: SlotStep<U>>(
     alloc: Global,
     change: &C,
     shape: Shape,
@@ -88,20 +88,20 @@ pub fn descend<U: Update, C: Change<U>>(
         return StepReply::NoMemory;
     };
     let Body::Inner(slots) = own.body_mut() else {
-        // Not met: `refusal` has gone the same way before.
+        // Not met: `precheck` has gone the same way before.
         return StepReply::NotThere;
     };
     let Some((first, rest)) = place.split_first() else {
         let reply = change.change(alloc, shape, root, slots, slot);
-        own.weigh();
+        own.update_weight();
         return reply;
     };
     let i = *first as usize;
     if i >= slots.len() {
-        // Not met: `refusal` has gone the same way before.
+        // Not met: `precheck` has gone the same way before.
         return StepReply::NotThere;
     }
     let reply = descend(alloc, change, shape, root, &mut slots[i].child, rest, slot);
-    own.weigh();
+    own.update_weight();
     reply
 }

@@ -8,9 +8,9 @@ ghost use Rattle.node.specs.Leaves.{IsCount, IsEntry, IsGap, IsPlace, IsChanged,
 ghost use Rattle.node.specs.Meaning.{lookup};
 
 use super::copy::copy_entries;
+use cow_map::strides::count_passing;
 use message::{Msg, Update};
 use pathkey::{Key, KeyRange, NoMemory};
-use rows::strides::count_passing;
 use std::alloc::Global;
 
 /// How many entries stand before the key, found by a search in strides.
@@ -97,7 +97,7 @@ fn edit_entry<U: Update>(
     ensures ok { OnOk result ((k : List ℕ) → IsEntry entries.old.items k i → IsChanged (same k) (U.means update.now (lookup entries.old.items k)) entries.old.items entries.new.items) }
     ensures err { OnErr result (entries.new.items ≡ entries.old.items) }
 {
-    if !update.change(alloc, &mut entries[i].1)? {
+    if !update.apply_in_place(alloc, &mut entries[i].1)? {
         entries.remove(i);
     }
     Ok(())
@@ -189,7 +189,7 @@ pub fn applied<U: Update>(
 }
 
 /// Splits the second half of the entries off, and answers the pivot, where it begins, with it.
-pub fn divide<V: Drop>(
+pub fn split_half<V: Drop>(
     alloc: Global,
     entries: &mut Vec<(Key, V)>,
 ) -> Result<(Key, Vec<(Key, V)>), NoMemory>

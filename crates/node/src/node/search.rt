@@ -12,10 +12,10 @@ ghost use Rattle.node.specs.See.{see, seen_slots};
 ghost use Rattle.node.specs.Site.{end_of};
 
 use super::{Body, Node, Slot};
+use cow_map::strides::count_passing;
 use message::ends::{ends_by, is_before_end};
-use message::{Changes, Msg, Update};
+use message::{Msg, Update, UpdateTarget};
 use pathkey::{Key, KeyRange};
-use rows::strides::count_passing;
 
 /// The number of the slot whose range holds the key, found by a search in strides.
 pub fn slot_of<U: Update>(slots: &[Slot<U>], key: &Key) -> usize
@@ -74,7 +74,7 @@ fn ends_in<U: Update>(slots: &[Slot<U>], i: usize, range: &KeyRange) -> bool
 
 /// The number of the root's slot that takes the message as it is, since all its keys lie there; none where it has keys of
 /// several slots, or no key.
-pub(crate) fn home_of<U: Update>(slots: &[Slot<U>], msg: &Msg<U>) -> Option<usize>
+pub(crate) fn target_slot<U: Update>(slots: &[Slot<U>], msg: &Msg<U>) -> Option<usize>
     requires { IsRoot (inner (seen_slots slots.now)) }
     ensures bound { IfSome result (λ i. i < length slots.now) }
     ensures home { IfSome result (λ i. IsHome i msg.now (seen_slots slots.now)) }
@@ -92,7 +92,7 @@ pub(crate) fn home_of<U: Update>(slots: &[Slot<U>], msg: &Msg<U>) -> Option<usiz
     }
 }
 
-impl<U: Changes> Node<U> {
+impl<U: UpdateTarget> Node<U> {
     /// The entries or slots of the node.
     pub fn body(&self) -> &Body<U>
         ensures { see result.now ≡ self.now }

@@ -3,8 +3,8 @@ ghost use Rattle.node.specs.Places.{way};
 ghost use Rattle.node.specs.Steps.{Answers};
 
 use super::Tree;
-use crate::node::change::Change;
-use crate::node::descend::{descend, refusal};
+use crate::node::change::SlotStep;
+use crate::node::descend::{descend, precheck};
 use crate::place::Place;
 use crate::step::StepReply;
 use message::Update;
@@ -15,7 +15,7 @@ impl<U: Update> Tree<U> {
     ///
     /// That it can be done there and has room is found first, by reading alone. Then the nodes on the way are owned, and
     /// copied where they are shared, one level each.
-    pub fn step<C: Change<U>>(
+    pub fn step<C: SlotStep<U>>(
         &mut self,
         alloc: Global,
         change: &C,
@@ -28,7 +28,7 @@ impl<U: Update> Tree<U> {
     }
 
     /// Does a change at the slot with number `slot` of the node that these slot numbers lead to.
-    fn step_below<C: Change<U>>(
+    fn step_below<C: SlotStep<U>>(
         &mut self,
         alloc: Global,
         change: &C,
@@ -39,7 +39,7 @@ impl<U: Update> Tree<U> {
     {
         let i = slot as usize;
         let is_root = numbers.is_empty();
-        let refused = refusal(change, self.shape, is_root, &self.root, numbers, i, None);
+        let refused = precheck(change, self.shape, is_root, &self.root, numbers, i, None);
         if let Some(reply) = refused {
             return reply;
         }

@@ -1,7 +1,7 @@
 //! Laws that speak of trees alone: what an edit changes, what a call keeps, what is seen at the paths of a tree, and
 //! that a tree is known from its image.
 
-ghost use Rattle.reference.specs.Laws.{BlockedLaw, CallLaw, ChildLaw, DoneLaw, EditLaw, FaultLaw, ListingLaw, MissingLaw, NeverLacksLaw, OneImageLaw, OneTreeLaw, OutRisesLaw, PutRisesLaw, ReadingLaw, SightLaw, ToldLaw, TouchedLaw};
+ghost use Rattle.reference.specs.Laws.{BlockedLaw, CallLaw, ChildLaw, DoneLaw, EditLaw, FaultLaw, ListingLaw, MissingLaw, NeverLacksLaw, OneImageLaw, OneTreeLaw, OutRisesLaw, PutRisesLaw, ReadingLaw, SightLaw, ReportedLaw, TouchedLaw};
 
 /// What is seen at each path after one entry was put or taken out, or its moment was set, and that names still rise in
 /// each directory.
@@ -36,5 +36,5 @@ pub fn sight()
 /// version 2 every moment. Of version 1 they are one but for moments.
 pub fn one_image()
     ensures one { OneImageLaw }
-    ensures told { ToldLaw }
+    ensures reported { ReportedLaw }
 {}

@@ -93,12 +93,17 @@ pub fn write_file(
                 if !fits_file(offset, new.len()) {
                     return Ok(Effect::refused(Errno::EFBIG));
                 }
-                let laid = copy_over(alloc, bytes.as_slice(), offset as usize, new.as_slice())?;
+                let written_over = copy_over(
+                    alloc,
+                    bytes.as_slice(),
+                    offset as usize,
+                    new.as_slice(),
+                )?;
                 put_at(
                     alloc,
                     tree,
                     path,
-                    Tree::File(at, laid),
+                    Tree::File(at, written_over),
                     Reply::Count(new.len() as u64),
                 )
             }

@@ -9,7 +9,7 @@ returns c =
     let text = c.as_slice.ensures.value ∙ c.in_ok-text.ensures in (
       a,
       search rules,
-      record { basic = sym c.basic.ensures ∙ c.in-Some.is; extended_is = c.in_ok-extended.ensures.told.1 },
-      c.lay.ensures.count ∙ ap length text,
-      c.lay.ensures.buffer ∙ ap (λ (t : List ℕ). laid t c.args.out.now) text,
+      record { basic = sym c.basic.ensures ∙ c.in-Some.is; extended_is = c.in_ok-extended.ensures.reported.1 },
+      c.copy_out.ensures.count ∙ ap length text,
+      c.copy_out.ensures.buffer ∙ ap (λ (t : List ℕ). laid t c.args.out.now) text,
     )

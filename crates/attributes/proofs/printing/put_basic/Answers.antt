@@ -1,5 +1,5 @@
 use Rattle.std.proofs.Common.{◌++◌, codes}
-use Rattle.lines.specs.Texts.{number_line}
+use Rattle.textio.specs.Texts.{number_line}
 use Rattle.attributes.specs.Text.{basic_lines, kind_text, octal, time_lines}
 use Rattle.attributes.proofs.PrintFacts.{seven_parts}
 use Rattle.attributes.proofs.printing.put_basic.Goals as goal

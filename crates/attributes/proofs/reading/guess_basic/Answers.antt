@@ -10,5 +10,5 @@ returns c = λ b rest is other e.
     let user = c.guess_owner-user.ensures b.user _ is.user mode.1 in
     let group = c.guess_owner-group.ensures b.group _ is.group user.1 in
     let names = c.guess_number-names.ensures b.names _ is.names group.1 in
-    let time = c.guess_time-modified.ensures b.modified rest is.modified other names.1 in
-    (same_basic b _ _ _ _ _ _ kind.0 mode.0 user.0 group.0 names.0 time.0, time.1)
+    let mtime_override = c.guess_time-modified.ensures b.modified rest is.modified other names.1 in
+    (same_basic b _ _ _ _ _ _ kind.0 mode.0 user.0 group.0 names.0 mtime_override.0, mtime_override.1)

@@ -6,4 +6,4 @@ use Rattle.benches.proofs.flushers.Watch.TheSendSync as watches
 use Rattle.benches.proofs.flushers.start.Goals as goal
 
 pub spawn-requires-send-F : goal.spawn-requires-send-F
-spawn-requires-send-F g c = λ κs lives. let a = flusher_send (param 0 g.row.J) g.J.Naming in search (watches.the_sync, sendable, crosses) depth 20
+spawn-requires-send-F g c = λ κs lives. let a = flusher_send (param 0 g.row.J) g.J.EngineId in search (watches.the_sync, sendable, crosses) depth 20

@@ -1,5 +1,5 @@
-use Rattle.call_compiler.proofs.OnFiles.{growth_told}
+use Rattle.call_compiler.proofs.OnFiles.{growth_reported}
 use Rattle.call_compiler.proofs.laws.growths.Goals as goal
 
 pub returns : goal.returns
-returns c = growth_told
+returns c = growth_reported

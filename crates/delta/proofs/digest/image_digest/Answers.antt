@@ -4,12 +4,12 @@ use Rattle.reference.specs.Image.{Second, image}
 use Rattle.reference.specs.Tree.{Tree}
 use Rattle.sha2.specs.Sha256.{sha256}
 use Rattle.volume.specs.Volumes.{MeanRooted}
-use Rattle.volume.specs.declared.rooted.Rooted.{Rooted}
+use Rattle.volume.specs.declared.fs_root.FsRoot.{FsRoot}
 use Rattle.delta.proofs.digest.image_digest.Goals as goal
 
 pub returns : goal.returns
 returns c =
     subst
-    (λ (r : Rooted). IfOk c.digest_of-digest.result (λ digest. (t : Tree) → MeanRooted r t → digest ≡ sha256 (image Second t)))
+    (λ (r : FsRoot). IfOk c.digest_of-digest.result (λ digest. (t : Tree) → MeanRooted r t → digest ≡ sha256 (image Second t)))
     (ap (λ p. p.tree) c.in-Ok-new.ensures)
     c.digest_of-digest.ensures

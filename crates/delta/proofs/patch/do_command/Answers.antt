@@ -15,7 +15,7 @@ use Rattle.delta.proofs.patch.do_command.Goals as goal
 
 pub returns-in-Go-clause-ok : goal.returns-in-Go-clause-ok
 returns-in-Go-clause-ok c = λ s t text m took.
-    let is : command_of c.args.told c.args.line.now ≡ Go c.in-Go.count = ap (λ k. command_of k c.args.line.now) c.in-Go.is in
+    let is : command_of c.args.parsed c.args.line.now ≡ Go c.in-Go.count = ap (λ k. command_of k c.args.line.now) c.in-Go.is in
     subst
     (λ k. OnOk c.pass_lines.result (DoesCommand k (lines_from t c.args.walk.now) text (lines_from t c.pass_lines.new.walk) s c.args.loader.now))
     (sym is)
@@ -26,7 +26,7 @@ returns-in-Go-clause-ok c = λ s t text m took.
 
 pub returns-in-Go-clause-no_image : goal.returns-in-Go-clause-no_image
 returns-in-Go-clause-no_image c = λ s t text ds m took e.
-    let is : command_of c.args.told c.args.line.now ≡ Go c.in-Go.count = ap (λ k. command_of k c.args.line.now) c.in-Go.is in
+    let is : command_of c.args.parsed c.args.line.now ≡ Go c.in-Go.count = ap (λ k. command_of k c.args.line.now) c.in-Go.is in
     subst
     (λ k. MakesNoImage (k ∷ ds) (lines_from t c.args.walk.now) text)
     (sym is)
@@ -38,7 +38,7 @@ returns-in-Go-clause-same c = on_ok_weaker c.pass_lines.result (λ h. h.2.same) 
 pub returns-in-Come-clause-ok : goal.returns-in-Come-clause-ok
 returns-in-Come-clause-ok c = λ s t text m took.
     let line = c.args.line.now in
-    let is : command_of c.args.told line ≡ Come (drop 2 line) = ap (λ k. command_of k line) c.in-Come.is in
+    let is : command_of c.args.parsed line ≡ Come (drop 2 line) = ap (λ k. command_of k line) c.in-Come.is in
     subst
     (λ k. OnOk c.add_line.result (DoesCommand k (lines_from t c.args.walk.now) text (lines_from t c.args.walk.now) s c.add_line.new.loader))
     (sym is)
@@ -54,7 +54,7 @@ returns-in-Come-clause-ok c = λ s t text m took.
 pub returns-in-Come-clause-no_image : goal.returns-in-Come-clause-no_image
 returns-in-Come-clause-no_image c = λ s t text ds m took e.
     let line = c.args.line.now in
-    let is : command_of c.args.told line ≡ Come (drop 2 line) = ap (λ k. command_of k line) c.in-Come.is in
+    let is : command_of c.args.parsed line ≡ Come (drop 2 line) = ap (λ k. command_of k line) c.in-Come.is in
     subst
     (λ k. MakesNoImage (k ∷ ds) (lines_from t c.args.walk.now) text)
     (sym is)

@@ -1,6 +1,6 @@
 use Rattle.std.proofs.Common.{[], ◌∙◌, refl, subst}
 use Rattle.images.specs.Taken.{Took}
-use Rattle.lines.specs.Lines.{lines_of}
+use Rattle.textio.specs.Lines.{lines_of}
 use Rattle.delta.specs.Patching.{IsDoing}
 use Rattle.delta.specs.Walks.{left, lines_from}
 use Rattle.delta.proofs.BadFacts.{shorter}
@@ -12,13 +12,13 @@ pub commands-init : goal.commands-init
 commands-init c = (refl, λ s t cs m tells took. ([], doing_start cs _ c.args.commands.now tells.commands tells.is, took))
 
 pub commands-smaller : goal.commands-smaller
-commands-smaller c = shorter c.commands.rest.now c.in-Some.line.now c.in-Some.behind.now c.in-Some.told c.in-Some.ensures
+commands-smaller c = shorter c.commands.rest.now c.in-Some.line.now c.in-Some.behind.now c.in-Some.parsed c.in-Some.ensures
 
 pub returns-in-Err-clause-no_image : goal.returns-in-Err-clause-no_image
 returns-in-Err-clause-no_image c = λ s t cs m tells took e.
     let mean = mean_now c.args.walk.now c.commands.walk t c.commands.invariant.0 m in
     let (has, doing, takes) = c.commands.invariant.1 s t cs m tells took in
-    doing_spoilt cs _ _ c.commands.rest.now c.in-Some.line.now c.in-Some.behind.now has c.in-Some.told doing c.in-Some.ensures (λ ds. c.do_command.ensures.no_image s t has ds mean takes (c.in-Err.is ∙ e))
+    doing_spoilt cs _ _ c.commands.rest.now c.in-Some.line.now c.in-Some.behind.now has c.in-Some.parsed doing c.in-Some.ensures (λ ds. c.do_command.ensures.no_image s t has ds mean takes (c.in-Err.is ∙ e))
 
 pub commands-preserved : goal.commands-preserved
 commands-preserved c = (
@@ -27,7 +27,7 @@ commands-preserved c = (
       let mean = mean_now c.args.walk.now c.commands.walk t c.commands.invariant.0 m in
       let (has, doing, takes) = c.commands.invariant.1 s t cs m tells took in
       let (gets, does, taken) = rw c.in_default-do_command.is at c.do_command.ensures.ok s t has mean takes in
-      (gets, doing_next cs _ _ _ c.commands.rest.now c.in-Some.line.now c.in-Some.behind.now has gets c.in-Some.told doing c.in-Some.ensures does, taken),
+      (gets, doing_next cs _ _ _ c.commands.rest.now c.in-Some.line.now c.in-Some.behind.now has gets c.in-Some.parsed doing c.in-Some.ensures does, taken),
 )
 
 pub returns-then-not-is_at_end-clause-no_image : goal.returns-then-not-is_at_end-clause-no_image

@@ -1,6 +1,6 @@
 use Rattle.std.proofs.Common.{[], ◌∷◌, ◌++◌, ◌∙◌, ap, refl, sym, subst, arith, append-nil, length-append}
 use Rattle.images.specs.Taken.{Took}
-use Rattle.lines.specs.Lines.{lines_of}
+use Rattle.textio.specs.Lines.{lines_of}
 use Rattle.delta.specs.Deltas.{Stay, text_of}
 use Rattle.delta.specs.Walks.{left}
 use Rattle.delta.proofs.LoaderFacts.{does_lines, kept_line}

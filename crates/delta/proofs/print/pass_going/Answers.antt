@@ -6,8 +6,8 @@ use Rattle.delta.proofs.print.pass_going.Goals as goal
 pub loop-count-init : goal.loop-count-init
 loop-count-init c = ([], refl, walks_none c.args.old.now)
 
-pub returns-then-not-goes-clause-patches : goal.returns-then-not-goes-clause-patches
-returns-then-not-goes-clause-patches c =
+pub returns-then-not-is_deleted-clause-patches : goal.returns-then-not-is_deleted-clause-patches
+returns-then-not-is_deleted-clause-patches c =
     let (gone, size, olds) = c.loop-count.invariant in
     patches_going c.loop-count.count gone c.args.old.now c.args.new.now c.loop-count.old size olds
 

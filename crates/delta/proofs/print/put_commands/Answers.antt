@@ -1,5 +1,5 @@
 use Rattle.std.proofs.Common.{[], ◌++◌}
-use Rattle.lines.proofs.Known.{on_err}
+use Rattle.textio.proofs.Known.{on_err}
 use Rattle.delta.proofs.BeginFacts.{begun_none, begun_then}
 use Rattle.delta.proofs.PrintFacts.{puts_all, puts_none, puts_then}
 use Rattle.delta.proofs.WalkFacts.{none_left}

@@ -1,4 +1,4 @@
-use Rattle.lines.proofs.Known.{on_err}
+use Rattle.textio.proofs.Known.{on_err}
 use Rattle.delta.proofs.BeginFacts.{delta_commands, delta_end, delta_heading}
 use Rattle.delta.proofs.PrintFacts.{delta_put}
 use Rattle.delta.proofs.print.put_delta.Goals as goal

@@ -12,8 +12,8 @@ overflow_add-number c =
 pub lines-preserved : goal.lines-preserved
 lines-preserved c =
     let (cs, passed, count) = c.lines.invariant in
-    let told = command_of c.in-Some.field-0-1 c.in-Some.field-0-0.now in
-    (_, passes_more cs c.args.text.now c.lines.rest.now c.in-Some.field-0-0.now c.in-Some.behind.now c.in-Some.field-0-1 passed c.in-Some.ensures, omega (arith, count, length-append cs (told ∷ [])))
+    let parsed = command_of c.in-Some.field-0-1 c.in-Some.field-0-0.now in
+    (_, passes_more cs c.args.text.now c.lines.rest.now c.in-Some.field-0-0.now c.in-Some.behind.now c.in-Some.field-0-1 passed c.in-Some.ensures, omega (arith, count, length-append cs (parsed ∷ [])))
 
 pub returns-clause-fits : goal.returns-clause-fits
 returns-clause-fits c =

@@ -2,14 +2,14 @@ use Rattle.std.proofs.Common.{◌≡◌, ◌⊎◌, false, inr, refl}
 use Rattle.node.specs.Shapes.{is_shape}
 use Rattle.pathkey.specs.declared.errno.Errno.TheVariants.{EINVAL, ENOMEM}
 use Rattle.images.specs.Taken.{IsFresh}
-use Rattle.doorvervain.proofs.Handed.{anyway, given_out, refused_out, shape_told}
+use Rattle.doorvervain.proofs.Handed.{anyway, given_out, refused_out, shape_reported}
 use Rattle.doorvervain.proofs.pieces.begin.Goals as goal
 
 pub returns-clause-fresh : goal.returns-clause-fresh
 returns-clause-fresh c = given_out (IsFresh c.args.shape) c.new_loader-made.result c.hand_out_loading.result c.hand_out_loading.new.out.given c.hand_out_loading.ensures.handed c.new_loader-made.ensures.fresh
 
 pub returns-clause-shape : goal.returns-clause-shape
-returns-clause-shape c = shape_told (is_shape c.args.shape ≡ false) c.new_loader-made.result c.hand_out_loading.result c.hand_out_loading.new.out.given c.hand_out_loading.ensures.handed c.new_loader-made.ensures.shape
+returns-clause-shape c = shape_reported (is_shape c.args.shape ≡ false) c.new_loader-made.result c.hand_out_loading.result c.hand_out_loading.new.out.given c.hand_out_loading.ensures.handed c.new_loader-made.ensures.shape
 
 pub returns-clause-refused : goal.returns-clause-refused
 returns-clause-refused c =

@@ -2,7 +2,7 @@ use Rattle.std.proofs.Common.{◌≡◌, ◌⊎◌, false, inr, refl}
 use Rattle.node.specs.Shapes.{is_shape}
 use Rattle.pathkey.specs.declared.errno.Errno.TheVariants.{EINVAL, ENOMEM}
 use Rattle.volume.specs.Volumes.{IsNew}
-use Rattle.doorvervain.proofs.Handed.{anyway, given_out, refused_out, shape_told, when_err, when_ok}
+use Rattle.doorvervain.proofs.Handed.{anyway, given_out, refused_out, shape_reported, when_err, when_ok}
 use Rattle.doorvervain.proofs.upkeep.open.Goals as goal
 
 pub returns-clause-new : goal.returns-clause-new
@@ -11,7 +11,7 @@ returns-clause-new c =
     (when_ok (IsNew c.args.shape) (λ e. (e ≡ EINVAL) ⊎ (e ≡ ENOMEM)) c.new-made.result c.new-made.ensures.new)
 
 pub returns-clause-shape : goal.returns-clause-shape
-returns-clause-shape c = shape_told (is_shape c.args.shape ≡ false) c.new-made.result c.hand_out.result c.hand_out.new.out.given c.hand_out.ensures.handed c.new-made.ensures.shape
+returns-clause-shape c = shape_reported (is_shape c.args.shape ≡ false) c.new-made.result c.hand_out.result c.hand_out.new.out.given c.hand_out.ensures.handed c.new-made.ensures.shape
 
 pub returns-clause-refused : goal.returns-clause-refused
 returns-clause-refused c =

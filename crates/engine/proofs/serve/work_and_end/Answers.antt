@@ -6,7 +6,7 @@ pub returns-in-Ok-clause-ends : goal.returns-in-Ok-clause-ends
 returns-in-Ok-clause-ends g c = record {
   clients = c.work_beside-worked.result;
   worked = c.work_beside-worked.ensures;
-  once = subst (λ (n : ℕ). EachOnce n c.work_beside-worked.result) (c.hire_all-staff.ensures ∙ c.requires.all) c.in-Ok.ensures.ends.0;
+  once = subst (λ (n : ℕ). EachOnce n c.work_beside-worked.result) (c.new_flushers-staff.ensures ∙ c.requires.all) c.in-Ok.ensures.ends.0;
   ends = c.in-Ok.ensures.ends.1;
 }
 

@@ -5,4 +5,4 @@ use Rattle.engine.proofs.Sent.{flusher_send}
 use Rattle.engine_tests.proofs.pairs.flush_both.Goals as goal
 
 pub join-requires-send-F : goal.join-requires-send-F
-join-requires-send-F g c = λ κs lives. let a = flusher_send (param 0 g.row.J) g.J.Naming in search (sendable, crosses) depth 20
+join-requires-send-F g c = λ κs lives. let a = flusher_send (param 0 g.row.J) g.J.EngineId in search (sendable, crosses) depth 20

@@ -18,4 +18,4 @@ returns-in-Leaf g c = λ t.
     let ec : leaf c.as_slice.result.now ≡ c.args.slot.now.child.value = ap leaf c.as_slice.ensures.value ∙ ap see (sym c.in-Leaf.is) ∙ c.body.ensures ∙ c.deref.ensures in
     let some : 0 < length ms = omega (arith, c.len.ensures) in
     let o = first_of ms some in
-    place_is g.U.Update.means c.args.most ms o.1 o.0 c.as_slice.result.now c.args.slot.now.child.value o.2 ec (c.has_room.ensures t o.0 (sym (c.oldest_given-given.ensures ∙ ap first_given o.2)))
+    place_is g.U.Update.means c.args.most ms o.1 o.0 c.as_slice.result.now c.args.slot.now.child.value o.2 ec (c.has_room.ensures t o.0 (sym (c.oldest_created_key-given.ensures ∙ ap first_given o.2)))

@@ -1,5 +1,5 @@
 use Rattle.std.proofs.Common.{◌∙◌, sym, arith}
-use Rattle.lines.proofs.Known.{on_err}
+use Rattle.textio.proofs.Known.{on_err}
 use Rattle.images.proofs.Printed.{printed_all, printed_lines, printed_more, printed_more_part, printed_part, printed_root, root_part}
 use Rattle.images.proofs.image.print_all.Goals as goal
 

@@ -1,7 +1,7 @@
 use Rattle.std.proofs.Common.{◌++◌, ℕ, List, codes, decimal, take, sym, subst}
-use Rattle.lines.specs.Parts.{AppendsPart}
-use Rattle.lines.specs.Texts.{hex_text}
-use Rattle.lines.proofs.Known.{on_err, part_after, part_before}
+use Rattle.textio.specs.Parts.{AppendsPart}
+use Rattle.textio.specs.Texts.{hex_text}
+use Rattle.textio.proofs.Known.{on_err, part_after, part_before}
 use Rattle.images.proofs.ImageBlocks.{line_of_kept}
 use Rattle.images.proofs.image.put_block.Goals as goal
 

@@ -3,8 +3,8 @@ use Rattle.std.specs.Io.KnownBytes.{Appends}
 use Rattle.std.proofs.KnownBytes.{Appends-trans}
 use Rattle.reference.specs.Image.{file_letter, moment_text, path_text}
 use Rattle.images.specs.Image.{version_of}
-use Rattle.lines.specs.Parts.{AppendsPart}
-use Rattle.lines.proofs.Known.{on_err, part_after, part_before}
+use Rattle.textio.specs.Parts.{AppendsPart}
+use Rattle.textio.proofs.Known.{on_err, part_after, part_before}
 use Rattle.images.proofs.image.put_file.Goals as goal
 
 pub returns-in_err-put-clause-err : goal.returns-in_err-put-clause-err

@@ -2,7 +2,7 @@ use Rattle.std.proofs.Common.{◌∷◌, ◌++◌, [], codes, decimal}
 use Rattle.std.proofs.KnownBytes.{Appends-trans}
 use Rattle.reference.specs.Image.{moment_text}
 use Rattle.images.specs.Image.{version_of}
-use Rattle.lines.proofs.Known.{on_err, part_after, part_before}
+use Rattle.textio.proofs.Known.{on_err, part_after, part_before}
 use Rattle.images.proofs.image.put_len.Goals as goal
 
 pub returns-in_err-put-clause-err : goal.returns-in_err-put-clause-err

@@ -14,12 +14,12 @@ returns-then-n-eq0-clause-ok g c = λ s fresh.
 
 pub returns-in-Err-clause-bad : goal.returns-in-Err-clause-bad
 returns-in-Err-clause-bad g c = λ s k fresh e.
-    takes_bad s _ _ _ _ k _ _ (c.loop.invariant.takes s fresh) c.in-Ok.ensures.ok c.take.ensures.took (sym c.take.ensures.answer ∙ c.in-Err.is ∙ e)
+    takes_bad s _ _ _ _ k _ _ (c.loop.invariant.takes s fresh) c.in-Ok.ensures.ok c.feed.ensures.took (sym c.feed.ensures.answer ∙ c.in-Err.is ∙ e)
 
 pub loop-preserved : goal.loop-preserved
 loop-preserved g c = record {
   size = search rules;
-  takes = λ s fresh. takes_piece s _ _ _ _ _ _ (c.loop.invariant.takes s fresh) c.in-Ok.ensures.ok c.take.ensures.took (sym c.take.ensures.answer ∙ c.in_default-take.is);
+  takes = λ s fresh. takes_piece s _ _ _ _ _ _ (c.loop.invariant.takes s fresh) c.in-Ok.ensures.ok c.feed.ensures.took (sym c.feed.ensures.answer ∙ c.in_default-feed.is);
 }
 
 pub returns-in_default-clause-read : goal.returns-in_default-clause-read

@@ -6,5 +6,5 @@ use Rattle.logs.proofs.record.behind_sum.Goals as goal
 
 pub returns : goal.returns
 returns c =
-    subst (λ (sum : List ℕ). MatchOption c.strip_prefix.result ((rest : List ℕ) → c.args.bytes.now ≡ sum ++ rest → ⊥) (λ rest. c.args.bytes.now ≡ sum ++ rest.now)) (c.as_slice.ensures ∙ c.sum_of-sum.ensures)
+    subst (λ (sum : List ℕ). MatchOption c.strip_prefix.result ((rest : List ℕ) → c.args.bytes.now ≡ sum ++ rest → ⊥) (λ rest. c.args.bytes.now ≡ sum ++ rest.now)) (c.as_slice.ensures ∙ c.digest_of-sum.ensures)
     (strip_prefix_is {E = eqb} Decides-eqb _ _ _ c.strip_prefix.ensures.cases)

@@ -8,32 +8,32 @@ use Rattle.logs.proofs.Logs.{front_parts, is_front, no_length, no_number, not_so
 use Rattle.logs.proofs.record.len_after.Goals as goal
 use Rattle.logs.proofs.record.len_after.Goals.{then-found-number-via-then-found-number, then-found-number-via-else-found-number+then-not-is_empty}
 
-pub returns-in_default-cut_word : goal.returns-in_default-cut_word
-returns-in_default-cut_word c =
+pub returns-in_default-split_u64 : goal.returns-in_default-split_u64
+returns-in_default-split_u64 c =
     let begins = MatchOption-at_some _ _ _ c.in-Some.is (strip_prefix_is {E = eqb} Decides-eqb c.args.bytes.now (codes "dvlog 1\n") c.strip_prefix.result c.strip_prefix.ensures.cases) in
-    no_number c.args.bytes.now c.in-Some.rest.now c.args.number begins c.in_default-cut_word.ensures
+    no_number c.args.bytes.now c.in-Some.rest.now c.args.number begins c.in_default-split_u64.ensures
 
-pub returns-in_default-cut_word-2 : goal.returns-in_default-cut_word-2
-returns-in_default-cut_word-2 c =
+pub returns-in_default-split_u64-2 : goal.returns-in_default-split_u64-2
+returns-in_default-split_u64-2 c =
     let begins = MatchOption-at_some _ _ _ c.in-Some.is (strip_prefix_is {E = eqb} Decides-eqb c.args.bytes.now (codes "dvlog 1\n") c.strip_prefix.result c.strip_prefix.ensures.cases) in
-    no_length c.args.bytes.now c.in-Some.rest.now c.args.number begins c.in-Some-cut_word.found c.in-Some-cut_word.rest.now c.in-Some-cut_word.ensures.0 c.in_default-cut_word-2.ensures
+    no_length c.args.bytes.now c.in-Some.rest.now c.args.number begins c.in-Some-split_u64.found c.in-Some-split_u64.rest.now c.in-Some-split_u64.ensures.0 c.in_default-split_u64-2.ensures
 
 pub returns-then-found-number : goal.returns-then-found-number
 returns-then-found-number c =
     let begins = MatchOption-at_some _ _ _ c.in-Some.is (strip_prefix_is {E = eqb} Decides-eqb c.args.bytes.now (codes "dvlog 1\n") c.strip_prefix.result c.strip_prefix.ensures.cases) in
-    not_so c.args.bytes.now c.in-Some.rest.now c.args.number begins c.in-Some-cut_word.found c.in-Some-cut_word-2.len c.in-Some-cut_word.rest.now c.in-Some-cut_word-2.rest.now
-    (search rules) c.in-Some-cut_word.ensures.1 c.in-Some-cut_word-2.ensures.1 c.in-Some-cut_word.ensures.0 c.in-Some-cut_word-2.ensures.0
+    not_so c.args.bytes.now c.in-Some.rest.now c.args.number begins c.in-Some-split_u64.found c.in-Some-split_u64-2.len c.in-Some-split_u64.rest.now c.in-Some-split_u64-2.rest.now
+    (search rules) c.in-Some-split_u64.ensures.1 c.in-Some-split_u64-2.ensures.1 c.in-Some-split_u64.ensures.0 c.in-Some-split_u64-2.ensures.0
     (elim c.then-found-number.branch [
       | then-found-number-via-then-found-number w ↦ inl (w.if-found-number.true)
-      | then-found-number-via-else-found-number+then-not-is_empty w ↦ (let some : length c.in-Some-cut_word-2.rest.now ≢ 0 = grind (arith, common_steps) in inr some)
+      | then-found-number-via-else-found-number+then-not-is_empty w ↦ (let some : length c.in-Some-split_u64-2.rest.now ≢ 0 = grind (arith, common_steps) in inr some)
     ])
 
 pub returns : goal.returns
 returns c =
     let begins = MatchOption-at_some _ _ _ c.in-Some.is (strip_prefix_is {E = eqb} Decides-eqb c.args.bytes.now (codes "dvlog 1\n") c.strip_prefix.result c.strip_prefix.ensures.cases) in (
-      is_front c.args.bytes.now c.in-Some.rest.now c.args.number begins c.in-Some-cut_word.found c.in-Some-cut_word-2.len c.in-Some-cut_word.rest.now c.in-Some-cut_word-2.rest.now
-          c.in-Some-cut_word.ensures.0 c.in-Some-cut_word-2.ensures.0 c.if-found-number.false (let none : length c.in-Some-cut_word-2.rest.now ≡ 0 = search rules in none),
-      c.in-Some-cut_word-2.ensures.1,
+      is_front c.args.bytes.now c.in-Some.rest.now c.args.number begins c.in-Some-split_u64.found c.in-Some-split_u64-2.len c.in-Some-split_u64.rest.now c.in-Some-split_u64-2.rest.now
+          c.in-Some-split_u64.ensures.0 c.in-Some-split_u64-2.ensures.0 c.if-found-number.false (let none : length c.in-Some-split_u64-2.rest.now ≡ 0 = search rules in none),
+      c.in-Some-split_u64-2.ensures.1,
     )
 
 pub returns-in_default : goal.returns-in_default

@@ -1,4 +1,4 @@
-use Rattle.scan.proofs.Pieces.{join_law, short_law, last_law}
+use Rattle.scan.proofs.ReadaheadFacts.{join_law, short_law, last_law}
 use Rattle.scan.proofs.laws.pieces.Goals as goal
 
 pub returns-clause-joined : goal.returns-clause-joined

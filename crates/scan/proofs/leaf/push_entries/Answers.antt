@@ -1,6 +1,6 @@
 use Rattle.std.proofs.Common.{◌≡◌, [], ◌∷◌, ◌++◌, List, ℕ, arith, ap, refl, sym, ◌∙◌}
 use Rattle.std.specs.Option.{option_copied}
-use Rattle.scan.proofs.LeafWalk.{take_start, take_full, take_all, take_past, take_more}
+use Rattle.scan.proofs.LeafWalk.{take_start, take_full, take_all, next_past, take_more}
 use Rattle.scan.proofs.leaf.push_entries.Goals as goal
 
 pub entries-init : goal.entries-init
@@ -10,7 +10,7 @@ pub returns-then-len-limit : goal.returns-then-len-limit
 returns-then-len-limit g c = take_full c.args.entries.now c.args.lo.now (option_copied c.args.hi) c.args.limit c.entries.i c.args.pairs.now.items c.entries.pairs.items c.entries.invariant (omega (arith, c.len.ensures, c.entries.pairs.ok.0, c.if-len-limit.true))
 
 pub returns-then-not-is_before_end : goal.returns-then-not-is_before_end
-returns-then-not-is_before_end g c = take_past c.args.entries.now c.args.lo.now (option_copied c.args.hi) c.args.limit c.entries.i c.args.pairs.now.items c.entries.pairs.items c.entries.invariant c.index-entries-i.result c.requires (omega (arith, c.entries-test.true)) c.index-entries-i.is (sym c.is_before_end.ensures ∙ c.if-not-is_before_end.true)
+returns-then-not-is_before_end g c = next_past c.args.entries.now c.args.lo.now (option_copied c.args.hi) c.args.limit c.entries.i c.args.pairs.now.items c.entries.pairs.items c.entries.invariant c.index-entries-i.result c.requires (omega (arith, c.entries-test.true)) c.index-entries-i.is (sym c.is_before_end.ensures ∙ c.if-not-is_before_end.true)
 
 pub entries-preserved : goal.entries-preserved
 entries-preserved g c =

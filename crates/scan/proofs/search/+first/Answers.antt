@@ -1,4 +1,4 @@
-use Rattle.scan.proofs.search.+first.Goals.{first_of_slot-in-Nothing, first_of_slot-in_default-matches}
+use Rattle.scan.proofs.search.+first.Goals.{first_of_slot-in-Untouched, first_of_slot-in_default-matches}
 use Rattle.std.proofs.Common.{true≢false, arith, ap, sym, subst, ◌∙◌, ◌≡◌, ◌<◌, ◌+◌, ◌*◌, length, true, Some, None}
 use Rattle.std.specs.Option.{option_copied}
 use Rattle.node.specs.Meaning.{value}
@@ -11,7 +11,7 @@ use Rattle.pathkey.specs.Keys.{is_below}
 use Rattle.message.specs.Stretches.{ActAlike}
 use Rattle.scan.specs.Stretches.{slot_value}
 use Rattle.scan.specs.Pairs.{IsFirst}
-use Rattle.scan.proofs.OnStretches.{first_of_told, first_untouched, first_changed}
+use Rattle.scan.proofs.OnStretches.{first_of_resolved, first_untouched, first_changed}
 use Rattle.std.proofs.lemmas.Result.{IfOk-weaker}
 use Rattle.pathkey.proofs.KeyOrder.{reaches-refl}
 use Rattle.scan.proofs.Firsts.{none_past, as_called}
@@ -21,8 +21,8 @@ use Rattle.scan.proofs.search.+first.Goals as goal
 pub first-stretches-init : goal.first-stretches-init
 first-stretches-init g t c = at_start g.U.Update.means c.args.node.now c.args.lo.now c.in_ok-from.from c.in_ok-from.ensures (reaches-refl c.args.lo.now)
 
-pub first-stretch_end-requires : goal.first-stretch_end-requires
-first-stretch_end-requires g t c = from_below g.U.Update.means c.in-Inner.slots.items c.as_slice-in-stretches.result.now c.as_slice-in-stretches-2.result.now (option_copied c.args.hi) c.stretches.from c.slot_of-i.result (option_copied c.slot_end-end.result) c.as_slice-in-stretches.ensures.value c.as_slice-in-stretches-2.ensures.value c.slot_of-i.ensures.number (sym c.is_before_end.ensures ∙ c.stretches-test.true) c.slot_end-end.ensures
+pub first-segment_end-requires : goal.first-segment_end-requires
+first-segment_end-requires g t c = from_below g.U.Update.means c.in-Inner.slots.items c.as_slice-in-stretches.result.now c.as_slice-in-stretches-2.result.now (option_copied c.args.hi) c.stretches.from c.slot_of-i.result (option_copied c.slot_end-end.result) c.as_slice-in-stretches.ensures.value c.as_slice-in-stretches-2.ensures.value c.slot_of-i.ensures.number (sym c.is_before_end.ensures ∙ c.stretches-test.true) c.slot_end-end.ensures
 
 pub first-first_of_slot-requires : goal.first-first_of_slot-requires
 first-first_of_slot-requires g t c κs within =
@@ -106,8 +106,8 @@ first-returns g t c = none_past (value g.U.Update.means c.args.node.now) c.args.
 
 pub first_of_slot-returns-in-Value : goal.first_of_slot-returns-in-Value
 first_of_slot-returns-in-Value g t c =
-    let told = rw c.in-Value.is at c.in_ok-told.ensures in
-    let here = first_of_told g.U.Update.means c.args.slot.now.pending.0 (value g.U.Update.means c.args.slot.now.child.value) c.args.from.now (option_copied c.args.stop) c.requires.some c.requires.alike c.in-Value.value told in
+    let resolution = rw c.in-Value.is at c.in_ok-resolution.ensures in
+    let here = first_of_resolved g.U.Update.means c.args.slot.now.pending.0 (value g.U.Update.means c.args.slot.now.child.value) c.args.from.now (option_copied c.args.stop) c.requires.some c.requires.alike c.in-Value.value resolution in
     IfOk-weaker c.pair_at.result _ (IsFirst (slot_value g.U.Update.means c.args.slot.now) c.args.from.now (option_copied c.args.stop)) (λ r e. subst (IsFirst (slot_value g.U.Update.means c.args.slot.now) c.args.from.now (option_copied c.args.stop)) (sym e) here) c.pair_at.ensures
 
 pub first_of_slot-returns-then-matches : goal.first_of_slot-returns-then-matches
@@ -118,7 +118,7 @@ first_of_slot-returns-then-matches g t c =
     let stop = option_copied c.args.stop in
     let below = subst (λ n. IsFirst (value means n) from stop c.in_ok-below.below) c.deref.ensures c.in_ok-below.ensures in
     elim c.match-matches.branch [
-      | first_of_slot-in-Nothing w ↦ (let none = rw w.in-Nothing.is at c.in_ok-told.ensures in first_untouched means s.pending.0 (value means s.child.value) from stop c.requires.some c.requires.alike c.in_ok-below.below none.1 below)
+      | first_of_slot-in-Untouched w ↦ (let none = rw w.in-Untouched.is at c.in_ok-resolution.ensures in first_untouched means s.pending.0 (value means s.child.value) from stop c.requires.some c.requires.alike c.in_ok-below.below none.1 below)
       | first_of_slot-in_default-matches w ↦ absurd (true≢false (sym c.if-matches.true ∙ w.matches-is))
     ]
 

@@ -39,8 +39,8 @@ walk-stretches-init g t c = walk_start (value g.U.Update.means c.args.node.now) 
 pub walk-returns-then-len-limit : goal.walk-returns-then-len-limit
 walk-returns-then-len-limit g t c = walk_full (value g.U.Update.means c.args.node.now) c.args.lo.now (option_copied c.args.hi) c.args.limit c.stretches.from c.args.pairs.now.items c.stretches.pairs.items c.stretches.invariant (omega (arith, c.len.ensures, c.stretches.pairs.ok.0, c.if-len-limit.true))
 
-pub walk-cleared_end-requires : goal.walk-cleared_end-requires
-walk-cleared_end-requires g t c = from_below g.U.Update.means c.in-Inner.slots.items c.as_slice-in-stretches.result.now c.as_slice-in-stretches-2.result.now (option_copied c.args.hi) c.stretches.from c.slot_of-i.result (option_copied c.slot_end-end.result) c.as_slice-in-stretches.ensures.value c.as_slice-in-stretches-2.ensures.value c.slot_of-i.ensures.number (sym c.is_before_end.ensures ∙ c.stretches-test.true) c.slot_end-end.ensures
+pub walk-range_deleted_until-requires : goal.walk-range_deleted_until-requires
+walk-range_deleted_until-requires g t c = from_below g.U.Update.means c.in-Inner.slots.items c.as_slice-in-stretches.result.now c.as_slice-in-stretches-2.result.now (option_copied c.args.hi) c.stretches.from c.slot_of-i.result (option_copied c.slot_end-end.result) c.as_slice-in-stretches.ensures.value c.as_slice-in-stretches-2.ensures.value c.slot_of-i.ensures.number (sym c.is_before_end.ensures ∙ c.stretches-test.true) c.slot_end-end.ensures
 
 pub walk-walk_slot-requires : goal.walk-walk_slot-requires
 walk-walk_slot-requires g t c κs live =
@@ -110,13 +110,13 @@ walk-stretches-preserved g t c =
 pub walk-returns : goal.walk-returns
 walk-returns g t c = walk_past (value g.U.Update.means c.args.node.now) c.args.lo.now (option_copied c.args.hi) c.args.limit c.stretches.from c.args.pairs.now.items c.stretches.pairs.items c.stretches.invariant (sym c.is_before_end.ensures ∙ c.stretches-test.false)
 
-pub walk_slot-returns-then-is_cleared : goal.walk_slot-returns-then-is_cleared
-walk_slot-returns-then-is_cleared g t c =
+pub walk_slot-returns-then-is_range_deleted : goal.walk_slot-returns-then-is_range_deleted
+walk_slot-returns-then-is_range_deleted g t c =
     let means = g.U.Update.means in
     let s = c.args.slot.now in
     let from = c.args.from.now in
     let stop = option_copied c.args.stop in
-    on_ok_weaker c.merge.result (λ h. adds_cleared means s.pending.0 (value means s.child.value) from stop c.args.limit c.args.pairs.now.items c.merge.new.pairs.items c.requires.alike (sym c.is_cleared.ensures ∙ c.if-is_cleared.true) (subst (λ (ps : List (List ℕ × g.row.U-Value.Denot)). (f : List ℕ → Option g.row.U-Value.Denot) → AreAll f from stop ps → LeavesGaps means s.pending.0 f from stop → IsMerged means s.pending.0 f from stop c.args.limit ps c.args.pairs.now.items c.merge.new.pairs.items) c.new-none.ensures.items h)) c.merge.ensures
+    on_ok_weaker c.apply_pass.result (λ h. adds_cleared means s.pending.0 (value means s.child.value) from stop c.args.limit c.args.pairs.now.items c.apply_pass.new.pairs.items c.requires.alike (sym c.is_range_deleted.ensures ∙ c.if-is_range_deleted.true) (subst (λ (ps : List (List ℕ × g.row.U-Value.Denot)). (f : List ℕ → Option g.row.U-Value.Denot) → AreAll f from stop ps → LeavesGaps means s.pending.0 f from stop → IsMerged means s.pending.0 f from stop c.args.limit ps c.args.pairs.now.items c.apply_pass.new.pairs.items) c.new-none.ensures.items h)) c.apply_pass.ensures
 
 pub walk_slot-returns-then-is_none : goal.walk_slot-returns-then-is_none
 walk_slot-returns-then-is_none g t c =
@@ -125,7 +125,7 @@ walk_slot-returns-then-is_none g t c =
     let from = c.args.from.now in
     let stop = option_copied c.args.stop in
     let none : IsNextPoint s.pending.0 from stop None = subst (IsNextPoint s.pending.0 from stop) (copied_none c.next_point.result (c.is_none.ensures ∙ ap not c.if-is_none.true)) c.next_point.ensures in
-    on_ok_weaker c.walk.result (λ a. adds_pointless means s.pending.0 (value means s.child.value) from stop c.args.limit c.args.pairs.now.items c.walk.new.pairs.items (λ k w. c.requires.alike k w ∙ sym c.is_cleared.ensures ∙ c.if-is_cleared.false) none (subst (λ n. AddsScan (value means n) from stop c.args.limit c.args.pairs.now.items c.walk.new.pairs.items) c.deref.ensures a)) c.walk.ensures
+    on_ok_weaker c.walk.result (λ a. adds_pointless means s.pending.0 (value means s.child.value) from stop c.args.limit c.args.pairs.now.items c.walk.new.pairs.items (λ k w. c.requires.alike k w ∙ sym c.is_range_deleted.ensures ∙ c.if-is_range_deleted.false) none (subst (λ n. AddsScan (value means n) from stop c.args.limit c.args.pairs.now.items c.walk.new.pairs.items) c.deref.ensures a)) c.walk.ensures
 
 pub walk_rounds-rounds-init : goal.walk_rounds-rounds-init
 walk_rounds-rounds-init g t c = record {
@@ -186,7 +186,7 @@ round-returns-then-count-wanted g t c =
     let wanted = c.args.limit - c.len.result in
     let scan : IsScan child from stop wanted below = scan_added child from stop wanted c.new-below.result.items below c.new-below.ensures.items (subst (λ n. AddsScan (value means n) from stop wanted c.new-below.result.items below) c.deref.ensures c.in_ok-walk.ensures) in
     let few = all_fewer child from stop wanted below scan (omega (arith, c.len-count.ensures, c.walk.new.pairs.ok.0, c.if-count-wanted.true)) in
-    (c.in_ok-merge.ensures child few (gaps_clear means s.pending.0 child from stop c.requires.clear)).added
+    (c.in_ok-apply_pass.ensures child few (gaps_clear means s.pending.0 child from stop c.requires.clear)).added
 
 pub round-returns-then-len-limit : goal.round-returns-then-len-limit
 round-returns-then-len-limit g t c =
@@ -197,14 +197,14 @@ round-returns-then-len-limit g t c =
     let stop = option_copied c.args.stop in
     let below = c.walk.new.pairs.items in
     let old = c.args.pairs.now.items in
-    let new = c.merge-2.new.pairs.items in
+    let new = c.apply_pass-2.new.pairs.items in
     let next = c.in_ok-next.next in
     let count = c.len-count.result in
     let wanted = c.args.limit - c.len.result in
     let scan : IsScan child from stop wanted below = scan_added child from stop wanted c.new-below.result.items below c.new-below.ensures.items (subst (λ n. AddsScan (value means n) from stop wanted c.new-below.result.items below) c.deref.ensures c.in_ok-walk.ensures) in
     let l : count - 1 + 1 ≡ length below = omega (arith, c.len-count.ensures, c.walk.new.pairs.ok.0, c.if-count-wanted.false, c.requires.room, c.len.ensures, c.args.pairs.now.ok.0) in
-    let r = round_is means s.pending.0 child from stop c.args.limit below old new wanted scan (count - 1) c.index-last.result.now l c.index-last.ensures c.requires.clear next c.in_ok-next.ensures c.in_ok-merge-2.ensures in
-    adds_enough (slot_value means s) from next stop c.args.limit old new r.reached r.inside r.merged.added (omega (arith, c.len-2.ensures, c.merge-2.new.pairs.ok.0, c.if-len-limit.true))
+    let r = round_is means s.pending.0 child from stop c.args.limit below old new wanted scan (count - 1) c.index-last.result.now l c.index-last.ensures c.requires.clear next c.in_ok-next.ensures c.in_ok-apply_pass-2.ensures in
+    adds_enough (slot_value means s) from next stop c.args.limit old new r.reached r.inside r.merged.added (omega (arith, c.len-2.ensures, c.apply_pass-2.new.pairs.ok.0, c.if-len-limit.true))
 
 pub round-returns : goal.round-returns
 round-returns g t c =
@@ -215,14 +215,14 @@ round-returns g t c =
     let stop = option_copied c.args.stop in
     let below = c.walk.new.pairs.items in
     let old = c.args.pairs.now.items in
-    let new = c.merge-2.new.pairs.items in
+    let new = c.apply_pass-2.new.pairs.items in
     let next = c.in_ok-next.next in
     let count = c.len-count.result in
     let wanted = c.args.limit - c.len.result in
     let scan : IsScan child from stop wanted below = scan_added child from stop wanted c.new-below.result.items below c.new-below.ensures.items (subst (λ n. AddsScan (value means n) from stop wanted c.new-below.result.items below) c.deref.ensures c.in_ok-walk.ensures) in
     let l : count - 1 + 1 ≡ length below = omega (arith, c.len-count.ensures, c.walk.new.pairs.ok.0, c.if-count-wanted.false, c.requires.room, c.len.ensures, c.args.pairs.now.ok.0) in
-    let r = round_is means s.pending.0 child from stop c.args.limit below old new wanted scan (count - 1) c.index-last.result.now l c.index-last.ensures c.requires.clear next c.in_ok-next.ensures c.in_ok-merge-2.ensures in
-    let room : length new < c.args.limit = omega (arith, c.len-2.ensures, c.merge-2.new.pairs.ok.0, c.if-len-limit.false) in
+    let r = round_is means s.pending.0 child from stop c.args.limit below old new wanted scan (count - 1) c.index-last.result.now l c.index-last.ensures c.requires.clear next c.in_ok-next.ensures c.in_ok-apply_pass-2.ensures in
+    let room : length new < c.args.limit = omega (arith, c.len-2.ensures, c.apply_pass-2.new.pairs.ok.0, c.if-len-limit.false) in
     let enough : c.args.limit ≤ length old + length below = omega (arith, c.len-count.ensures, c.walk.new.pairs.ok.0, c.if-count-wanted.false, c.requires.room, c.len.ensures, c.args.pairs.now.ok.0) in
     record {
       reached = r.reached;

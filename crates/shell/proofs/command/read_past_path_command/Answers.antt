@@ -1,8 +1,8 @@
 use Rattle.std.proofs.Common.{◌≡◌, subst, sym, rules}
-use Rattle.shell.specs.declared.request.Look.TheVariants as look
+use Rattle.shell.specs.declared.request.ReadCall.TheVariants as look
 use Rattle.shell.specs.declared.request.Request.{Request}
 use Rattle.shell.specs.Requests.{IsReadAs, looking, past, past_path_command}
-use Rattle.lines.specs.Values.{path_of}
+use Rattle.textio.specs.Values.{path_of}
 use Rattle.shell.proofs.Asking.{look_read}
 use Rattle.shell.proofs.command.read_past_path_command.Goals as goal
 

@@ -1,4 +1,4 @@
-use Rattle.lines.specs.Lines.{lines_of}
+use Rattle.textio.specs.Lines.{lines_of}
 use Rattle.shell.proofs.OneAnswer.{answered_once}
 use Rattle.shell.proofs.laws.one_answer.Goals as goal
 

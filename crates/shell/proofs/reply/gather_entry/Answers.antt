@@ -1,6 +1,6 @@
 use Rattle.shell.specs.Replies.{entry_line}
 use Rattle.std.proofs.lemmas.Result.{on_err_weaker, on_ok_weaker}
-use Rattle.lines.proofs.Known.{gathers_written, on_err, part_after, part_before}
+use Rattle.textio.proofs.Known.{gathers_written, on_err, part_after, part_before}
 use Rattle.shell.proofs.reply.gather_entry.Goals as goal
 
 pub returns-in_err-write_out-clause-err : goal.returns-in_err-write_out-clause-err

@@ -1,8 +1,8 @@
 use Rattle.std.proofs.Common.{◌++◌, codes, sym}
 use Rattle.std.specs.List.{flat_map}
 use Rattle.reference.specs.Image.{percent}
-use Rattle.lines.proofs.Known.{gathered_before, gathered_part, gathers-trans, on_err}
-use Rattle.lines.proofs.Texts.{plain_text}
+use Rattle.textio.proofs.Known.{gathered_before, gathered_part, gathers-trans, on_err}
+use Rattle.textio.proofs.Texts.{plain_text}
 use Rattle.shell.specs.Replies.{name_word}
 use Rattle.shell.proofs.Texts.{gathers_same, part_same}
 use Rattle.shell.proofs.reply.gather_plain.Goals as goal

@@ -1,6 +1,6 @@
 use Rattle.std.proofs.Common.{◌++◌, codes}
-use Rattle.lines.specs.Texts.{hex_text}
-use Rattle.lines.proofs.Known.{on_err, part_after, part_before}
+use Rattle.textio.specs.Texts.{hex_text}
+use Rattle.textio.proofs.Known.{on_err, part_after, part_before}
 use Rattle.shell.proofs.reply.put_data.Goals as goal
 
 pub returns-in_err-put-clause-err : goal.returns-in_err-put-clause-err

@@ -2,11 +2,11 @@ use Rattle.std.proofs.Common.{[], sym, subst, ap, ◌∙◌}
 use Rattle.std.specs.List.{flat_map}
 use Rattle.std.specs.Io.KnownBytes.{Appends}
 use Rattle.std.proofs.lemmas.List.{take_all}
-use Rattle.lines.specs.Parts.{AppendsPart}
+use Rattle.textio.specs.Parts.{AppendsPart}
 use Rattle.shell.specs.Replies.{entry_line}
 use Rattle.std.proofs.lemmas.Result.{on_err_weaker, on_ok_weaker}
-use Rattle.lines.proofs.Known.{gathered_all, gathered_some, gathers-trans, on_err}
-use Rattle.lines.proofs.Texts.{each_gathered, taken_more}
+use Rattle.textio.proofs.Known.{gathered_all, gathered_some, gathers-trans, on_err}
+use Rattle.textio.proofs.Texts.{each_gathered, taken_more}
 use Rattle.shell.proofs.Texts.{entry_text, entries_text, gathers_same, part_same}
 use Rattle.shell.proofs.reply.put_entries.Goals as goal
 

@@ -1,6 +1,6 @@
 use Rattle.std.proofs.Common.{[], take}
 use Rattle.std.specs.List.{flat_map}
-use Rattle.lines.specs.Parts.{Gathers}
+use Rattle.textio.specs.Parts.{Gathers}
 use Rattle.shell.proofs.Texts.{entry_text}
 use Rattle.shell.proofs.reply.put_entries.Given as goal
 

@@ -3,9 +3,9 @@ use Rattle.std.specs.List.{flat_map}
 use Rattle.std.specs.Io.KnownBytes.{Appends}
 use Rattle.std.proofs.KnownBytes.{Appends-trans}
 use Rattle.reference.specs.Image.{percent}
-use Rattle.lines.specs.Parts.{AppendsPart}
+use Rattle.textio.specs.Parts.{AppendsPart}
 use Rattle.shell.specs.Replies.{name_word}
-use Rattle.lines.proofs.Known.{on_err, part_after, part_before}
+use Rattle.textio.proofs.Known.{on_err, part_after, part_before}
 use Rattle.shell.proofs.reply.put_entry.Goals as goal
 
 pub returns-in_err-put-clause-err : goal.returns-in_err-put-clause-err

@@ -2,10 +2,10 @@ use Rattle.std.proofs.Common.{sym, subst, ap, codes, length}
 use Rattle.std.specs.List.{flat_map}
 use Rattle.std.specs.Io.KnownBytes.{Appends}
 use Rattle.reference.specs.Pairs.{pairs_of}
-use Rattle.lines.specs.Parts.{AppendsPart}
+use Rattle.textio.specs.Parts.{AppendsPart}
 use Rattle.shell.specs.Replies.{entry_line}
-use Rattle.lines.specs.Texts.{number_line}
-use Rattle.lines.proofs.Known.{on_err, part_after, part_before}
+use Rattle.textio.specs.Texts.{number_line}
+use Rattle.textio.proofs.Known.{on_err, part_after, part_before}
 use Rattle.shell.proofs.Texts.{length_of_pairs}
 use Rattle.shell.proofs.reply.put_names.Goals as goal
 

@@ -1,10 +1,10 @@
 use Rattle.std.proofs.Common.{◌++◌, codes, decimal, subst}
 use Rattle.std.specs.Io.KnownBytes.{Appends}
 use Rattle.std.proofs.KnownBytes.{Appends-trans}
-use Rattle.lines.specs.Parts.{AppendsPart}
-use Rattle.lines.specs.Texts.{number_line}
+use Rattle.textio.specs.Parts.{AppendsPart}
+use Rattle.textio.specs.Texts.{number_line}
 use Rattle.shell.specs.Replies.{stat_word}
-use Rattle.lines.proofs.Known.{on_err, part_after, part_before}
+use Rattle.textio.proofs.Known.{on_err, part_after, part_before}
 use Rattle.shell.proofs.reply.put_stat.Goals as goal
 
 pub returns-in_err-put-clause-err : goal.returns-in_err-put-clause-err

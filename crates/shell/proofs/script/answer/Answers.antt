@@ -54,10 +54,10 @@ pub returns-in-Restore-clause-err : goal.returns-in-Restore-clause-err
 returns-in-Restore-clause-err g c = on_err_weaker _ (answers_settled _ _ _ _ _ (RestoreSnapshot c.in-Restore.name) _ (λ w text w'. answers_as _ _ w text w' c.in-Restore.is) c.restore-settled.ensures) c.put_settled-in-Restore.ensures.err
 
 pub returns-in-Past-clause-ok : goal.returns-in-Past-clause-ok
-returns-in-Past-clause-ok g c = on_ok_weaker _ (answers_look _ _ _ _ _ _ _ _ c.in-Past.is c.look_back-reply.ensures) c.put_reply-in-Past.ensures.ok
+returns-in-Past-clause-ok g c = on_ok_weaker _ (answers_look _ _ _ _ _ _ _ _ c.in-Past.is c.read_snapshot-reply.ensures) c.put_reply-in-Past.ensures.ok
 
 pub returns-in-Past-clause-err : goal.returns-in-Past-clause-err
-returns-in-Past-clause-err g c = on_err_weaker _ (answers_look _ _ _ _ _ _ _ _ c.in-Past.is c.look_back-reply.ensures) c.put_reply-in-Past.ensures.err
+returns-in-Past-clause-err g c = on_err_weaker _ (answers_look _ _ _ _ _ _ _ _ c.in-Past.is c.read_snapshot-reply.ensures) c.put_reply-in-Past.ensures.err
 
 pub returns-in-Silent-clause-ok : goal.returns-in-Silent-clause-ok
 returns-in-Silent-clause-ok g c = answers_kept _ _ _ _ [] c.in-Silent.is (λ w. (refl, refl)) (Appends-nil _)

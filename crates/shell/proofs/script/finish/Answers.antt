@@ -1,6 +1,6 @@
 use Rattle.std.proofs.Common.{◌≡◌, ◌<◌, [], length, rules}
 use Rattle.std.proofs.KnownBytes.{Appends-nil, Appends-kept}
-use Rattle.lines.proofs.Known.{all_is_part, on_err, on_ok}
+use Rattle.textio.proofs.Known.{all_is_part, on_err, on_ok}
 use Rattle.shell.proofs.Answering.{last_done, none_done}
 use Rattle.shell.proofs.script.finish.Goals as goal
 

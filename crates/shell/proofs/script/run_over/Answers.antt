@@ -1,6 +1,6 @@
 use Rattle.std.proofs.Common.{◌≡◌, [], arith, refl, rules}
 use Rattle.std.proofs.KnownBytes.{Appends-nil, Consumes-nil, Keeps-refl}
-use Rattle.lines.proofs.HeldFacts.{holds_nothing}
+use Rattle.textio.proofs.HeldFacts.{holds_nothing}
 use Rattle.shell.proofs.Progress.{went_nothing}
 use Rattle.shell.proofs.Reading.{ends, end_fails, flush_fails, piece_fails, read_fails, reads_more}
 use Rattle.shell.proofs.script.run_over.Goals as goal

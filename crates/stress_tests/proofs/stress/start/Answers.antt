@@ -6,4 +6,4 @@ use Rattle.stress_tests.proofs.tally.Tally.TheSendSync as tallies
 use Rattle.stress_tests.proofs.stress.start.Goals as goal
 
 pub spawn-requires-send-F : goal.spawn-requires-send-F
-spawn-requires-send-F g c = λ κs lives. let a = flusher_send (param 0 g.row.J) g.J.Naming in let b = client_send (param 0 g.row.J) g.J.Naming in search (tallies.the_sync, sendable, crosses) depth 20
+spawn-requires-send-F g c = λ κs lives. let a = flusher_send (param 0 g.row.J) g.J.EngineId in let b = client_send (param 0 g.row.J) g.J.EngineId in search (tallies.the_sync, sendable, crosses) depth 20

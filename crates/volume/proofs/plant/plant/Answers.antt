@@ -13,7 +13,7 @@ pub returns-clause-entry : goal.returns-clause-entry
 returns-clause-entry c =
     let faults = subst (λ (i : Indexes). (t : Tree) → IsMeantBy t i.meta → c.in_ok-fault.field-0 ≡ first_fault (faults_of_plant t c.args.path.now c.args.meta)) c.indexes.ensures c.in_ok-fault.ensures in
     planted_in c.args.live.now.indexes c.append.new.self.indexes c.args.path.now c.args.meta c.in_ok-fault.field-0 (messages c.in_ok-batch.batch)
-    c.moment_of-early.ensures.early c.one_put.ensures.valid c.in_default.is faults c.in_ok-batch.ensures.messages (record {
+    c.mtime_of-early.ensures.early c.one_put.ensures.valid c.in_default.is faults c.in_ok-batch.ensures.messages (record {
       taken = c.in_ok-append.ensures.done;
       no_meta = c.append.ensures.no_meta;
       no_block = c.append.ensures.no_block;

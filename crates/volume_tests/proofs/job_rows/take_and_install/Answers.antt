@@ -1,10 +1,10 @@
 use Rattle.std.proofs.Common.{sym, subst}
 use Rattle.volume.proofs.Holding.{built_held, still_held, taken_held}
 use Rattle.volume.specs.Jobs.{DoneFits}
-use Rattle.volume.specs.Held.{IsHeld}
+use Rattle.volume.specs.RunJob.{IsHeld}
 use Rattle.volume.specs.Volumes.{live_of}
 use Rattle.volume.specs.declared.event.Index.TheVariants.{Meta}
-use Rattle.volume.specs.declared.held.Held.TheVariants.{Taken, Built}
+use Rattle.volume.specs.declared.run_job.RunJob.TheVariants.{Taken, Built}
 use Rattle.volume_tests.proofs.job_rows.take_and_install.Goals.{then-cancelled, else-cancelled}
 use Rattle.volume_tests.proofs.job_rows.take_and_install.Goals as goal
 

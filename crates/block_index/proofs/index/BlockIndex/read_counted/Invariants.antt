@@ -1,6 +1,6 @@
 use Rattle.std.proofs.Common.{◌≡◌, ◌+◌, ◌/◌, length, List, ℕ, Some}
 use Rattle.reference.specs.Tree.{Tree}
-use Rattle.reference.specs.Looks.{look, Bytes}
+use Rattle.reference.specs.Reads.{look, Bytes}
 use Rattle.reference.specs.Indexes.{BlocksMean}
 use Rattle.block_index.specs.Means.{blocks}
 use Rattle.block_index.proofs.Reading.{SoFar}

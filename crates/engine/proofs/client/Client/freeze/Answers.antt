@@ -29,4 +29,4 @@ returns-clause-seen g c =
 pub returns-clause-tree : goal.returns-clause-tree
 returns-clause-tree g c =
     let now = ap (λ (vs : List View). (first_view vs).seen) c.into_badge.ensures.2 in
-    subst (λ (h : List Entry). IfOk c.freeze-seat.result.1 (λ f. Shows g.J.Naming.opening h f)) (sym now) c.freeze-seat.ensures.tree
+    subst (λ (h : List Entry). IfOk c.freeze-seat.result.1 (λ f. Shows g.J.EngineId.opening h f)) (sym now) c.freeze-seat.ensures.tree

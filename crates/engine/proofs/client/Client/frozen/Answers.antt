@@ -27,4 +27,4 @@ returns-clause-seen g c =
 pub returns-clause-tree : goal.returns-clause-tree
 returns-clause-tree g c =
     let now = ap (λ (vs : List View). (first_view vs).seen) c.into_badge.ensures.2 in
-    subst (λ (h : List Entry). FindsAfter g.J.Naming.opening h c.args.name.now c.frozen-seat.result.1) (sym now) c.frozen-seat.ensures.tree
+    subst (λ (h : List Entry). FindsAfter g.J.EngineId.opening h c.args.name.now c.frozen-seat.result.1) (sym now) c.frozen-seat.ensures.tree

@@ -11,7 +11,7 @@ into_seat-seat-requires g c = (_, ap (λ b. b.views) c.replace.ensures.value ∙
 pub invariant_of-self : goal.invariant_of-self
 invariant_of-self g c =
     let i = c.self.invariant in
-    let p = c.turn-seat.ensures in
+    let p = c.run_turn-seat.ensures in
     let was = ap (λ b. b.views) (sym c.replace.ensures.value) ∙ c.into_seat-seat.ensures.2 in
     let now = c.into_badge.ensures in
     (now.0 ∙ p.flusher.0, stays-after _ _ _ _ _ i.1 was p.watches now.2 (ap (λ (m : Seated). m.0) p.flusher.1))
@@ -19,11 +19,11 @@ invariant_of-self g c =
 pub returns-clause-watches : goal.returns-clause-watches
 returns-clause-watches g c =
     let i = c.self.invariant in
-    let p = c.turn-seat.ensures in
+    let p = c.run_turn-seat.ensures in
     let was = ap (λ b. b.views) (sym c.replace.ensures.value) ∙ c.into_seat-seat.ensures.2 in
     watches-after _ _ _ _ _ i.1 was p.watches c.into_badge.ensures.2 _ c.self.view_is
 
 pub returns-clause-turned : goal.returns-clause-turned
 returns-clause-turned g c =
     let was = ap (λ b. b.views) (sym c.replace.ensures.value) ∙ c.into_seat-seat.ensures.2 in
-    seen-after (Turns g.J.Naming.opening c.turn-seat.result.1) _ _ _ _ was c.into_badge.ensures.2 c.turn-seat.ensures.turned _ c.self.view_is
+    seen-after (Turns g.J.EngineId.opening c.run_turn-seat.result.1) _ _ _ _ was c.into_badge.ensures.2 c.run_turn-seat.ensures.turned _ c.self.view_is

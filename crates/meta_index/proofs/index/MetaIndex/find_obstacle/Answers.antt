@@ -20,8 +20,8 @@ climb-preserved c =
     subst (λ (a : Option Path). Decides c.args.self.now c.args.path.now a) (sym c.in_ok-ancestor-2.ensures)
     (parent_decides_for c.args.self.now c.args.path.now c.in-Some.above c.key.ensures.valid none here)
 
-pub returns-in-Some-2-clause-told : goal.returns-in-Some-2-clause-told
-returns-in-Some-2-clause-told c =
+pub returns-in-Some-2-clause-reported : goal.returns-in-Some-2-clause-reported
+returns-in-Some-2-clause-reported c =
     let some = sym c.in-Some-2.is ∙ c.in_ok-meta.ensures ∙ ap (λ (k : List ℕ). value means c.args.self.now.tree.root k) c.key.ensures.value in
     let here = subst (λ (a : Option Path). Decides c.args.self.now c.args.path.now a) c.in-Some.is c.climb.invariant in
-    decided c.args.self.now c.args.path.now c.in-Some.above c.in-Some-2.meta c.below.result c.key.ensures.valid some here c.below.ensures.told
+    decided c.args.self.now c.args.path.now c.in-Some.above c.in-Some-2.meta c.below.result c.key.ensures.valid some here c.below.ensures.reported

@@ -24,6 +24,6 @@ returns-in-Pending-Inner-clause-bound g c =
     let e : own Pending c.args.node.now ≡ pending ss = ap (own Pending) (sym was) in
     let f : own c.args.quantity c.args.node.now ≡ own Pending c.args.node.now = ap (λ q. own q c.args.node.now) c.in-Pending-Inner.is-0 in
     let w : width c.args.node.now ≡ slot_count ss = ap width (sym was) in
-    let x : c.held.result ≡ pending ss = c.held.ensures.exact ∙ ap (λ z. pending (seen_slots z)) c.as_slice.ensures.value in
+    let x : c.pending_len.result ≡ pending ss = c.pending_len.ensures.exact ∙ ap (λ z. pending (seen_slots z)) c.as_slice.ensures.value in
     let y : length c.as_slice.result.now ≡ length items = ap length c.as_slice.ensures.value in
-    omega (arith, e, f, w, x, y, slot_count-slots items, c.held.ensures.bound)
+    omega (arith, e, f, w, x, y, slot_count-slots items, c.pending_len.ensures.bound)

@@ -12,7 +12,7 @@ use Rattle.node.proofs.node.descend.+descend.Goals as goal
 pub returns-in_default : goal.returns-in_default
 returns-in_default g t c =
     let same = ⊎_elim (λ x. x) (λ x. x) (rw c.in_default.is at c.make_mut.follows.holds-at-none) in
-    at_same c.args.place.now NoMemory (Replies g.U.Update.means g.C.Change.kind c.args.shape c.args.root c.args.slot NoMemory) c.args.node.now.value _ same tt (λ ss. refl)
+    at_same c.args.place.now NoMemory (Replies g.U.Update.means g.C.SlotStep.kind c.args.shape c.args.root c.args.slot NoMemory) c.args.node.now.value _ same tt (λ ss. refl)
 
 pub returns-then-i-len : goal.returns-then-i-len
 returns-then-i-len g t c =
@@ -23,8 +23,8 @@ returns-then-i-len g t c =
     let was : inner (seen_slots items) ≡ c.args.node.now.value = ap see (sym c.in-Inner.is) ∙ c.body_mut.ensures.value ∙ own in
     let new = c.make_mut.follows.holds (inner (seen_slots items)) (ap is_ok c.in-Ok.is) ∙ was in
     let none : slots_at (i ∷ c.in-Some.rest.now) (inner (seen_slots items)) ≡ None = of_child-past None (slots_at c.in-Some.rest.now) items i h in
-    let gone : slots_at c.args.place.now c.args.node.now.value ≡ None = ap (λ p. slots_at p c.args.node.now.value) c.in-Some.ensures.cases.0 ∙ ap (slots_at (i ∷ c.in-Some.rest.now)) (sym was) ∙ none in
-    at_none c.args.place.now NotThere (Replies g.U.Update.means g.C.Change.kind c.args.shape c.args.root c.args.slot NotThere) c.args.node.now.value _ new tt gone
+    let consumed : slots_at c.args.place.now c.args.node.now.value ≡ None = ap (λ p. slots_at p c.args.node.now.value) c.in-Some.ensures.cases.0 ∙ ap (slots_at (i ∷ c.in-Some.rest.now)) (sym was) ∙ none in
+    at_none c.args.place.now NotThere (Replies g.U.Update.means g.C.SlotStep.kind c.args.shape c.args.root c.args.slot NotThere) c.args.node.now.value _ new tt consumed
 
 pub returns : goal.returns
 returns g t c =
@@ -32,8 +32,8 @@ returns g t c =
     let i = c.in-Some.first.now in
     let h : i < length items = omega arith in
     let own = ⊎_elim (λ x. x) (λ x. x) (rw c.in-Ok.is at c.make_mut.ensures.value) in
-    let R = Replies g.U.Update.means g.C.Change.kind c.args.shape c.args.root c.args.slot c.descend-reply.result in
-    at_below c.args.place.now c.in-Some.rest.now c.descend-reply.result R items i c.index_mut.result.now _ c.descend-reply.new.node.value c.args.node.now.value _ c.in-Some.ensures.cases.0 h c.index_mut.ensures.value refl refl refl c.descend-reply.ensures (ap see (sym c.in-Inner.is) ∙ c.body_mut.ensures.value ∙ own) (c.make_mut.follows.holds _ (ap is_ok c.in-Ok.is) ∙ c.weigh-2.ensures)
+    let R = Replies g.U.Update.means g.C.SlotStep.kind c.args.shape c.args.root c.args.slot c.descend-reply.result in
+    at_below c.args.place.now c.in-Some.rest.now c.descend-reply.result R items i c.index_mut.result.now _ c.descend-reply.new.node.value c.args.node.now.value _ c.in-Some.ensures.cases.0 h c.index_mut.ensures.value refl refl refl c.descend-reply.ensures (ap see (sym c.in-Inner.is) ∙ c.body_mut.ensures.value ∙ own) (c.make_mut.follows.holds _ (ap is_ok c.in-Ok.is) ∙ c.update_weight-2.ensures)
 
 pub descend-reply-requires : goal.descend-reply-requires
 descend-reply-requires g t c κs within =

@@ -6,10 +6,10 @@ use Rattle.pending.proofs.pending.Pending.range_deletes.Goals as goal
 
 pub returns : goal.returns
 returns g c =
-    let n = c.args.gone in
+    let n = c.args.consumed in
     let k = c.min-sorted.result in
     let xs = c.self.inside.sorted in
-    let ys = c.self.inside.fresh.0 in
+    let ys = c.self.inside.tail_msgs.0 in
     let most : k ≤ n = omega (arith, c.min-sorted.ensures) in
     let fits : k ≤ length xs = omega (arith, c.min-sorted.ensures, c.len.ensures.len) in
     let all : k < n → length xs ≤ k = λ h. omega (arith, h, c.min-sorted.ensures, c.len.ensures.len) in

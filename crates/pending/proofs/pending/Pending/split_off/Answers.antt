@@ -10,9 +10,9 @@ returns-clause-front g c =
     let means = g.U.Update.means in
     let lo = c.args.lo.now in
     let p = c.args.pivot.now in
-    let still : c.move_off.new.self ≡ c.args.self.now = rw c.in_default.is at c.in_ok-back.ensures.front in
-    let all = drop c.args.gone c.args.self.now.0 in
-    let rest : c.drop_front.new.self.0 ≡ all = c.drop_front.ensures.messages ∙ ap (λ t. drop c.args.gone t) (c.in_ok-rest.ensures ∙ ap (λ (t : _). t.0) still) in
+    let still : c.move_tail_off.new.self ≡ c.args.self.now = rw c.in_default.is at c.in_ok-back.ensures.front in
+    let all = drop c.args.consumed c.args.self.now.0 in
+    let rest : c.drop_front.new.self.0 ≡ all = c.drop_front.ensures.messages ∙ ap (λ t. drop c.args.consumed t) (c.in_ok-rest.ensures ∙ ap (λ (t : _). t.0) still) in
     let parts = pieces lo (Some p) all in
     let same = c.in_ok-front-2.ensures.back ∙ ap (λ t. pieces lo None t) c.in_ok-front.ensures.front ∙ cut_twice lo p c.drop_front.new.self.0 ∙ ap (λ t. pieces lo (Some p) t) rest in
     subst (λ t. Takes means [] parts t) (sym same) (takes-append means [] parts)
@@ -21,9 +21,9 @@ pub returns-clause-back : goal.returns-clause-back
 returns-clause-back g c =
     let means = g.U.Update.means in
     let p = c.args.pivot.now in
-    let still : c.move_off.new.self ≡ c.args.self.now = rw c.in_default.is at c.in_ok-back.ensures.front in
-    let all = drop c.args.gone c.args.self.now.0 in
-    let rest : c.drop_front.new.self.0 ≡ all = c.drop_front.ensures.messages ∙ ap (λ t. drop c.args.gone t) (c.in_ok-rest.ensures ∙ ap (λ (t : _). t.0) still) in
+    let still : c.move_tail_off.new.self ≡ c.args.self.now = rw c.in_default.is at c.in_ok-back.ensures.front in
+    let all = drop c.args.consumed c.args.self.now.0 in
+    let rest : c.drop_front.new.self.0 ≡ all = c.drop_front.ensures.messages ∙ ap (λ t. drop c.args.consumed t) (c.in_ok-rest.ensures ∙ ap (λ (t : _). t.0) still) in
     let parts = pieces p None all in
     let same = c.in_ok-front.ensures.back ∙ ap (λ t. pieces p None t) rest in
     subst (λ t. Takes means [] parts t) (sym same) (takes-append means [] parts)

@@ -9,7 +9,7 @@ returns g c =
     let means = g.U.Update.means in
     let k = c.args.key.now in
     let s = c.self.inside.sorted in
-    let f = c.self.inside.fresh.0 in
-    IfOk-weaker c.lay_over.result (λ v. v ≡ effects means f k c.in_ok-value.value) (λ v. v ≡ effects means c.args.self.now.0 k c.args.old)
+    let f = c.self.inside.tail_msgs.0 in
+    IfOk-weaker c.apply_msgs.result (λ v. v ≡ effects means f k c.in_ok-value.value) (λ v. v ≡ effects means c.args.self.now.0 k c.args.old)
     (λ v h. value_behind means s f c.args.self.now.0 k c.args.old c.in_ok-value.value v (ap (λ p. p.0) c.self.view_is) c.in_ok-value.ensures h)
-    c.lay_over.ensures
+    c.apply_msgs.ensures

@@ -7,7 +7,7 @@ use Rattle.pending.proofs.tail.Tail.count_ranges.Goals as goal
 
 pub returns-clause-count : goal.returns-clause-count
 returns-clause-count g c =
-    let n = c.args.gone in
+    let n = c.args.consumed in
     let k = c.min-first.result in
     let xs = c.as_slices.result.0.now in
     let ys = c.as_slices.result.1.now in

@@ -12,6 +12,6 @@ returns g c =
     let xs = c.as_slices.result.0.now in
     let ys = c.as_slices.result.1.now in
     let whole : xs ++ ys ≡ c.args.self.now.0 = c.as_slices.ensures.items ∙ ap (λ p. p.0) c.self.view_is in
-    IfOk-weaker c.stretch_end-2.result _ (λ stop. IsStretch c.args.self.now.0 from end stop)
+    IfOk-weaker c.segment_end-2.result _ (λ stop. IsStretch c.args.self.now.0 from end stop)
     (λ stop y. subst (λ ms. IsStretch ms from end stop) whole (stretch_then xs ys from end c.in_ok-stop.stop stop c.in_ok-stop.ensures (subst (λ o. IsStretch ys from o stop) c.as_ref.ensures.value y)))
-    c.stretch_end-2.ensures
+    c.segment_end-2.ensures

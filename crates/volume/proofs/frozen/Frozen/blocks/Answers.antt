@@ -24,5 +24,5 @@ returns-clause-few c =
     let limit = c.args.limit in
     let pairs = c.in_ok-pairs.pairs.items in
     let found = found_in c.indexes.result.now i c.in_ok-rest.rest (blocks_from p n) limit pairs c.indexes.ensures c.in_ok-rest.ensures c.in_ok-pairs.ensures in
-    let of_file = all_of_blocks c.means_a_tree.ensures.tree (blocks i.block) c.means_a_tree.ensures.means.indexes.blocks p c.key-key.ensures.valid n limit c.ranges.from.fits pairs found in
+    let of_file = all_of_blocks c.assert_invariant.ensures.tree (blocks i.block) c.assert_invariant.ensures.means.indexes.blocks p c.key-key.ensures.valid n limit c.ranges.from.fits pairs found in
     IfOk-weaker c.with_numbers.result _ _ (λ v reads. (reads.of_path p of_file).few) c.with_numbers.ensures

@@ -9,5 +9,5 @@ invariant_of-self c =
       world = c.self.invariant.world;
       means = means_with old c.cancel_all.new.self c.cancel_all.ensures.indexes c.self.invariant.world c.self.invariant.means;
       few = c.self.invariant.few;
-      stands = c.stands.ensures;
+      stands = c.assert_invariant.ensures;
     }

@@ -1,5 +1,5 @@
 use Rattle.std.proofs.Common.{◌≡◌, take}
-use Rattle.volume.specs.Held.{without_held}
+use Rattle.volume.specs.RunJob.{without_held}
 use Rattle.volume.proofs.volume.Volume.cancel_held.Given as goal
 
 abbrev pub invariant-loop-job : goal.invariant-loop-job

@@ -7,12 +7,12 @@ use Rattle.volume.specs.Typed.{Compiles}
 use Rattle.volume.proofs.volume.Volume.create.Goals as goal
 
 pub send-requires : goal.send-requires
-send-requires c = (Create c.args.path.now, record { compiles = subst (λ (i : Indexes). Compiles i (Create c.args.path.now) c.args.at c.create-compiled.result) c.indexes.ensures c.create-compiled.ensures; root = c.stands_in_root.ensures })
+send-requires c = (Create c.args.path.now, record { compiles = subst (λ (i : Indexes). Compiles i (Create c.args.path.now) c.args.at c.create-compiled.result) c.indexes.ensures c.create-compiled.ensures; root = c.is_root_child.ensures })
 
-pub settled-requires : goal.settled-requires
-settled-requires c = c.send.ensures.kind (Create c.args.path.now) (subst (λ (i : Indexes). Compiles i (Create c.args.path.now) c.args.at c.create-compiled.result) c.indexes.ensures c.create-compiled.ensures)
+pub done_or_errno-requires : goal.done_or_errno-requires
+done_or_errno-requires c = c.send.ensures.kind (Create c.args.path.now) (subst (λ (i : Indexes). Compiles i (Create c.args.path.now) c.args.at c.create-compiled.result) c.indexes.ensures c.create-compiled.ensures)
 
 pub returns : goal.returns
 returns c =
-    subst (λ (r : Reply). Called (Create c.args.path.now) c.args.at r c.args.self.now c.send.new.self) (sym c.settled.ensures)
-    (c.send.ensures.called (Create c.args.path.now) (record { compiles = subst (λ (i : Indexes). Compiles i (Create c.args.path.now) c.args.at c.create-compiled.result) c.indexes.ensures c.create-compiled.ensures; root = c.stands_in_root.ensures }))
+    subst (λ (r : Reply). Called (Create c.args.path.now) c.args.at r c.args.self.now c.send.new.self) (sym c.done_or_errno.ensures)
+    (c.send.ensures.called (Create c.args.path.now) (record { compiles = subst (λ (i : Indexes). Compiles i (Create c.args.path.now) c.args.at c.create-compiled.result) c.indexes.ensures c.create-compiled.ensures; root = c.is_root_child.ensures }))

@@ -15,7 +15,7 @@ invariant_of-self c =
       world = c.self.invariant.world;
       means = means_same old c.install-reply.new.self c.install-reply.ensures.values c.self.invariant.world c.self.invariant.means;
       few = c.self.invariant.few;
-      stands = c.stands.ensures;
+      stands = c.assert_invariant.ensures;
     }
 
 pub returns-clause-answers : goal.returns-clause-answers

@@ -12,7 +12,7 @@ returns-in-Ok-clause-called c = λ k at l h. looked k at c.in-Ok.reply (messages
 
 pub returns-in-Ok-clause-kind : goal.returns-in-Ok-clause-kind
 returns-in-Ok-clause-kind c = λ k at h.
-    compiled_kind k at c.in-Ok.reply (messages c.in-Ok.field-0-1) c.args.self.now.live.indexes c.means_a_world.ensures.world.live c.means_a_world.ensures.means.live.indexes
+    compiled_kind k at c.in-Ok.reply (messages c.in-Ok.field-0-1) c.args.self.now.live.indexes c.assert_invariant.ensures.world.live c.assert_invariant.ensures.means.live.indexes
     (subst (Compiles c.args.self.now.live.indexes k at) c.in-Ok.is h)
 
 pub returns-clause-called : goal.returns-clause-called

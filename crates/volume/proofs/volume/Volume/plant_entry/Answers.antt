@@ -10,7 +10,7 @@ invariant_of-self c =
     let e = c.plant-answer.ensures in
     let old : PVolume = volume c.self.inside.live c.self.inside.modified c.self.inside.snapshots in
     subst (λ n. IsVolume (volume c.plant-answer.new.live n c.self.inside.snapshots)) (sym c.after_planting-self-inside.ensures)
-    (lasts_planted old c.plant-answer.new.live c.args.path.now c.args.meta c.plant-answer.result c.self.invariant (record { entry = e.entry; lists = e.lists; marks = e.marks; kept = e.kept }) c.stands.ensures)
+    (lasts_planted old c.plant-answer.new.live c.args.path.now c.args.meta c.plant-answer.result c.self.invariant (record { entry = e.entry; lists = e.lists; marks = e.marks; kept = e.kept }) c.assert_invariant.ensures)
 
 pub returns : goal.returns
 returns c =

@@ -5,25 +5,25 @@ use Rattle.call_compiler.specs.declared.indexes.Indexes.{Indexes}
 use Rattle.reference.specs.Worlds.{RestoreSnapshot, Settled}
 use Rattle.volume.specs.Changes.{Settles, Restored}
 use Rattle.volume.specs.Volumes.{PVolume}
-use Rattle.volume.specs.declared.rooted.Rooted.{Rooted}
+use Rattle.volume.specs.declared.fs_root.FsRoot.{FsRoot}
 use Rattle.volume.proofs.Leading.{volume, snapshot_restored, put_back, lasts}
 use Rattle.volume.proofs.volume.Volume.restore.Goals as goal
 
 pub invariant_of-self : goal.invariant_of-self
 invariant_of-self c =
-    let kept : Rooted = c.in-Some.kept.now in
+    let snapshot_root : FsRoot = c.in-Some.snapshot_root.now in
     let old : PVolume = volume c.self.inside.live c.self.inside.modified c.self.inside.snapshots in
-    let there : finite.get c.self.inside.snapshots c.args.name.now ≡ Some kept = sym c.get.ensures ∙ ap option_copied c.in-Some.is in
-    let e : finite.get c.self.inside.snapshots c.args.name.now ≡ Some (record { indexes = c.replace.new.self.indexes; modified = kept.modified }) =
-    there ∙ ap (λ (i : Indexes). Some (record { indexes = i; modified = kept.modified })) (sym (c.replace.ensures.indexes ∙ c.in_ok-copy.ensures)) in
-    lasts old (volume c.replace.new.self kept.modified c.self.inside.snapshots) (RestoreSnapshot c.args.name.now) (Settled (Ok tt)) c.self.invariant (put_back old c.args.name.now c.replace.new.self kept.modified e) c.self.invariant.few c.stands.ensures
+    let there : finite.get c.self.inside.snapshots c.args.name.now ≡ Some snapshot_root = sym c.get.ensures ∙ ap option_copied c.in-Some.is in
+    let e : finite.get c.self.inside.snapshots c.args.name.now ≡ Some (record { indexes = c.replace.new.self.indexes; modified = snapshot_root.modified }) =
+    there ∙ ap (λ (i : Indexes). Some (record { indexes = i; modified = snapshot_root.modified })) (sym (c.replace.ensures.indexes ∙ c.in_ok-copy.ensures)) in
+    lasts old (volume c.replace.new.self snapshot_root.modified c.self.inside.snapshots) (RestoreSnapshot c.args.name.now) (Settled (Ok tt)) c.self.invariant (put_back old c.args.name.now c.replace.new.self snapshot_root.modified e) c.self.invariant.few c.assert_invariant.ensures
 
 pub returns : goal.returns
 returns c =
-    let kept : Rooted = c.in-Some.kept.now in
+    let snapshot_root : FsRoot = c.in-Some.snapshot_root.now in
     let old : PVolume = volume c.self.inside.live c.self.inside.modified c.self.inside.snapshots in
-    let there : finite.get c.self.inside.snapshots c.args.name.now ≡ Some kept = sym c.get.ensures ∙ ap option_copied c.in-Some.is in
-    let e : finite.get c.self.inside.snapshots c.args.name.now ≡ Some (record { indexes = c.replace.new.self.indexes; modified = kept.modified }) =
-    there ∙ ap (λ (i : Indexes). Some (record { indexes = i; modified = kept.modified })) (sym (c.replace.ensures.indexes ∙ c.in_ok-copy.ensures)) in
-    subst (λ (v : PVolume). Settles (RestoreSnapshot c.args.name.now) (Restored c.args.name.now) (Ok tt) v (volume c.replace.new.self kept.modified c.self.inside.snapshots)) c.self.view_is
-    (snapshot_restored old c.args.name.now c.replace.new.self kept.modified e c.replace.ensures.marks c.replace.ensures.kept)
+    let there : finite.get c.self.inside.snapshots c.args.name.now ≡ Some snapshot_root = sym c.get.ensures ∙ ap option_copied c.in-Some.is in
+    let e : finite.get c.self.inside.snapshots c.args.name.now ≡ Some (record { indexes = c.replace.new.self.indexes; modified = snapshot_root.modified }) =
+    there ∙ ap (λ (i : Indexes). Some (record { indexes = i; modified = snapshot_root.modified })) (sym (c.replace.ensures.indexes ∙ c.in_ok-copy.ensures)) in
+    subst (λ (v : PVolume). Settles (RestoreSnapshot c.args.name.now) (Restored c.args.name.now) (Ok tt) v (volume c.replace.new.self snapshot_root.modified c.self.inside.snapshots)) c.self.view_is
+    (snapshot_restored old c.args.name.now c.replace.new.self snapshot_root.modified e c.replace.ensures.marks c.replace.ensures.kept)

@@ -7,12 +7,12 @@ use Rattle.volume.specs.Typed.{Compiles}
 use Rattle.volume.proofs.volume.Volume.rmdir.Goals as goal
 
 pub send-requires : goal.send-requires
-send-requires c = (Rmdir c.args.path.now, record { compiles = subst (λ (i : Indexes). Compiles i (Rmdir c.args.path.now) c.args.at c.rmdir-compiled.result) c.indexes.ensures c.rmdir-compiled.ensures; root = c.stands_in_root.ensures })
+send-requires c = (Rmdir c.args.path.now, record { compiles = subst (λ (i : Indexes). Compiles i (Rmdir c.args.path.now) c.args.at c.rmdir-compiled.result) c.indexes.ensures c.rmdir-compiled.ensures; root = c.is_root_child.ensures })
 
-pub settled-requires : goal.settled-requires
-settled-requires c = c.send.ensures.kind (Rmdir c.args.path.now) (subst (λ (i : Indexes). Compiles i (Rmdir c.args.path.now) c.args.at c.rmdir-compiled.result) c.indexes.ensures c.rmdir-compiled.ensures)
+pub done_or_errno-requires : goal.done_or_errno-requires
+done_or_errno-requires c = c.send.ensures.kind (Rmdir c.args.path.now) (subst (λ (i : Indexes). Compiles i (Rmdir c.args.path.now) c.args.at c.rmdir-compiled.result) c.indexes.ensures c.rmdir-compiled.ensures)
 
 pub returns : goal.returns
 returns c =
-    subst (λ (r : Reply). Called (Rmdir c.args.path.now) c.args.at r c.args.self.now c.send.new.self) (sym c.settled.ensures)
-    (c.send.ensures.called (Rmdir c.args.path.now) (record { compiles = subst (λ (i : Indexes). Compiles i (Rmdir c.args.path.now) c.args.at c.rmdir-compiled.result) c.indexes.ensures c.rmdir-compiled.ensures; root = c.stands_in_root.ensures }))
+    subst (λ (r : Reply). Called (Rmdir c.args.path.now) c.args.at r c.args.self.now c.send.new.self) (sym c.done_or_errno.ensures)
+    (c.send.ensures.called (Rmdir c.args.path.now) (record { compiles = subst (λ (i : Indexes). Compiles i (Rmdir c.args.path.now) c.args.at c.rmdir-compiled.result) c.indexes.ensures c.rmdir-compiled.ensures; root = c.is_root_child.ensures }))

@@ -3,7 +3,7 @@ use Rattle.std.proofs.Math.Seq.{take-length}
 use Rattle.std.proofs.lemmas.List.{drop_more, take_more}
 use Rattle.volume.specs.declared.event.Answer.{Answer}
 use Rattle.volume.specs.declared.event.Event.{Event}
-use Rattle.volume.specs.declared.held.Held.{Held}
+use Rattle.volume.specs.declared.run_job.RunJob.{RunJob}
 use Rattle.volume.specs.Runs.{PRun, Chain, begun, ended, takings}
 use Rattle.volume.proofs.Runs.{chain_more, chain_ran, link_count, takings_first}
 use Rattle.volume.proofs.volume.Volume.run.Goals as goal
@@ -17,7 +17,7 @@ loop-event-preserved c =
     let old : PRun = record { volume = c.loop-event.self; held = c.loop-event.held.items } in
     let new : PRun = record { volume = c.answer-answer.new.self; held = c.answer-answer.new.held.items } in
     let more : Chain (begun c.args.self.now) (take c.loop-event.event-index c.args.events.now ++ c.event-item.result ∷ []) (c.loop-event.answers.items ++ c.answer-answer.result ∷ []) new =
-    chain_more (take c.loop-event.event-index c.args.events.now) c.loop-event.answers.items c.event-item.result c.answer-answer.result (begun c.args.self.now) old new c.loop-event.invariant.chain c.answer-answer.ensures.link c.means_a_world-in-loop-event.ensures in
+    chain_more (take c.loop-event.event-index c.args.events.now) c.loop-event.answers.items c.event-item.result c.answer-answer.result (begun c.args.self.now) old new c.loop-event.invariant.chain c.answer-answer.ensures.link c.assert_invariant-in-loop-event.ensures in
     let ahead : takings (drop c.loop-event.event-index c.args.events.now) ≡ takings (c.event-item.result ∷ []) + takings (drop (c.loop-event.event-index + 1) c.args.events.now) =
     ap takings (drop_more c.args.events.now c.loop-event.event-index c.event-item.result h)
     ∙ ap (λ (x : Event). takings (x ∷ drop (c.loop-event.event-index + 1) c.args.events.now)) (sym c.event-item.is)
@@ -37,6 +37,6 @@ returns-clause-ran c =
     let all : c.loop-event.event-index ≡ length c.args.events.now = omega arith in
     let e : take c.loop-event.event-index c.args.events.now ≡ c.args.events.now = ap (λ n. take n c.args.events.now) all ∙ take-length c.args.events.now in
     let last : PRun = record { volume = c.loop-event.self; held = c.loop-event.held.items } in
-    chain_ran c.args.events.now c.loop-event.answers.items c.args.self.now c.cancel_held.new.self last c.means_a_world.ensures
+    chain_ran c.args.events.now c.loop-event.answers.items c.args.self.now c.cancel_held.new.self last c.assert_invariant.ensures
     (subst (λ (es : List Event). Chain (begun c.args.self.now) es c.loop-event.answers.items last) e c.loop-event.invariant.chain)
-    (c.cancel_held.ensures ∙ ap (λ (hs : List Held). ended (record { volume = c.loop-event.self; held = hs })) c.as_slice.ensures.value)
+    (c.cancel_held.ensures ∙ ap (λ (hs : List RunJob). ended (record { volume = c.loop-event.self; held = hs })) c.as_slice.ensures.value)

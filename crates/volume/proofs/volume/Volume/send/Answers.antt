@@ -4,7 +4,7 @@ use Rattle.pathkey.specs.declared.errno.Errno.TheVariants.{ENOMEM}
 use Rattle.reference.specs.declared.call.Call.{Call}
 use Rattle.reference.specs.declared.reply.Reply.{Reply}
 use Rattle.volume.specs.Changes.{Called}
-use Rattle.volume.specs.Rooted.{after_call, reply_to}
+use Rattle.volume.specs.FsRoot.{after_call, reply_to}
 use Rattle.volume.specs.Typed.{Asks, Compiles, IsOfKind}
 use Rattle.volume.specs.Volumes.{PVolume, IsVolume, live_of}
 use Rattle.volume.proofs.Leading.{Arriving, volume, answered, answered_lasts, lacks_call}
@@ -32,7 +32,7 @@ invariant_of-self c =
     (ap (λ (b : Bool). after_call b (reply_to c.append-appended.result c.in-Ok.reply) c.args.at c.self.inside.modified) (sym asks.root)
     ∙ ap (λ (r : Reply). after_call c.args.in_root r c.args.at c.self.inside.modified) (sym c.reply_to-reply.ensures)
     ∙ sym c.after_call-self-inside.ensures)
-    (answered_lasts (old c) k c.args.at c.in-Ok.reply _ c.append-appended.result l c.self.invariant (made c k asks.compiles) (arriving c) c.stands.ensures)
+    (answered_lasts (old c) k c.args.at c.in-Ok.reply _ c.append-appended.result l c.self.invariant (made c k asks.compiles) (arriving c) c.assert_invariant.ensures)
 
 pub returns-clause-called : goal.returns-clause-called
 returns-clause-called c = λ k over.

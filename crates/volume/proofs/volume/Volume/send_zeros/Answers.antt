@@ -21,7 +21,7 @@ pub invariant_of-self : goal.invariant_of-self
 invariant_of-self c =
     let (p, off, n, at, given) = c.requires in
     let made : IsPunched (old c).live.indexes p off n at c.in-Ok.reply (messages c.in-Ok.batch) = subst (Compiles (old c).live.indexes p off n at) c.in-Ok.is (subst (λ (v : PVolume). Compiles v.live.indexes p off n at c.args.compiled) (sym c.self.view_is) given) in
-    hole_lasts (old c) c.self.invariant p off n at c.append-punched.new.self _ (answered_hole (old c) c.self.invariant p off n at c.append-punched.new.self c.in-Ok.reply _ c.append-punched.result made (arriving c)) c.stands.ensures
+    hole_lasts (old c) c.self.invariant p off n at c.append-punched.new.self _ (answered_hole (old c) c.self.invariant p off n at c.append-punched.new.self c.in-Ok.reply _ c.append-punched.result made (arriving c)) c.assert_invariant.ensures
 
 pub returns-clause-punches : goal.returns-clause-punches
 returns-clause-punches c = λ p off n at given.

@@ -5,7 +5,7 @@ use Rattle.pathkey.specs.declared.errno.Errno.TheVariants.{ENOMEM, ENOSPC}
 use Rattle.reference.specs.Worlds.{Snapped, TakeSnapshot}
 use Rattle.volume.specs.Changes.{Settles, KeptAs}
 use Rattle.volume.specs.Volumes.{PVolume}
-use Rattle.volume.specs.declared.rooted.Rooted.{Rooted}
+use Rattle.volume.specs.declared.fs_root.FsRoot.{FsRoot}
 use Rattle.volume.proofs.Leading.{volume, snapshot_taken, snapshot_lasts, snapshot_full, snapshot_lacks, refused_as}
 use Rattle.volume.proofs.volume.Volume.snapshot.Goals as goal
 
@@ -23,24 +23,24 @@ returns-in_err-copy c =
     (subst (λ (v : PVolume). Settles (TakeSnapshot c.args.name.now) (KeptAs c.args.name.now) (Err ENOMEM) v v) c.self.view_is
     (snapshot_lacks old old name (sym c.has.ensures ∙ c.if-has.false) (c.is_full.ensures.room c.if-is_full.false) refl))
 
-pub returns-in_err-keep : goal.returns-in_err-keep
-returns-in_err-keep c =
+pub returns-in_err-add : goal.returns-in_err-add
+returns-in_err-add c =
     let old : PVolume = volume c.self.inside.live c.self.inside.modified c.self.inside.snapshots in
-    let new : PVolume = volume c.self.inside.live c.self.inside.modified c.keep.new.self in
+    let new : PVolume = volume c.self.inside.live c.self.inside.modified c.add.new.self in
     let name = c.args.name.now in
-    subst (λ (r : Snapped). Settles (TakeSnapshot c.args.name.now) (KeptAs c.args.name.now) r c.args.self.now new) (sym (refused_as c.from_residual-in_err-keep.result ENOMEM c.from_residual-in_err-keep.ensures.1))
+    subst (λ (r : Snapped). Settles (TakeSnapshot c.args.name.now) (KeptAs c.args.name.now) r c.args.self.now new) (sym (refused_as c.from_residual-in_err-add.result ENOMEM c.from_residual-in_err-add.ensures.1))
     (subst (λ (v : PVolume). Settles (TakeSnapshot c.args.name.now) (KeptAs c.args.name.now) (Err ENOMEM) v new) c.self.view_is
-    (snapshot_lacks old new name (sym c.has.ensures ∙ c.if-has.false) (c.is_full.ensures.room c.if-is_full.false) (ap (volume c.self.inside.live c.self.inside.modified) c.in_err-keep.ensures.err)))
+    (snapshot_lacks old new name (sym c.has.ensures ∙ c.if-has.false) (c.is_full.ensures.room c.if-is_full.false) (ap (volume c.self.inside.live c.self.inside.modified) c.in_err-add.ensures.err)))
 
 pub invariant_of-self-2 : goal.invariant_of-self-2
 invariant_of-self-2 c =
     let old : PVolume = volume c.self.inside.live c.self.inside.modified c.self.inside.snapshots in
-    let e : c.keep.new.self ≡ finite.insert c.self.inside.snapshots c.args.name.now old.live = c.in_ok-keep.ensures.kept ∙ ap (λ (r : Rooted). finite.insert c.self.inside.snapshots c.args.name.now r) (c.in_ok-copy.ensures ∙ ap (λ (i : Indexes). record { indexes = i; modified = c.self.inside.modified }) c.indexes.ensures) in
-    snapshot_lasts old c.args.name.now c.keep.new.self c.self.invariant (sym c.has.ensures ∙ c.if-has.false) (c.is_full.ensures.room c.if-is_full.false) e
+    let e : c.add.new.self ≡ finite.insert c.self.inside.snapshots c.args.name.now old.live = c.in_ok-add.ensures.kept ∙ ap (λ (r : FsRoot). finite.insert c.self.inside.snapshots c.args.name.now r) (c.in_ok-copy.ensures ∙ ap (λ (i : Indexes). record { indexes = i; modified = c.self.inside.modified }) c.indexes.ensures) in
+    snapshot_lasts old c.args.name.now c.add.new.self c.self.invariant (sym c.has.ensures ∙ c.if-has.false) (c.is_full.ensures.room c.if-is_full.false) e
 
 pub returns : goal.returns
 returns c =
     let old : PVolume = volume c.self.inside.live c.self.inside.modified c.self.inside.snapshots in
-    let e : c.keep.new.self ≡ finite.insert c.self.inside.snapshots c.args.name.now old.live = c.in_ok-keep.ensures.kept ∙ ap (λ (r : Rooted). finite.insert c.self.inside.snapshots c.args.name.now r) (c.in_ok-copy.ensures ∙ ap (λ (i : Indexes). record { indexes = i; modified = c.self.inside.modified }) c.indexes.ensures) in
-    subst (λ (v : PVolume). Settles (TakeSnapshot c.args.name.now) (KeptAs c.args.name.now) (Ok tt) v (volume c.self.inside.live c.self.inside.modified c.keep.new.self)) c.self.view_is
-    (snapshot_taken old c.args.name.now c.keep.new.self (sym c.has.ensures ∙ c.if-has.false) (c.is_full.ensures.room c.if-is_full.false) e)
+    let e : c.add.new.self ≡ finite.insert c.self.inside.snapshots c.args.name.now old.live = c.in_ok-add.ensures.kept ∙ ap (λ (r : FsRoot). finite.insert c.self.inside.snapshots c.args.name.now r) (c.in_ok-copy.ensures ∙ ap (λ (i : Indexes). record { indexes = i; modified = c.self.inside.modified }) c.indexes.ensures) in
+    subst (λ (v : PVolume). Settles (TakeSnapshot c.args.name.now) (KeptAs c.args.name.now) (Ok tt) v (volume c.self.inside.live c.self.inside.modified c.add.new.self)) c.self.view_is
+    (snapshot_taken old c.args.name.now c.add.new.self (sym c.has.ensures ∙ c.if-has.false) (c.is_full.ensures.room c.if-is_full.false) e)

@@ -12,7 +12,7 @@ invariant_of-self c =
       world = c.self.invariant.world;
       means = taken_means old c.args.index c.args.slot c.take_job-reply.result c.take_job-reply.new.self c.take_job-reply.ensures c.self.invariant.world c.self.invariant.means;
       few = c.self.invariant.few;
-      stands = c.stands.ensures;
+      stands = c.assert_invariant.ensures;
     }
 
 pub returns-clause-answers : goal.returns-clause-answers

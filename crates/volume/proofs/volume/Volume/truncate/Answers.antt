@@ -9,10 +9,10 @@ use Rattle.volume.proofs.volume.Volume.truncate.Goals as goal
 pub send-requires : goal.send-requires
 send-requires c = (Truncate c.args.path.now c.args.length, record { compiles = subst (λ (i : Indexes). Compiles i (Truncate c.args.path.now c.args.length) c.args.at c.truncate-compiled.result) c.indexes.ensures c.truncate-compiled.ensures; root = refl })
 
-pub settled-requires : goal.settled-requires
-settled-requires c = c.send.ensures.kind (Truncate c.args.path.now c.args.length) (subst (λ (i : Indexes). Compiles i (Truncate c.args.path.now c.args.length) c.args.at c.truncate-compiled.result) c.indexes.ensures c.truncate-compiled.ensures)
+pub done_or_errno-requires : goal.done_or_errno-requires
+done_or_errno-requires c = c.send.ensures.kind (Truncate c.args.path.now c.args.length) (subst (λ (i : Indexes). Compiles i (Truncate c.args.path.now c.args.length) c.args.at c.truncate-compiled.result) c.indexes.ensures c.truncate-compiled.ensures)
 
 pub returns : goal.returns
 returns c =
-    subst (λ (r : Reply). Called (Truncate c.args.path.now c.args.length) c.args.at r c.args.self.now c.send.new.self) (sym c.settled.ensures)
+    subst (λ (r : Reply). Called (Truncate c.args.path.now c.args.length) c.args.at r c.args.self.now c.send.new.self) (sym c.done_or_errno.ensures)
     (c.send.ensures.called (Truncate c.args.path.now c.args.length) (record { compiles = subst (λ (i : Indexes). Compiles i (Truncate c.args.path.now c.args.length) c.args.at c.truncate-compiled.result) c.indexes.ensures c.truncate-compiled.ensures; root = refl }))

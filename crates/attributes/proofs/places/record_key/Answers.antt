@@ -1,9 +1,0 @@
-use Rattle.std.proofs.Common.{List, [], ◌∷◌, ◌++◌, ℕ, ap, sym, ◌∙◌}
-use Rattle.pathkey.proofs.KeyFacts.{enc-append}
-use Rattle.attributes.specs.Places.{mirror}
-use Rattle.attributes.proofs.places.record_key.Goals as goal
-
-pub returns-clause-key : goal.returns-clause-key
-returns-clause-key c =
-    c.in_ok-extend_from_slice.ensures.items ∙ ap (λ (k : List ℕ). k ++ 1 ∷ 0 ∷ []) c.in_ok-key.ensures.key
-    ∙ sym (enc-append (mirror c.args.path.now) ((1 ∷ []) ∷ []))

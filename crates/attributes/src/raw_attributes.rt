@@ -1,0 +1,164 @@
+//! Attributes as plain numbers, as C programs have them.
+ghost use Rattle.std.specs.Prelude.{◌≡◌};
+ghost use Rattle.attributes.specs.RawAttributes.{basic_of, device_of, fields_of, kind_number, kind_of, link_of, no_fields, time_of};
+
+use crate::record::{BasicAttributes, Kind, MtimeOverride};
+
+/// The attributes that each entry has, as plain numbers. What is not there is 0.
+#[derive(Clone, Copy)]
+#[repr(C)]
+pub struct RawAttributes {
+    /// The twelve bits of the mode.
+    pub mode: u32,
+    /// The owner.
+    pub user: u32,
+    /// The owner's group.
+    pub group: u32,
+    /// The kind: 1 for a directory, then file, symbolic link, pipe, socket, character device, block device, and 8 for one of
+    /// several names of a file.
+    pub kind: u8,
+    /// How many names it has.
+    pub names: u64,
+    /// The number of the file that has several names.
+    pub link: u64,
+    /// The number of a device.
+    pub device: u64,
+    /// The time that was set by hand, in nanoseconds since 1970.
+    pub modified: u64,
+    /// The moment up to which it holds.
+    pub valid_until: u64,
+    /// Whether a time was set by hand: 1 where one was.
+    pub has_modified: u8,
+}
+
+impl RawAttributes {
+    /// The fields of no attributes: all are 0.
+    pub fn none() -> RawAttributes
+        ensures { result ≡ no_fields }
+    {
+        RawAttributes {
+            mode: 0,
+            user: 0,
+            group: 0,
+            kind: 0,
+            names: 0,
+            link: 0,
+            device: 0,
+            modified: 0,
+            valid_until: 0,
+            has_modified: 0,
+        }
+    }
+
+    /// The fields of attributes.
+    pub fn of(basic: &BasicAttributes) -> RawAttributes
+        ensures { result ≡ fields_of basic.now }
+    {
+        let fields = RawAttributes {
+            mode: u32::from(basic.mode),
+            user: basic.user,
+            group: basic.group,
+            kind: kind_number(basic.kind),
+            names: basic.names,
+            link: link_of(basic.kind),
+            device: device_of(basic.kind),
+            modified: 0,
+            valid_until: 0,
+            has_modified: 0,
+        };
+        match basic.modified {
+            None => fields,
+            Some(mtime_override) => RawAttributes {
+                modified: mtime_override.modified,
+                valid_until: mtime_override.until,
+                has_modified: 1,
+                ..fields
+            },
+        }
+    }
+
+    /// The attributes that the fields tell; none where the kind is none, or the mode has more than twelve bits. Fields that the kind
+    /// does not have are not looked at.
+    pub fn basic(&self) -> Option<BasicAttributes>
+        ensures { result ≡ basic_of self.now }
+    {
+        if self.mode > 4095 {
+            return None;
+        }
+        let kind = self.kind()?;
+        Some(BasicAttributes {
+            kind,
+            mode: self.mode as u16,
+            user: self.user,
+            group: self.group,
+            names: self.names,
+            modified: self.mtime_override(),
+        })
+    }
+
+    // The kind.
+    fn kind(&self) -> Option<Kind>
+        ensures { result ≡ kind_of self.now }
+    {
+        match self.kind {
+            1 => Some(Kind::Directory),
+            2 => Some(Kind::File),
+            3 => Some(Kind::SymbolicLink),
+            4 => Some(Kind::Fifo),
+            5 => Some(Kind::Socket),
+            6 => Some(Kind::CharacterDevice(self.device)),
+            7 => Some(Kind::BlockDevice(self.device)),
+            8 => Some(Kind::NameOf(self.link)),
+            _ => None,
+        }
+    }
+
+    // The time that was set by hand.
+    fn mtime_override(&self) -> Option<MtimeOverride>
+        ensures { result ≡ time_of self.now }
+    {
+        if self.has_modified == 0 {
+            return None;
+        }
+        Some(MtimeOverride {
+            modified: self.modified,
+            until: self.valid_until,
+        })
+    }
+}
+
+// The number of a kind.
+fn kind_number(kind: Kind) -> u8
+    ensures { result ≡ kind_number kind }
+{
+    match kind {
+        Kind::Directory => 1,
+        Kind::File => 2,
+        Kind::SymbolicLink => 3,
+        Kind::Fifo => 4,
+        Kind::Socket => 5,
+        Kind::CharacterDevice(_) => 6,
+        Kind::BlockDevice(_) => 7,
+        Kind::NameOf(_) => 8,
+    }
+}
+
+// The number of a device.
+fn device_of(kind: Kind) -> u64
+    ensures { result ≡ device_of kind }
+{
+    match kind {
+        Kind::CharacterDevice(number) | Kind::BlockDevice(number) => number,
+        _ => 0,
+    }
+}
+
+// The number of a file that has several names.
+fn link_of(kind: Kind) -> u64
+    ensures { result ≡ link_of kind }
+{
+    match kind {
+        Kind::NameOf(number) => number,
+        _ => 0,
+    }
+}

@@ -1,7 +1,0 @@
-use Rattle.std.proofs.Common.{◌≡◌, take}
-use Rattle.reference.specs.Pairs.{pairs_of}
-use Rattle.byte_calls.specs.Looks.{listing_bytes}
-use Rattle.byte_calls.proofs.looks.listing_bytes.Given as goal
-
-abbrev pub invariant-loop-kind : goal.invariant-loop-kind
-invariant-loop-kind l = l.text.items ≡ listing_bytes (pairs_of (take l.kind-index l.entries))

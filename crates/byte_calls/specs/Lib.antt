@@ -1,9 +1,0 @@
--- What the calls of texts and bytes promise.
-pub mod Changes
-pub mod Differences
-pub mod Filling
-pub mod Holes
-pub mod Images
-pub mod Looks
-pub mod Snapshots
-pub mod Upkeep

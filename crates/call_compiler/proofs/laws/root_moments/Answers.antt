@@ -1,5 +1,0 @@
-use Rattle.call_compiler.proofs.RootMoment.{root_moment}
-use Rattle.call_compiler.proofs.laws.root_moments.Goals as goal
-
-pub returns : goal.returns
-returns c = root_moment

@@ -1,0 +1,28 @@
+use Rattle.std.proofs.Common.{arith, List, ◌∷◌, ap, ◌∙◌}
+use Rattle.message.specs.declared.msg.Msg.{Msg}
+use Rattle.message.specs.declared.msg.Msg.TheVariants.{Del}
+use Rattle.meta_index.specs.declared.update.MetaUpdate.{MetaUpdate}
+use Rattle.pathkey.specs.Keys.{Key, enc}
+use Rattle.call_compiler.specs.Compiled.{messages}
+use Rattle.call_compiler.specs.Touches.{needed_touches}
+use Rattle.reference.specs.declared.reply.Meta.{Meta}
+use Rattle.reference.specs.Calls.{parent}
+use Rattle.call_compiler.proofs.Compiling.{if_ok_both, halves}
+use Rattle.call_compiler.proofs.Idle.{unknown_touches}
+use Rattle.call_compiler.proofs.Entries.{rmdir_is_refused, rmdir_is_done}
+use Rattle.call_compiler.proofs.remove.rmdir.Goals as goal
+
+pub returns-in-Some : goal.returns-in-Some
+returns-in-Some c = rmdir_is_refused c.args.indexes.now c.args.path.now c.args.at c.refused.result.0 (messages c.refused.result.1)
+    c.in_ok-fault.field-0 c.in_ok-fault.ensures c.in-Some.fault c.in-Some.is c.refused.ensures.reply c.refused.ensures.messages
+
+pub returns : goal.returns
+returns c =
+    let d = c.in_ok-directory.directory in
+    if_ok_both c.done_in.result _ _ _
+    (λ a reply sent. rmdir_is_done c.args.indexes.now c.args.path.now c.args.at a.0 (messages a.1) c.in_ok-fault.field-0 c.in_ok-fault.ensures c.in_default.is (omega (arith, c.ranges.at.fits)) c.key-key.ensures.valid reply
+    (sent ∙ halves _ _ _ _
+    (ap (λ (k : Key). Del k ∷ needed_touches c.args.at d) (c.in_ok-copy.ensures ∙ c.key-key.ensures.value)
+    ∙ ap (λ (ts : List (Msg MetaUpdate Meta)). Del (enc c.args.path.now) ∷ ts) (unknown_touches c.args.at d (parent c.args.path.now) c.in_ok-directory.ensures.path c.in_ok-directory.ensures.moment))
+    c.new.ensures.items))
+    c.done_in.ensures.reply c.done_in.ensures.messages

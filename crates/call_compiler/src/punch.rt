@@ -1,0 +1,137 @@
+//! Holes: bytes of a file that become zeros, and are not written.
+ghost use Rattle.std.specs.Prelude.{◌≡◌, ◌≢◌, ◌<◌, ◌≤◌, ◌*◌, ◌+◌, ◌/◌, ◌^◌, ◌++◌, [], IfOk, OnOk, replicate};
+ghost use Rattle.block_index.specs.Changed.{Messages as BlockMessages};
+ghost use Rattle.block_index.specs.Means.{blocks};
+ghost use Rattle.call_compiler.specs.Compiled.{messages};
+ghost use Rattle.call_compiler.specs.Punched.{IsHole, IsPunched, AppliesZeros, TakesOut, reached_of};
+
+use crate::batch::{Batch, refused, without_messages};
+use crate::files::{FoundFile, find_file};
+use crate::indexes::Indexes;
+use crate::write::growth;
+use block_index::{BLOCK, BlockIndex, BlockUpdate, Patch};
+use bytes::Bytes;
+use lookup::get;
+use message::Msg;
+use pathkey::{Errno, KeyRange, NoMemory, Path, block_key};
+use reference::Reply;
+use std::alloc::Global;
+
+/// Makes zeros of `count` bytes of a file from the offset on, as far as the file reaches: what a write of as many zeros
+/// makes of the tree, and its reply. Where none lies within the file nothing changes.
+///
+/// However many they are, it sends at most one range-delete, of the blocks that lie whole among them, two patches, for those
+/// at the ends where they are stored, and the message that gives the file the moment.
+pub fn punch(
+    alloc: Global,
+    indexes: &Indexes,
+    path: &Path,
+    offset: u64,
+    count: u64,
+    at: u64,
+) -> Result<(Reply, Batch), NoMemory>
+    ensures { IfOk result (λ c. IsPunched indexes.now path.now offset count at c.0 (messages c.1)) }
+{
+    let key = path.key();
+    let file = match find_file(alloc, indexes, path, Errno::EISDIR)? {
+        Ok(file) => file,
+        Err(fault) => return Ok(refused(alloc, fault)),
+    };
+    let len = reached(file, offset, count);
+    if len == 0 {
+        return Ok(without_messages(alloc, Reply::Count(0)));
+    }
+    let end = offset + len;
+    let block = hole(alloc, &indexes.block, path, offset, end)?;
+    let meta = growth(alloc, key, file, end, at)?;
+    Ok((Reply::Count(len), Batch { meta, block }))
+}
+
+/// How many of `count` bytes from the offset on lie within the file.
+fn reached(file: FoundFile, offset: u64, count: u64) -> u64
+    ensures value { result ≡ reached_of file.len offset count }
+    ensures within { (0 < result) → (offset + result ≤ file.len) }
+{
+    file.len.saturating_sub(offset).min(count)
+}
+
+/// The messages that make zeros of the bytes of a file from `from` up to and without `end`: the blocks that lie whole among them go.
+fn hole(
+    alloc: Global,
+    index: &BlockIndex,
+    path: &Path,
+    from: u64,
+    end: u64,
+) -> Result<Vec<Msg<BlockUpdate>>, NoMemory>
+    requires file { path.now ≢ [] }
+    requires order { from < end }
+    requires short { end ≤ 2 ^ 40 }
+    ensures { IfOk result (λ msgs. IsHole (blocks index.now) path.now from end msgs.items) }
+{
+    let first = (from + (BLOCK - 1)) / BLOCK;
+    let last = end / BLOCK;
+    let head = end.min(first * BLOCK);
+    let tail = head.max(last * BLOCK);
+    let mut msgs = Vec::with_capacity(alloc, 3)?;
+    push_zeros(alloc, index, path, from, head, &mut msgs)?;
+    push_range(alloc, path, first as u32, last as u32, &mut msgs)?;
+    push_zeros(alloc, index, path, tail, end, &mut msgs)?;
+    Ok(msgs)
+}
+
+/// Puts the patch that lays zeros over the bytes of one block, from `from` up to and without `to`, behind the others. There is none where
+/// there are no such bytes, and where the block is not stored, since it has only zeros then.
+fn push_zeros(
+    alloc: Global,
+    index: &BlockIndex,
+    path: &Path,
+    from: u64,
+    to: u64,
+    msgs: &mut Vec<Msg<BlockUpdate>>,
+) -> Result<(), NoMemory>
+    requires file { path.now ≢ [] }
+    requires short { to ≤ 2 ^ 40 }
+    requires block { to ≤ 4096 * (from / 4096) + 4096 }
+    ensures { OnOk result ((ms : BlockMessages) × (msgs.new.items ≡ msgs.old.items ++ ms) × AppliesZeros (blocks index.now) path.now from to ms) }
+{
+    if from >= to {
+        return Ok(());
+    }
+    let key = block_key(alloc, path, (from / BLOCK) as u32)?;
+    if get(alloc, &index.tree, &key)?.is_none() {
+        return Ok(());
+    }
+    let patch = Patch::new((from % BLOCK) as u16, zeros(alloc, (to - from) as usize)?);
+    msgs.push(Msg::Edit(key, BlockUpdate::Patch(patch)))?;
+    Ok(())
+}
+
+/// So many zeros.
+fn zeros(alloc: Global, count: usize) -> Result<Bytes, NoMemory>
+    ensures { IfOk result (λ bytes. bytes ≡ replicate count 0) }
+{
+    let mut zeros = Vec::new(alloc);
+    zeros.resize(count, 0)?;
+    Ok(Bytes::from_vec(zeros)?)
+}
+
+/// Puts the range-delete of the blocks of a path from number `first` up to and without `end` behind the others; none where there are
+/// no such blocks.
+fn push_range(
+    alloc: Global,
+    path: &Path,
+    first: u32,
+    end: u32,
+    msgs: &mut Vec<Msg<BlockUpdate>>,
+) -> Result<(), NoMemory>
+    requires file { path.now ≢ [] }
+    ensures { OnOk result ((ms : BlockMessages) × (msgs.new.items ≡ msgs.old.items ++ ms) × TakesOut path.now first end ms) }
+{
+    if first >= end {
+        return Ok(());
+    }
+    let lo = block_key(alloc, path, first)?;
+    let hi = Some(block_key(alloc, path, end)?);
+    msgs.push(Msg::DelRange(KeyRange { lo, hi }))?;
+    Ok(())
+}

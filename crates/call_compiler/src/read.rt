@@ -1,0 +1,68 @@
+//! Calls that only read: `read`, `stat` and `readdir`.
+ghost use Rattle.std.specs.Prelude.{◌≡◌, ℕ, IfOk};
+ghost use Rattle.call_compiler.specs.Compiled.{IsCompiled, messages, stat_at};
+ghost use Rattle.meta_index.specs.Means.{lookup_answer};
+ghost use Rattle.reference.specs.Tree as trees;
+
+use crate::batch::{Batch, refused, without_messages};
+use crate::files::find_file;
+use crate::indexes::Indexes;
+use meta_index::{At, Kind, Meta};
+use pathkey::{Errno, NoMemory, Path};
+use reference::{Call, FileBytes, GREATEST_READ, Listing, Reply};
+use std::alloc::Global;
+
+/// Reads from the offset on at most `count` bytes of a file, none past its end (POSIX.1-2017, pread).
+pub fn read(
+    alloc: Global,
+    indexes: &Indexes,
+    path: &Path,
+    offset: u64,
+    count: u64,
+) -> Result<(Reply, Batch), NoMemory>
+    ensures { (at : ℕ) → IfOk result (λ c. IsCompiled indexes.now (Call.Read path.now offset count) at c.0 (messages c.1)) }
+{
+    let file = match find_file(alloc, indexes, path, Errno::EISDIR)? {
+        Ok(file) => file,
+        Err(fault) => return Ok(refused(alloc, fault)),
+    };
+    if count > GREATEST_READ {
+        return Ok(refused(alloc, Errno::EINVAL));
+    }
+    let bytes = indexes.block.read(alloc, path, offset, count, file.len)?;
+    let data = FileBytes::from_vec(bytes);
+    Ok(without_messages(alloc, Reply::Data(data)))
+}
+
+/// What stands at the path (stat).
+pub fn stat(alloc: Global, indexes: &Indexes, path: &Path) -> Result<(Reply, Batch), NoMemory>
+    ensures { (at : ℕ) → IfOk result (λ c. IsCompiled indexes.now (Call.Stat path.now) at c.0 (messages c.1)) }
+{
+    let at = indexes.meta.find(alloc, path)?;
+    Ok(without_messages(alloc, reply_of(at)))
+}
+
+/// Kind, length and moment of what stands at a path, or why nothing does.
+fn reply_of(at: At) -> Reply
+    ensures { (here : trees.At) → at ≡ lookup_answer here → result ≡ stat_at here }
+{
+    match at {
+        At::Found(Meta::Dir { modified }) => Reply::Stat(Kind::Dir, 0, modified),
+        At::Found(Meta::File { len, modified }) => Reply::Stat(Kind::File, len, modified),
+        At::Missing => Reply::Fault(Errno::ENOENT),
+        At::Blocked => Reply::Fault(Errno::ENOTDIR),
+    }
+}
+
+/// The entries of the directory at the path (readdir).
+pub fn readdir(alloc: Global, indexes: &Indexes, path: &Path) -> Result<(Reply, Batch), NoMemory>
+    ensures { (at : ℕ) → IfOk result (λ c. IsCompiled indexes.now (Call.Readdir path.now) at c.0 (messages c.1)) }
+{
+    let at = indexes.meta.find(alloc, path)?;
+    if let Some(fault) = at.fault_of_directory() {
+        return Ok(refused(alloc, fault));
+    }
+    let entries = indexes.meta.children(alloc, path)?;
+    let names = Listing::from_vec(entries);
+    Ok(without_messages(alloc, Reply::Names(names)))
+}

@@ -1,0 +1,519 @@
+//! Rows one behind the other: which of them has a key, the walk to it, and rows that are made two or joined.
+ghost use Rattle.std.specs.Prelude.{◌≡◌, ◌+◌, ◌-◌, ◌<◌, ◌≤◌, ◌^◌, ◌++◌, ◌∷◌, [], length, take, drop, None, Some, OnOk, OnErr, IfOk, IfErr, IfNone, IfSome, true, false, vec_len, vec_capacity};
+ghost use Rattle.std.specs.List.{insert, remove_range, slice_get, slice_index_or, slice_set};
+ghost use Rattle.cow_map.specs.Places.{AreBefore, AreFrom};
+ghost use Rattle.cow_map.specs.CowMap.{joined, row_number, chunk_index, AreRows, AreSized};
+ghost use Rattle.cow_map.specs.Changes.{IsPut, IsRowChanged, IsEdited};
+
+use crate::chunk::Chunk;
+use crate::chunk_edit::{
+    ChunkEdit, EditEntry, ExtractBetween, MergeChunk, Put, PutEntry, SplitOff, TakeAll,
+};
+use crate::edit::{Edit, Edited};
+use crate::search::count_before;
+use crate::shared_entry::SharedEntry;
+use crate::stored::CopyValue;
+use pathkey::{Key, NoMemory};
+use std::alloc::Global;
+use std::cmp::Ordering;
+
+/// The most entries of a row.
+const MAX_ENTRIES: usize = 64;
+
+/// How many of the rows begin at the key or before it, up to the first that does not. The last one is asked first: keys often
+/// come in their order. Then it bisects. What the key shares with the rows on either side, all between them share too.
+fn chunk_before<T: CopyValue>(rows: &[Chunk<T>], key: &Key) -> usize
+    requires { AreRows rows.now }
+    ensures number { result ≡ row_number key.now rows.now }
+    ensures bound { result ≤ length rows.now }
+{
+    if rows.is_empty() {
+        return 0;
+    }
+    let last = rows.len() - 1;
+    let (order, shared) = rows[last].cmp_from(key, 0);
+    if order.is_le() {
+        return rows.len();
+    }
+    let (mut low, mut high) = (0, last);
+    let (mut below, mut above) = (0, shared);
+    while low < high {
+        let at = low + (high - low) / 2;
+        let (order, same) = rows[at].cmp_from(key, below.min(above));
+        match order {
+            Ordering::Less => {
+                low = at + 1;
+                below = same;
+            }
+            Ordering::Equal => return at + 1,
+            Ordering::Greater => {
+                high = at;
+                above = same;
+            }
+        }
+    }
+    low
+}
+
+/// The number of the row in which the key stands or would.
+pub(crate) fn chunk_index<T: CopyValue>(rows: &[Chunk<T>], key: &Key) -> usize
+    requires { AreRows rows.now }
+    ensures number { result ≡ chunk_index key.now rows.now }
+    ensures bound { 0 < length rows.now → result < length rows.now }
+    ensures within { result ≤ length rows.now }
+{
+    let Some((_, later)) = rows.split_first() else {
+        return 0;
+    };
+    chunk_before(later, key)
+}
+
+/// Changes the entries of the row with this number. On want of memory the change comes back.
+fn edit_chunk<T: CopyValue, C: ChunkEdit<T>>(
+    rows: &mut Vec<Chunk<T>>,
+    n: usize,
+    change: C,
+) -> Result<C::Answer, C>
+    requires bound { n < length rows.old.items }
+    requires fits { C.fits change (slice_index_or rows.old.items n []) }
+    ensures changed { IfOk result (λ answer. IsRowChanged (C.does change) n rows.old.items rows.new.items answer) }
+    ensures err { OnErr result (rows.new.items ≡ rows.old.items) }
+    ensures back { IfErr result (λ c. c ≡ change) }
+    ensures len { vec_len rows.new ≡ vec_len rows.old }
+    ensures room { vec_capacity rows.new ≡ vec_capacity rows.old }
+{
+    let row = &mut rows[n];
+    row.change(change)
+}
+
+/// Makes a first row of one entry. On want of memory it comes back.
+pub(crate) fn begin<T: CopyValue>(
+    rows: &mut Vec<Chunk<T>>,
+    key: Key,
+    value: T,
+) -> Result<(), (Key, T)>
+    requires { rows.old.items ≡ [] }
+    ensures rows { AreRows rows.new.items }
+    ensures entries { OnOk result (joined rows.new.items ≡ (key, value) ∷ []) }
+    ensures err { OnErr result (rows.new.items ≡ rows.old.items) }
+    ensures back { IfErr result (λ p. p ≡ (key, value)) }
+{
+    if rows.reserve(1).is_err() {
+        return Err((key, value));
+    }
+    let row = row_with(*rows.allocator(), key, value)?;
+    rows.push_reserved(row);
+    Ok(())
+}
+
+/// Makes a first row of one item. On want of memory it comes back.
+pub(crate) fn begin_item<T: CopyValue>(
+    rows: &mut Vec<Chunk<T>>,
+    item: SharedEntry<T>,
+) -> Result<(), SharedEntry<T>>
+    requires { rows.old.items ≡ [] }
+    ensures rows { AreRows rows.new.items }
+    ensures entries { OnOk result (joined rows.new.items ≡ item ∷ []) }
+    ensures err { OnErr result (rows.new.items ≡ rows.old.items) }
+    ensures back { IfErr result (λ i. i ≡ item) }
+{
+    if rows.reserve(1).is_err() {
+        return Err(item);
+    }
+    let row = row_of(*rows.allocator(), item)?;
+    rows.push_reserved(row);
+    Ok(())
+}
+
+/// A row of one entry. On want of memory it comes back.
+fn row_with<T: CopyValue>(alloc: Global, key: Key, value: T) -> Result<Chunk<T>, (Key, T)>
+    ensures row { IfOk result (λ r. r ≡ (key, value) ∷ []) }
+    ensures back { IfErr result (λ p. p ≡ (key, value)) }
+{
+    let Ok(row) = Chunk::new(alloc) else {
+        return Err((key, value));
+    };
+    let mut row = row;
+    match row.change(Put { key, value }) {
+        Ok(Ok(_)) => Ok(row),
+        Ok(Err(refused)) => Err(refused),
+        Err(Put { key, value }) => Err((key, value)),
+    }
+}
+
+/// A row of one item. On want of memory it comes back.
+fn row_of<T: CopyValue>(alloc: Global, item: SharedEntry<T>) -> Result<Chunk<T>, SharedEntry<T>>
+    ensures row { IfOk result (λ r. r ≡ item ∷ []) }
+    ensures back { IfErr result (λ i. i ≡ item) }
+{
+    let Ok(row) = Chunk::new(alloc) else {
+        return Err(item);
+    };
+    let mut row = row;
+    match row.change(PutEntry { item }) {
+        Ok(Ok(_)) => Ok(row),
+        Ok(Err(refused)) => Err(refused),
+        Err(PutEntry { item }) => Err(item),
+    }
+}
+
+/// Makes two rows of the one in which the key stands or would, where it is full. Answers the number of the row in which it then
+/// does, and which has room for one entry more; none where memory is refused.
+pub(crate) fn split_full<T: CopyValue>(rows: &mut Vec<Chunk<T>>, key: &Key) -> Option<usize>
+    requires rows { AreRows rows.old.items }
+    requires some { 0 < length rows.old.items }
+    ensures same { joined rows.new.items ≡ joined rows.old.items }
+    ensures rows { AreRows rows.new.items }
+    ensures number { IfSome result (λ n. n ≡ chunk_index key.now rows.new.items) }
+    ensures bound { IfSome result (λ n. n < length rows.new.items) }
+    ensures room { IfSome result (λ n. length (slice_index_or rows.new.items n []) < 64) }
+{
+    let found = chunk_with_space(rows.as_slice(), key);
+    if found.is_some() {
+        return found;
+    }
+    split_if_full(rows, key);
+    chunk_with_space(rows.as_slice(), key)
+}
+
+/// The number of the row in which the key stands or would, where that has room.
+fn chunk_with_space<T: CopyValue>(rows: &[Chunk<T>], key: &Key) -> Option<usize>
+    requires rows { AreRows rows.now }
+    requires some { 0 < length rows.now }
+    ensures number { IfSome result (λ n. n ≡ chunk_index key.now rows.now) }
+    ensures bound { IfSome result (λ n. n < length rows.now) }
+    ensures room { IfSome result (λ n. length (slice_index_or rows.now n []) < 64) }
+{
+    let n = chunk_index(rows, key);
+    if rows[n].entries().len() < MAX_ENTRIES {
+        Some(n)
+    } else {
+        None
+    }
+}
+
+/// Makes two rows of the one in which the key stands or would, where it is full and memory is there.
+fn split_if_full<T: CopyValue>(rows: &mut Vec<Chunk<T>>, key: &Key)
+    requires rows { AreRows rows.old.items }
+    requires some { 0 < length rows.old.items }
+    ensures same { joined rows.new.items ≡ joined rows.old.items }
+    ensures rows { AreRows rows.new.items }
+    ensures some { 0 < length rows.new.items }
+{
+    let n = chunk_index(rows.as_slice(), key);
+    let len = rows[n].entries().len();
+    if len < MAX_ENTRIES {
+        return;
+    }
+    let at = middle(&rows[n], key);
+    let _ = split_chunk(rows, n, at);
+}
+
+/// Where a full row is made two: behind most of its entries where the key comes behind all, so that keys that come in
+/// their order leave rows that are nearly full.
+fn middle<T: CopyValue>(row: &Chunk<T>, key: &Key) -> usize
+    requires { 64 ≤ length row.now }
+    ensures some { 0 < result }
+    ensures others { result < length row.now }
+{
+    let entries = row.entries();
+    let len = entries.len();
+    if entries[len - 1].is_before(key) {
+        return len - MAX_ENTRIES / 8;
+    }
+    len / 2
+}
+
+/// Moves the entries of a row from number `at` on into a row of their own behind it. On want of memory the rows are as they
+/// were.
+fn split_chunk<T: CopyValue>(rows: &mut Vec<Chunk<T>>, n: usize, at: usize) -> Result<(), NoMemory>
+    requires rows { AreRows rows.old.items }
+    requires row { n < length rows.old.items }
+    requires some { 0 < at }
+    requires others { at < length (slice_index_or rows.old.items n []) }
+    ensures same { joined rows.new.items ≡ joined rows.old.items }
+    ensures rows { AreRows rows.new.items }
+    ensures some { 0 < length rows.new.items }
+    ensures front { OnOk result (joined (take (n + 1) rows.new.items) ≡ joined (take n rows.old.items) ++ take at (slice_index_or rows.old.items n [])) }
+    ensures back { OnOk result (joined (drop (n + 1) rows.new.items) ≡ drop at (slice_index_or rows.old.items n []) ++ joined (drop (n + 1) rows.old.items)) }
+    ensures number { OnOk result (n < length rows.new.items) }
+    ensures one { length rows.new.items ≤ length rows.old.items + 1 }
+    ensures capacity { vec_capacity rows.old ≤ vec_capacity rows.new }
+{
+    rows.reserve(1)?;
+    let back = split_tail(rows, n, at)?;
+    let Ok(()) = rows.insert(n + 1, back) else {
+        unreachable!()
+    };
+    Ok(())
+}
+
+/// Moves the entries of a row from number `at` on out of it.
+fn split_tail<T: CopyValue>(
+    rows: &mut Vec<Chunk<T>>,
+    n: usize,
+    at: usize,
+) -> Result<Chunk<T>, NoMemory>
+    requires row { n < length rows.old.items }
+    requires entry { at ≤ length (slice_index_or rows.old.items n []) }
+    ensures front { OnOk result (rows.new.items ≡ slice_set rows.old.items n (take at (slice_index_or rows.old.items n []))) }
+    ensures back { IfOk result (λ r. r ≡ drop at (slice_index_or rows.old.items n [])) }
+    ensures err { OnErr result (rows.new.items ≡ rows.old.items) }
+    ensures len { vec_len rows.new ≡ vec_len rows.old }
+    ensures room { vec_capacity rows.new ≡ vec_capacity rows.old }
+{
+    match edit_chunk(rows, n, SplitOff { at }) {
+        Ok(answer) => answer,
+        Err(_) => Err(NoMemory),
+    }
+}
+
+/// Moves the entries of a row from one number up to another out of it.
+pub(crate) fn extract_between<T: CopyValue>(
+    rows: &mut Vec<Chunk<T>>,
+    n: usize,
+    from: usize,
+    to: usize,
+) -> Result<Chunk<T>, NoMemory>
+    requires row { n < length rows.old.items }
+    requires order { from ≤ to }
+    requires bound { to ≤ length (slice_index_or rows.old.items n []) }
+    ensures kept { OnOk result (rows.new.items ≡ slice_set rows.old.items n (remove_range (slice_index_or rows.old.items n []) from to)) }
+    ensures taken { IfOk result (λ r. r ≡ take (to - from) (drop from (slice_index_or rows.old.items n []))) }
+    ensures err { OnErr result (rows.new.items ≡ rows.old.items) }
+{
+    match edit_chunk(rows, n, ExtractBetween { from, to }) {
+        Ok(answer) => answer,
+        Err(_) => Err(NoMemory),
+    }
+}
+
+/// Puts a value at the key in the row in which it stands or would, which has room. On want of memory key and value come back.
+pub(crate) fn put_in<T: CopyValue>(
+    rows: &mut Vec<Chunk<T>>,
+    n: usize,
+    key: Key,
+    value: T,
+) -> Result<Option<T>, (Key, T)>
+    requires rows { AreRows rows.old.items }
+    requires number { n ≡ chunk_index key rows.old.items }
+    requires bound { n < length rows.old.items }
+    requires room { length (slice_index_or rows.old.items n []) < 64 }
+    ensures rows { AreRows rows.new.items }
+    ensures put { IsPut key value (joined rows.old.items) (joined rows.new.items) result }
+{
+    match edit_chunk(rows, n, Put { key, value }) {
+        Ok(answer) => answer,
+        Err(Put { key, value }) => Err((key, value)),
+    }
+}
+
+/// Changes the value at a key in the row in which it stands or would.
+pub(crate) fn edit_in<T: CopyValue, E: Edit<T>>(
+    rows: &mut Vec<Chunk<T>>,
+    n: usize,
+    key: &Key,
+    edit: E,
+) -> Edited<E::Answer, E>
+    requires rows { AreRows rows.old.items }
+    requires number { n ≡ chunk_index key.now rows.old.items }
+    requires bound { n < length rows.old.items }
+    ensures rows { AreRows rows.new.items }
+    ensures edited { IsEdited (E.does edit) key.now edit (joined rows.old.items) (joined rows.new.items) result }
+{
+    match edit_chunk(rows, n, EditEntry { key, edit }) {
+        Ok(answer) => answer,
+        Err(EditEntry { key: _, edit }) => Edited::Refused(edit),
+    }
+}
+
+/// Puts an item at its key in the row in which it stands or would, which has room. On want of memory it comes back.
+pub(crate) fn put_item_in<T: CopyValue>(
+    rows: &mut Vec<Chunk<T>>,
+    n: usize,
+    item: SharedEntry<T>,
+) -> Result<Option<T>, SharedEntry<T>>
+    requires rows { AreRows rows.old.items }
+    requires number { n ≡ chunk_index item.0 rows.old.items }
+    requires bound { n < length rows.old.items }
+    requires room { length (slice_index_or rows.old.items n []) < 64 }
+    ensures rows { AreRows rows.new.items }
+    ensures put { IsPut item.0 item.1 (joined rows.old.items) (joined rows.new.items) result }
+{
+    match edit_chunk(rows, n, PutEntry { item }) {
+        Ok(answer) => answer,
+        Err(PutEntry { item }) => Err(item),
+    }
+}
+
+/// Moves the rows' entries at the key and behind it into rows of their own. On want of memory the entries are as they were.
+pub(crate) fn split_chunks_at<T: CopyValue>(
+    rows: &mut Vec<Chunk<T>>,
+    key: &Key,
+) -> Result<Vec<Chunk<T>>, NoMemory>
+    requires { AreRows rows.old.items }
+    ensures parts { IfOk result (λ back. joined rows.old.items ≡ joined rows.new.items ++ joined back.items) }
+    ensures rows { AreRows rows.new.items }
+    ensures back_rows { IfOk result (λ back. AreRows back.items) }
+    ensures front { OnOk result (AreBefore key.now (joined rows.new.items)) }
+    ensures back { IfOk result (λ back. AreFrom key.now (joined back.items)) }
+    ensures err { OnErr result (joined rows.new.items ≡ joined rows.old.items) }
+    ensures few { IfOk result (λ back. length rows.new.items + length back.items ≤ length rows.old.items + 1) }
+    ensures one { length rows.new.items ≤ length rows.old.items + 1 }
+    ensures capacity { vec_capacity rows.old ≤ vec_capacity rows.new }
+{
+    let m = split_at(rows, key)?;
+    let back = rows.split_off(m)?;
+    Ok(back)
+}
+
+/// Makes two rows of the one that has entries on both sides of the key, if one has, and answers the number from which on the
+/// rows stand at the key or behind it.
+fn split_at<T: CopyValue>(rows: &mut Vec<Chunk<T>>, key: &Key) -> Result<usize, NoMemory>
+    requires { AreRows rows.old.items }
+    ensures same { joined rows.new.items ≡ joined rows.old.items }
+    ensures rows { AreRows rows.new.items }
+    ensures bound { IfOk result (λ m. m ≤ length rows.new.items) }
+    ensures front { IfOk result (λ m. AreBefore key.now (joined (take m rows.new.items))) }
+    ensures back { IfOk result (λ m. AreFrom key.now (joined (drop m rows.new.items))) }
+    ensures one { length rows.new.items ≤ length rows.old.items + 1 }
+    ensures capacity { vec_capacity rows.old ≤ vec_capacity rows.new }
+{
+    let n = chunk_index(rows.as_slice(), key);
+    let Some(row) = rows.get(n) else {
+        return Ok(n);
+    };
+    let entries = row.entries();
+    let at = count_before(entries, key);
+    if at == 0 {
+        return Ok(n);
+    }
+    if at == entries.len() {
+        return Ok(n + 1);
+    }
+    split_chunk(rows, n, at)?;
+    Ok(n + 1)
+}
+
+/// Makes one row of two neighbours that have few entries, where memory is there.
+pub(crate) fn merge_small<T: CopyValue>(rows: &mut Vec<Chunk<T>>, m: usize)
+    requires { AreRows rows.old.items }
+    ensures rows { AreRows rows.new.items }
+    ensures same { joined rows.new.items ≡ joined rows.old.items }
+{
+    if m == 0 || m >= rows.len() {
+        return;
+    }
+    if rows[m - 1].entries().len() + rows[m].entries().len() <= MAX_ENTRIES / 2 {
+        merge_chunks(rows, m);
+    }
+}
+
+/// Moves the entries of a row behind those of the row before it, where memory is there.
+fn merge_chunks<T: CopyValue>(rows: &mut Vec<Chunk<T>>, m: usize)
+    requires rows { AreRows rows.old.items }
+    requires first { 0 < m }
+    requires bound { m < length rows.old.items }
+    requires few { length (slice_index_or rows.old.items (m - 1) []) + length (slice_index_or rows.old.items m []) ≤ 64 }
+    ensures rows { AreRows rows.new.items }
+    ensures same { joined rows.new.items ≡ joined rows.old.items }
+{
+    let row = rows.remove(m);
+    if let Some(row) = put_behind(rows, m - 1, row) {
+        put_at(rows, m, row);
+    }
+}
+
+/// Moves the entries of a row behind those of the row with this number. On want of memory it comes back.
+fn put_behind<T: CopyValue>(rows: &mut Vec<Chunk<T>>, n: usize, row: Chunk<T>) -> Option<Chunk<T>>
+    requires { n < length rows.old.items }
+    ensures joined { IfNone result (rows.new.items ≡ slice_set rows.old.items n (slice_index_or rows.old.items n [] ++ row)) }
+    ensures same { IfSome result (λ _. rows.new.items ≡ rows.old.items) }
+    ensures back { IfSome result (λ r. r ≡ row) }
+    ensures len { vec_len rows.new ≡ vec_len rows.old }
+    ensures room { vec_capacity rows.new ≡ vec_capacity rows.old }
+{
+    match edit_chunk(rows, n, MergeChunk { row }) {
+        Ok(Ok(())) => None,
+        Ok(Err(row)) => Some(row),
+        Err(MergeChunk { row }) => Some(row),
+    }
+}
+
+/// Puts a row to its place, for which there is room.
+fn put_at<T: CopyValue>(rows: &mut Vec<Chunk<T>>, m: usize, row: Chunk<T>)
+    requires bound { m ≤ length rows.old.items }
+    requires room { vec_len rows.old < vec_capacity rows.old }
+    ensures { rows.new.items ≡ insert rows.old.items m row }
+{
+    let Ok(()) = rows.insert(m, row) else {
+        unreachable!()
+    };
+}
+
+/// Whether rows have no entry.
+pub(crate) fn has_none<T: CopyValue>(rows: &[Chunk<T>]) -> bool
+    requires { AreSized rows.now }
+    ensures yes { result ≡ true → joined rows.now ≡ [] }
+    ensures no { result ≡ false → 0 < length (joined rows.now) }
+{
+    match rows.first() {
+        None => true,
+        Some(_) => false,
+    }
+}
+
+/// How many entries rows have.
+pub(crate) fn entries_in<T: CopyValue>(rows: &[Chunk<T>]) -> usize
+    requires { length (joined rows.now) < 2 ^ 64 }
+    ensures { result ≡ length (joined rows.now) }
+{
+    let mut count = 0;
+    for row in rows {
+        count += row.entries().len();
+    }
+    count
+}
+
+/// How many rows have only entries among the first `count`, and how many of these are then left.
+pub(crate) fn whole_rows<T: CopyValue>(rows: &[Chunk<T>], count: usize) -> (usize, usize)
+    requires { count ≤ length (joined rows.now) }
+    ensures rows { result.0 ≤ length rows.now }
+    ensures left { result.1 ≤ length (joined (drop result.0 rows.now)) }
+    ensures same { drop count (joined rows.now) ≡ drop result.1 (joined (drop result.0 rows.now)) }
+    ensures split_chunks_at { 0 < result.1 → (result.0 < length rows.now) × (result.1 < length (slice_index_or rows.now result.0 [])) }
+{
+    let mut left = count;
+    let mut n = 0;
+    while n < rows.len() && rows[n].entries().len() <= left {
+        left -= rows[n].entries().len();
+        n += 1;
+    }
+    (n, left)
+}
+
+/// Takes the first entries of the first row away, of which it has more. It takes no memory.
+pub(crate) fn drop_front_of_first<T: CopyValue>(rows: &mut Vec<Chunk<T>>, count: usize)
+    requires rows { AreRows rows.old.items }
+    requires some { 0 < length rows.old.items }
+    requires split_chunks_at { count < length (slice_index_or rows.old.items 0 []) }
+    ensures rows { AreRows rows.new.items }
+    ensures entries { joined rows.new.items ≡ drop count (joined rows.old.items) }
+{
+    let row = &mut rows[0];
+    row.drop_front(count);
+}
+
+/// The same entries, in rows that both share.
+pub(crate) fn share_rows<T: CopyValue>(
+    rows: &[Chunk<T>],
+    alloc: Global,
+) -> Result<Vec<Chunk<T>>, NoMemory>
+    ensures { IfOk result (λ shared. shared.items ≡ rows.now) }
+{
+    let mut shared = Vec::with_capacity(alloc, rows.len())?;
+    for row in rows {
+        shared.push(row.share()?)?;
+    }
+    Ok(shared)
+}

@@ -1,0 +1,324 @@
+//! The list of entries that callers see.
+ghost use Rattle.std.specs.Prelude.{◌≡◌, ◌+◌, ◌^◌, ◌<◌, ◌≤◌, ◌++◌, ◌∷◌, [], not, true, false, length, take, drop, OnOk, OnErr, IfOk, IfNone, IfSome};
+ghost use Rattle.std.specs.Option.{option_copied, option_map};
+ghost use Rattle.std.specs.List.{filter, slice_get};
+ghost use Rattle.pathkey.specs.Keys.{is_in};
+ghost use Rattle.cow_map.specs.Places.{Rises, at_key, last_of, place, place_past, AreBefore, AreFrom};
+ghost use Rattle.cow_map.specs.CowMap.{joined, AreRows};
+ghost use Rattle.cow_map.specs.Changes.{IsPut, IsEdited};
+ghost use Rattle.cow_map.specs.Moves.{IsFirstMoved};
+
+use crate::chunk::Chunk;
+use crate::chunks::{
+    begin, begin_item, chunk_index, drop_front_of_first, edit_in, entries_in, has_none, put_in,
+    put_item_in, share_rows, split_chunks_at, split_full, whole_rows,
+};
+use crate::cursor::Cursor;
+use crate::edit::{Edit, Edited};
+use crate::extract::extract_range;
+use crate::neighbours::{
+    last_before_among, last_by_among, last_in, walk_from_among, walk_past_among,
+};
+use crate::search::value_at;
+use crate::shared_entry::SharedEntry;
+use crate::stored::CopyValue;
+use pathkey::{Key, KeyRange, NoMemory};
+use std::alloc::Global;
+use std::marker::Model;
+
+/// Values by their keys, in shared rows. Contracts see the list of the entries, which rise by key.
+#[derive(Drop)]
+pub struct CowMap<T> {
+    rows: Vec<Chunk<T>>,
+}
+
+impl<T> Model for CowMap<T> {
+    ghost use Rattle.std.specs.Prelude.{List, ℕ};
+
+    ghost Value = { List (List ℕ × T) };
+
+    ghost use Rattle.cow_map.specs.CowMap.{joined, AreRows};
+
+    ghost view = { λ r. joined r.rows.items };
+
+    ghost invariant = { λ r. AreRows r.rows.items };
+}
+
+impl<T: CopyValue> CowMap<T> {
+    /// No entries. It takes no memory.
+    pub fn new(alloc: Global) -> CowMap<T>
+        ensures { result ≡ [] }
+    {
+        CowMap {
+            rows: Vec::new(alloc),
+        }
+    }
+
+    /// Says that the entries rise by key. It does nothing.
+    pub fn assert_invariant(&self)
+        ensures { Rises self.now }
+    {
+        let _ = self.rows.len();
+    }
+
+    /// Whether there is no entry.
+    pub fn is_empty(&self) -> bool
+        ensures yes { result ≡ true → self.now ≡ [] }
+        ensures no { result ≡ false → 0 < length self.now }
+    {
+        has_none(self.rows.as_slice())
+    }
+
+    /// How many entries there are, where their number is known to fit. It asks each row.
+    pub fn len(&self) -> usize
+        requires { length self.now < 2 ^ 64 }
+        ensures { result ≡ length self.now }
+    {
+        entries_in(self.rows.as_slice())
+    }
+
+    /// What stands at the key.
+    pub fn get(&self, key: &Key) -> Option<&T>
+        ensures { option_copied result ≡ at_key key.now self.now }
+    {
+        get_among(self.rows.as_slice(), key)
+    }
+
+    /// Puts a value at the key, and answers what stood there. On want of memory key and value come back, and all is as it was.
+    #[inline(always)]
+    pub fn put(&mut self, key: Key, value: T) -> Result<Option<T>, (Key, T)>
+        ensures { IsPut key value self.old self.new result }
+    {
+        put_among(&mut self.rows, key, value)
+    }
+
+    /// Changes the value at the key in its place.
+    #[inline(always)]
+    pub fn edit<E: Edit<T>>(&mut self, key: &Key, edit: E) -> Edited<E::Answer, E>
+        ensures { IsEdited (E.does edit) key.now edit self.old self.new result }
+    {
+        edit_among(&mut self.rows, key, edit)
+    }
+
+    /// All entries from the first on.
+    pub fn cursor(&self) -> Cursor<'_, T>
+        ensures { result ≡ self.now }
+    {
+        Cursor::of(&[], self.rows.as_slice())
+    }
+
+    /// The entries at the key and behind it.
+    pub fn lower_bound(&self, key: &Key) -> Cursor<'_, T>
+        ensures { result ≡ drop (place key.now self.now) self.now }
+    {
+        walk_from_among(self.rows.as_slice(), key)
+    }
+
+    /// The entries behind the key.
+    pub fn upper_bound(&self, key: &Key) -> Cursor<'_, T>
+        ensures { result ≡ drop (place_past key.now self.now) self.now }
+    {
+        walk_past_among(self.rows.as_slice(), key)
+    }
+
+    /// The last entry.
+    pub fn last(&self) -> Option<(&Key, &T)>
+        ensures { option_map (λ p. (p.0.now, p.1.now)) result ≡ last_of self.now }
+    {
+        last_in(self.rows.as_slice())
+    }
+
+    /// The last entry before the key.
+    pub fn last_before(&self, key: &Key) -> Option<(&Key, &T)>
+        ensures { option_map (λ p. (p.0.now, p.1.now)) result ≡ last_of (take (place key.now self.now) self.now) }
+    {
+        last_before_among(self.rows.as_slice(), key)
+    }
+
+    /// The last entry at the key or before it.
+    pub fn last_at_or_before(&self, key: &Key) -> Option<(&Key, &T)>
+        ensures { option_map (λ p. (p.0.now, p.1.now)) result ≡ last_of (take (place_past key.now self.now) self.now) }
+    {
+        last_by_among(self.rows.as_slice(), key)
+    }
+
+    /// Moves the entries at the key and behind it out. On want of memory all are as they were.
+    pub fn split_off(&mut self, key: &Key) -> Result<CowMap<T>, NoMemory>
+        ensures parts { IfOk result (λ back. self.old ≡ self.new ++ back) }
+        ensures front { OnOk result (AreBefore key.now self.new) }
+        ensures back { IfOk result (λ back. AreFrom key.now back) }
+        ensures err { OnErr result (self.new ≡ self.old) }
+    {
+        let rows = split_chunks_at(&mut self.rows, key)?;
+        Ok(CowMap { rows })
+    }
+
+    /// Moves the entries inside the range out. On want of memory all are as they were.
+    pub fn extract_range(&mut self, range: &KeyRange) -> Result<CowMap<T>, NoMemory>
+        ensures kept { OnOk result (self.new ≡ filter (λ e. not (is_in range.now e.0)) self.old) }
+        ensures taken { IfOk result (λ out. out ≡ filter (λ e. is_in range.now e.0) self.old) }
+        ensures err { OnErr result (self.new ≡ self.old) }
+    {
+        let rows = extract_range(&mut self.rows, range)?;
+        Ok(CowMap { rows })
+    }
+
+    /// Moves the entries of another list behind these, where all its keys stand behind them. On want of memory both lists are
+    /// as they were.
+    pub fn append(&mut self, later: &mut CowMap<T>) -> Result<(), NoMemory>
+        requires { Rises (self.old ++ later.old) }
+        ensures entries { OnOk result (self.new ≡ self.old ++ later.old) }
+        ensures moved { OnOk result (later.new ≡ []) }
+        ensures err { OnErr result (self.new ≡ self.old) }
+        ensures kept { OnErr result (later.new ≡ later.old) }
+    {
+        self.rows.append(&mut later.rows)?;
+        Ok(())
+    }
+
+    /// Takes the first entries away. It takes no memory.
+    pub fn drop_front(&mut self, count: usize)
+        requires { count ≤ length self.old }
+        ensures { self.new ≡ drop count self.old }
+    {
+        drop_among(&mut self.rows, count);
+    }
+
+    /// Moves the first entry of another list to its place here, and answers what stood there, which is copied where others share it.
+    /// On want of memory both lists are as they were.
+    pub fn move_first_from(&mut self, from: &mut CowMap<T>) -> Result<Option<T>, NoMemory>
+        requires { 0 < length from.old }
+        ensures moved { IfOk result (λ was. IsFirstMoved was from.old self.old from.new self.new) }
+        ensures err { OnErr result (self.new ≡ self.old) }
+        ensures kept { OnErr result (from.new ≡ from.old) }
+    {
+        move_first_among(&mut self.rows, &mut from.rows)
+    }
+
+    /// A list of the same entries, which both then share.
+    pub fn share(&self) -> Result<CowMap<T>, NoMemory>
+        ensures { IfOk result (λ shared. shared ≡ self.now) }
+    {
+        let rows = share_rows(self.rows.as_slice(), *self.rows.allocator())?;
+        Ok(CowMap { rows })
+    }
+}
+
+/// What stands at the key in rows.
+fn get_among<'a, T: CopyValue>(rows: &'a [Chunk<T>], key: &Key) -> Option<&'a T>
+    requires { AreRows rows.now }
+    ensures { option_copied result ≡ at_key key.now (joined rows.now) }
+{
+    let n = chunk_index(rows, key);
+    match rows.get(n) {
+        None => None,
+        Some(row) => value_at(row.entries(), key),
+    }
+}
+
+/// Puts a value at the key in rows, and answers what stood there.
+#[inline(always)]
+fn put_among<T: CopyValue>(
+    rows: &mut Vec<Chunk<T>>,
+    key: Key,
+    value: T,
+) -> Result<Option<T>, (Key, T)>
+    requires { AreRows rows.old.items }
+    ensures rows { AreRows rows.new.items }
+    ensures put { IsPut key value (joined rows.old.items) (joined rows.new.items) result }
+{
+    if rows.is_empty() {
+        begin(rows, key, value)?;
+        return Ok(None);
+    }
+    let Some(n) = split_full(rows, &key) else {
+        return Err((key, value));
+    };
+    put_in(rows, n, key, value)
+}
+
+/// Changes the value at the key in rows.
+#[inline(always)]
+fn edit_among<T: CopyValue, E: Edit<T>>(
+    rows: &mut Vec<Chunk<T>>,
+    key: &Key,
+    edit: E,
+) -> Edited<E::Answer, E>
+    requires { AreRows rows.old.items }
+    ensures rows { AreRows rows.new.items }
+    ensures edited { IsEdited (E.does edit) key.now edit (joined rows.old.items) (joined rows.new.items) result }
+{
+    let n = chunk_index(rows.as_slice(), key);
+    if n >= rows.len() {
+        return Edited::Absent(edit);
+    }
+    edit_in(rows, n, key, edit)
+}
+
+/// Moves the first entry of other rows to its place in these, and answers what stood there.
+fn move_first_among<T: CopyValue>(
+    rows: &mut Vec<Chunk<T>>,
+    from: &mut Vec<Chunk<T>>,
+) -> Result<Option<T>, NoMemory>
+    requires rows { AreRows rows.old.items }
+    requires from { AreRows from.old.items }
+    requires some { 0 < length (joined from.old.items) }
+    ensures rows { AreRows rows.new.items }
+    ensures from { AreRows from.new.items }
+    ensures moved { IfOk result (λ was. IsFirstMoved was (joined from.old.items) (joined rows.old.items) (joined from.new.items) (joined rows.new.items)) }
+    ensures err { OnErr result (joined rows.new.items ≡ joined rows.old.items) }
+    ensures kept { OnErr result (joined from.new.items ≡ joined from.old.items) }
+{
+    let Some(item) = Cursor::of(&[], from.as_slice()).first() else {
+        unreachable!()
+    };
+    let item = item.share()?;
+    match put_item_among(rows, item) {
+        Ok(was) => {
+            drop_among(from, 1);
+            Ok(was)
+        }
+        Err(_) => Err(NoMemory),
+    }
+}
+
+/// Puts an item at its key in rows, and answers what stood there. On want of memory it comes back.
+fn put_item_among<T: CopyValue>(
+    rows: &mut Vec<Chunk<T>>,
+    item: SharedEntry<T>,
+) -> Result<Option<T>, SharedEntry<T>>
+    requires { AreRows rows.old.items }
+    ensures rows { AreRows rows.new.items }
+    ensures put { IsPut item.0 item.1 (joined rows.old.items) (joined rows.new.items) result }
+{
+    if rows.is_empty() {
+        begin_item(rows, item)?;
+        return Ok(None);
+    }
+    let Some(n) = split_full(rows, item.key()) else {
+        return Err(item);
+    };
+    put_item_in(rows, n, item)
+}
+
+/// Takes the first entries of rows away.
+fn drop_among<T: CopyValue>(rows: &mut Vec<Chunk<T>>, count: usize)
+    requires rows { AreRows rows.old.items }
+    requires count { count ≤ length (joined rows.old.items) }
+    ensures rows { AreRows rows.new.items }
+    ensures entries { joined rows.new.items ≡ drop count (joined rows.old.items) }
+{
+    let (whole, left) = whole_rows(rows.as_slice(), count);
+    skip(rows, whole);
+    if left > 0 {
+        drop_front_of_first(rows, left);
+    }
+}
+
+/// Takes the first rows away.
+fn skip<T: CopyValue>(rows: &mut Vec<Chunk<T>>, count: usize)
+    requires { count ≤ length rows.old.items }
+    ensures { rows.new.items ≡ drop count rows.old.items }
+{
+    rows.drain(..count);
+}

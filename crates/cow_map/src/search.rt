@@ -1,0 +1,153 @@
+//! Where a key stands among entries that rise.
+ghost use Rattle.std.specs.Prelude.{◌≡◌, ◌+◌, ◌<◌, ◌≤◌, length, IfOk, IfErr};
+ghost use Rattle.std.specs.Option.{option_copied};
+ghost use Rattle.cow_map.specs.Places.{Rises, at_key, place, place_past, IsFound, IsHolder};
+ghost use Rattle.cow_map.specs.Searching.{IsRest};
+
+use crate::shared_entry::SharedEntry;
+use crate::stored::CopyValue;
+use pathkey::Key;
+use std::cmp::Ordering;
+
+/// How many entries stand before the key.
+pub(crate) fn count_before<T: CopyValue>(entries: &[SharedEntry<T>], key: &Key) -> usize
+    requires { Rises entries.now }
+    ensures place { result ≡ place key.now entries.now }
+    ensures bound { result ≤ length entries.now }
+{
+    match find(entries, key) {
+        Ok(i) => i,
+        Err(i) => i,
+    }
+}
+
+/// Where the key stands among entries, or where it would. The last one is asked first: keys often come in their order.
+pub(crate) fn find<T: CopyValue>(entries: &[SharedEntry<T>], key: &Key) -> Result<usize, usize>
+    requires { Rises entries.now }
+    ensures { IsFound key.now entries.now result }
+{
+    if entries.is_empty() {
+        return Err(0);
+    }
+    let last = entries.len() - 1;
+    let (order, above) = entries[last].cmp_from(key, 0);
+    match order {
+        Ordering::Less => Err(entries.len()),
+        Ordering::Equal => Ok(last),
+        Ordering::Greater => {
+            let rest = Rest {
+                low: 0,
+                high: last,
+                below: 0,
+                above,
+            };
+            find_among(entries, key, rest)
+        }
+    }
+}
+
+/// The places that are left to a search: entries before `low` stand before the key, and those from `high` on behind it. The key
+/// has its first `below` bytes in common with the entries before, and its first `above` ones with those behind; so the entries
+/// between have the fewer of these too, and comparisons go on behind them.
+#[derive(Clone, Copy)]
+struct Rest {
+    low: usize,
+    high: usize,
+    below: usize,
+    above: usize,
+}
+
+/// The same, found in strides: each reads a place that is known beforehand.
+fn find_among<T: CopyValue>(
+    entries: &[SharedEntry<T>],
+    key: &Key,
+    rest: Rest,
+) -> Result<usize, usize>
+    requires rises { Rises entries.now }
+    requires rest { IsRest key.now entries.now rest }
+    ensures { IsFound key.now entries.now result }
+{
+    let some = match narrow(entries, key, rest, 16) {
+        Ok(at) => return Ok(at),
+        Err(some) => some,
+    };
+    let few = match narrow(entries, key, some, 4) {
+        Ok(at) => return Ok(at),
+        Err(few) => few,
+    };
+    match narrow(entries, key, few, 1) {
+        Ok(at) => Ok(at),
+        Err(none) => Err(none.low),
+    }
+}
+
+/// Goes on in strides as long as the last entry of each stands before the key, and leaves fewer places than a stride has; or
+/// answers the place of the key, where it meets that.
+#[inline(always)]
+fn narrow<T: CopyValue>(
+    entries: &[SharedEntry<T>],
+    key: &Key,
+    rest: Rest,
+    stride: usize,
+) -> Result<usize, Rest>
+    requires rises { Rises entries.now }
+    requires rest { IsRest key.now entries.now rest }
+    requires stride { 0 < stride }
+    ensures found { IfOk result (λ i. IsHolder key.now entries.now i) }
+    ensures rest { IfErr result (λ r. IsRest key.now entries.now r) }
+    ensures short { IfErr result (λ r. r.high < r.low + stride) }
+{
+    let Rest { high, above, .. } = rest;
+    let (mut low, mut below) = (rest.low, rest.below);
+    while high - low >= stride {
+        let at = low + (stride - 1);
+        let (order, same) = entries[at].cmp_from(key, below.min(above));
+        match order {
+            Ordering::Less => {
+                low = at + 1;
+                below = same;
+            }
+            Ordering::Equal => return Ok(at),
+            Ordering::Greater => {
+                return Err(Rest {
+                    low,
+                    high: at,
+                    below,
+                    above: same,
+                })
+            }
+        }
+    }
+    Err(Rest {
+        low,
+        high,
+        below,
+        above,
+    })
+}
+
+/// How many entries stand at the key or before it.
+pub(crate) fn count_past<T: CopyValue>(entries: &[SharedEntry<T>], key: &Key) -> usize
+    requires { Rises entries.now }
+    ensures place { result ≡ place_past key.now entries.now }
+    ensures bound { result ≤ length entries.now }
+{
+    match find(entries, key) {
+        Ok(i) => i + 1,
+        Err(i) => i,
+    }
+}
+
+/// What stands at the key among entries.
+pub(crate) fn value_at<'a, T: CopyValue>(entries: &'a [SharedEntry<T>], key: &Key) -> Option<&'a T>
+    requires { Rises entries.now }
+    ensures { option_copied result ≡ at_key key.now entries.now }
+{
+    match find(entries, key) {
+        Ok(i) => {
+            let item = &entries[i];
+            Some(item.value())
+        }
+        Err(_) => None,
+    }
+}

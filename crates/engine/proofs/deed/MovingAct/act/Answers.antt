@@ -1,5 +1,0 @@
-use Rattle.engine.proofs.Sparing.{called-spares}
-use Rattle.engine.proofs.deed.MovingAct.act.Goals as goal
-
-pub returns-clause-spares : goal.returns-clause-spares
-returns-clause-spares c = called-spares _ _ _ _ _ c.rename.ensures

@@ -1,6 +1,0 @@
-use Rattle.std.proofs.Common.{subst}
-use Rattle.volume.specs.Volumes.{PVolume, IsVolume}
-use Rattle.engine.proofs.engine.opens.Goals as goal
-
-pub returns : goal.returns
-returns g c = subst (λ (v : PVolume). IsVolume v) c.requires c.means_a_world.ensures

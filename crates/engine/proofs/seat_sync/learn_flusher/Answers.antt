@@ -1,0 +1,12 @@
+use Rattle.std.proofs.Common.{◌<◌, sym, ap, ◌∙◌, subst}
+use Rattle.engine.specs.Rule.{Seated}
+use Rattle.engine.proofs.Moves.{learns}
+use Rattle.engine.proofs.seat_sync.learn_flusher.Goals as goal
+
+pub load-requires : goal.load-requires
+load-requires g c =
+    let r = c.requires in (
+      r.flusher.0 ∙ sym r.words.0,
+      subst (λ z. 0 < z.words) (sym r.words.0) r.words.1,
+      learns _ _ _ c.args.flusher.now.me (ap (λ (m : Seated). m.0.keeps) r.flusher.1) (ap (λ (m : Seated). m.0.watches) r.flusher.1),
+    )

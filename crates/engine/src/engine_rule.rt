@@ -1,0 +1,169 @@
+//! The table of an engine: its rule, the four kinds of step on its words, and how views are tied.
+ghost use Rattle.std.specs.Prelude.{◌≡◌};
+ghost use Rattle.atomic_table.specs.Seated.{TableId};
+
+use crate::view::View;
+use atomic_table::{Join, Play, Seat as TableSeat, Shared, Split, Table, TableRule};
+use std::alloc::Global;
+use std::marker::{Brand, PhantomData};
+use volume::Volume;
+
+/// Names one engine: its table, the volume that it was opened with, and how many clients it has.
+pub trait EngineId {
+    ghost use Rattle.atomic_table.specs.Seated.{TableId};
+    ghost use Rattle.std.specs.Prelude.{ℕ};
+    ghost use Rattle.volume.specs.Volumes.{PVolume};
+
+    /// Its table.
+    ghost table: { TableId };
+
+    /// The volume that it was opened with.
+    ghost opening: { PVolume };
+
+    /// How many clients it has.
+    ghost clients: { ℕ };
+}
+
+impl EngineId for Brand {
+    ghost use Rattle.engine.specs.Named.{no_table, no_volume};
+
+    ghost table = { no_table };
+
+    ghost opening = { no_volume };
+
+    ghost clients = { 0 };
+}
+
+/// One call and its answer, for a proof.
+pub trait RecordedCall {
+    ghost use Rattle.reference.specs.Worlds.{Event, Answer};
+
+    ghost event: { Event };
+
+    ghost answer: { Answer };
+}
+
+impl RecordedCall for Brand {
+    ghost use Rattle.std.specs.Prelude.{[], Ok};
+    ghost use Rattle.reference.specs.Worlds.{TakeSnapshot, Settled};
+
+    ghost event = { TakeSnapshot [] };
+
+    ghost answer = { Settled (Ok tt) };
+}
+
+/// One job, for a proof.
+pub trait Taking {
+    ghost use Rattle.volume.specs.declared.job.Job.{Job};
+
+    ghost job: { Job };
+}
+
+impl Taking for Brand {
+    ghost use Rattle.engine.specs.Named.{no_job};
+
+    ghost job = { no_job };
+}
+
+/// The words are the numbers of calls and of takings.
+pub struct EngineRule;
+
+impl TableRule<(), View, Volume> for EngineRule {
+    ghost use Rattle.std.specs.Prelude.{[]};
+    ghost use Rattle.engine.specs.Rule.{Kept};
+    ghost use Rattle.engine.specs.Views.{keeper};
+
+    ghost holds = { Kept };
+
+    ghost first = { λ o. keeper o 0 [] [] };
+}
+
+/// A client announces a call.
+pub struct AnnounceStep;
+
+impl Play<(), View> for AnnounceStep {
+    ghost use Rattle.engine.specs.Rule.{Announced};
+
+    ghost then = { Announced };
+}
+
+/// The engine records the call of the client in hand.
+pub struct RecordStep<E> {
+    of: PhantomData<E>,
+}
+
+impl<E: RecordedCall> Play<(), View> for RecordStep<E> {
+    ghost use Rattle.engine.specs.Rule.{Recorded};
+
+    ghost then = { Recorded E.event E.answer };
+}
+
+/// The engine records a taking.
+pub struct TakeStep<E> {
+    of: PhantomData<E>,
+}
+
+impl<E: Taking> Play<(), View> for TakeStep<E> {
+    ghost use Rattle.engine.specs.Rule.{Took};
+
+    ghost then = { Took E.job };
+}
+
+/// A client or a flusher learns what it was told.
+pub struct LearnStep;
+
+impl Play<(), View> for LearnStep {
+    ghost use Rattle.engine.specs.Rule.{Learned};
+
+    ghost then = { Learned };
+}
+
+/// The engine's seat deals a client's.
+pub struct SplitClientSeat;
+
+impl Split<View> for SplitClientSeat {
+    ghost use Rattle.engine.specs.Views.{one_more, new_guest};
+
+    ghost left = { one_more };
+
+    ghost right = { new_guest };
+}
+
+/// A seat that has seen nothing leaves one for a flusher.
+pub struct SplitFlusherSeat;
+
+impl Split<View> for SplitFlusherSeat {
+    ghost use Rattle.engine.specs.Views.{new_watcher};
+
+    ghost left = { λ v. v };
+
+    ghost right = { new_watcher };
+}
+
+/// The engine's seat and another meet, and part again: then the other is told the history and the takings.
+pub struct SyncSeats;
+
+impl Split<View> for SyncSeats {
+    ghost use Rattle.engine.specs.Views.{without_guest, reported_guest};
+
+    ghost left = { without_guest };
+
+    ghost right = { reported_guest };
+}
+
+impl Join<View> for SyncSeats {
+    ghost use Rattle.engine.specs.Views.{with_guest, spent_view};
+
+    ghost both = { with_guest };
+
+    ghost spent = { spent_view };
+}
+
+/// What threads share of the table.
+pub type SharedCounters = Shared<(), View, Volume, EngineRule>;
+
+/// The table.
+pub type CallTable = Table<(), View, Volume, EngineRule, Global>;
+
+/// A seat of it.
+pub type Seat = TableSeat<(), View>;

@@ -1,0 +1,180 @@
+//! What a client asks of the volume by the methods of its calls: one struct for each type of answer, and one for all calls with
+//! one path that tell nothing back.
+
+use crate::operation::Operation;
+use pathkey::{Errno, Path};
+use reference::Kind;
+use std::alloc::Global;
+use volume::Volume;
+
+/// What is done at one path, of the calls that tell nothing back.
+#[derive(Clone, Copy)]
+pub enum PathCall {
+    Mkdir,
+    Create,
+    Truncate(u64),
+    Unlink,
+    Rmdir,
+    Rmtree,
+}
+
+/// A deed at a path, at a moment.
+#[derive(Drop)]
+pub struct PathOp<'a> {
+    pub alloc: Global,
+    pub deed: PathCall,
+    pub path: &'a Path,
+    pub at: u64,
+}
+
+impl<'a> Operation for PathOp<'a> {
+    ghost use Rattle.reference.specs.Worlds.{Ask, Replied};
+    ghost use Rattle.reference.specs.declared.reply.Reply.TheVariants.{Done};
+    ghost use Rattle.engine.specs.PathOps.{call_of};
+    ghost use Rattle.volume.specs.Typed.{replied};
+
+    type Reply = Result<(), Errno>;
+
+    ghost event = { λ s. Ask (call_of s.deed s.path.now) s.at };
+
+    ghost answer = { λ r. Replied (replied (λ _. Done) r) };
+
+    fn execute(&self, volume: &mut Volume) -> Result<(), Errno> {
+        match self.deed {
+            PathCall::Mkdir => volume.mkdir(self.alloc, self.path, self.at),
+            PathCall::Create => volume.create(self.alloc, self.path, self.at),
+            PathCall::Truncate(length) => volume.truncate(self.alloc, self.path, length, self.at),
+            PathCall::Unlink => volume.unlink(self.alloc, self.path, self.at),
+            PathCall::Rmdir => volume.rmdir(self.alloc, self.path, self.at),
+            PathCall::Rmtree => volume.rmtree(self.alloc, self.path, self.at),
+        }
+    }
+}
+
+/// What stands at one path is moved to another, at a moment.
+#[derive(Drop)]
+pub struct RenameOp<'a> {
+    pub alloc: Global,
+    pub old: &'a Path,
+    pub new: &'a Path,
+    pub at: u64,
+}
+
+impl<'a> Operation for RenameOp<'a> {
+    ghost use Rattle.reference.specs.Worlds.{Ask, Replied};
+    ghost use Rattle.reference.specs.declared.call.Call.TheVariants.{Rename};
+    ghost use Rattle.reference.specs.declared.reply.Reply.TheVariants.{Done};
+    ghost use Rattle.volume.specs.Typed.{replied};
+
+    type Reply = Result<(), Errno>;
+
+    ghost event = { λ s. Ask (Rename s.old.now s.new.now) s.at };
+
+    ghost answer = { λ r. Replied (replied (λ _. Done) r) };
+
+    fn execute(&self, volume: &mut Volume) -> Result<(), Errno> {
+        volume.rename(self.alloc, self.old, self.new, self.at)
+    }
+}
+
+/// Bytes are laid over a file, at a moment.
+#[derive(Drop)]
+pub struct WriteOp<'a> {
+    pub alloc: Global,
+    pub path: &'a Path,
+    pub offset: u64,
+    pub bytes: &'a [u8],
+    pub at: u64,
+}
+
+impl<'a> Operation for WriteOp<'a> {
+    ghost use Rattle.reference.specs.Worlds.{Ask, Replied};
+    ghost use Rattle.reference.specs.declared.call.Call.TheVariants.{Write};
+    ghost use Rattle.reference.specs.declared.reply.Reply.TheVariants.{Count};
+    ghost use Rattle.volume.specs.Typed.{replied};
+
+    type Reply = Result<u64, Errno>;
+
+    ghost event = { λ s. Ask (Write s.path.now s.offset s.bytes.now) s.at };
+
+    ghost answer = { λ r. Replied (replied (λ n. Count n) r) };
+
+    fn execute(&self, volume: &mut Volume) -> Result<u64, Errno> {
+        volume.write(self.alloc, self.path, self.offset, self.bytes, self.at)
+    }
+}
+
+/// Bytes of a file are read.
+#[derive(Drop)]
+pub struct ReadOp<'a> {
+    pub alloc: Global,
+    pub path: &'a Path,
+    pub offset: u64,
+    pub count: u64,
+}
+
+impl<'a> Operation for ReadOp<'a> {
+    ghost use Rattle.reference.specs.Worlds.{Ask, Replied};
+    ghost use Rattle.reference.specs.declared.call.Call.TheVariants.{Read};
+    ghost use Rattle.reference.specs.declared.reply.Reply.TheVariants.{Data};
+    ghost use Rattle.volume.specs.Typed.{replied};
+
+    type Reply = Result<Vec<u8>, Errno>;
+
+    ghost event = { λ s. Ask (Read s.path.now s.offset s.count) 0 };
+
+    ghost answer = { λ r. Replied (replied (λ bytes. Data bytes.items) r) };
+
+    fn execute(&self, volume: &mut Volume) -> Result<Vec<u8>, Errno> {
+        volume.read(self.alloc, self.path, self.offset, self.count)
+    }
+}
+
+/// What stands at a path is looked up.
+#[derive(Drop)]
+pub struct StatOp<'a> {
+    pub alloc: Global,
+    pub path: &'a Path,
+}
+
+impl<'a> Operation for StatOp<'a> {
+    ghost use Rattle.reference.specs.Worlds.{Ask, Replied};
+    ghost use Rattle.reference.specs.declared.call.Call.TheVariants.{Stat as AskStat};
+    ghost use Rattle.reference.specs.declared.reply.Reply.TheVariants.{Stat};
+    ghost use Rattle.volume.specs.Typed.{replied};
+
+    type Reply = Result<(Kind, u64, u64), Errno>;
+
+    ghost event = { λ s. Ask (AskStat s.path.now) 0 };
+
+    ghost answer = { λ r. Replied (replied (λ s. Stat s.0 s.1 s.2) r) };
+
+    fn execute(&self, volume: &mut Volume) -> Result<(Kind, u64, u64), Errno> {
+        volume.stat(self.alloc, self.path)
+    }
+}
+
+/// The entries of a directory are listed.
+#[derive(Drop)]
+pub struct ReaddirOp<'a> {
+    pub alloc: Global,
+    pub path: &'a Path,
+}
+
+impl<'a> Operation for ReaddirOp<'a> {
+    ghost use Rattle.reference.specs.Pairs.{pairs_of};
+    ghost use Rattle.reference.specs.Worlds.{Ask, Replied};
+    ghost use Rattle.reference.specs.declared.call.Call.TheVariants.{Readdir};
+    ghost use Rattle.reference.specs.declared.reply.Reply.TheVariants.{Names};
+    ghost use Rattle.volume.specs.Typed.{replied};
+
+    type Reply = Result<Vec<(Kind, Vec<u8>)>, Errno>;
+
+    ghost event = { λ s. Ask (Readdir s.path.now) 0 };
+
+    ghost answer = { λ r. Replied (replied (λ es. Names (pairs_of es.items)) r) };
+
+    fn execute(&self, volume: &mut Volume) -> Result<Vec<(Kind, Vec<u8>)>, Errno> {
+        volume.readdir(self.alloc, self.path)
+    }
+}

@@ -1,0 +1,42 @@
+-- Differences of two trees of a volume.
+use Rattle.std.specs.Prelude.{◌≡◌, ◌⊎◌, ℕ, List, [], ◌∷◌, Result, Ok, Err, Some, None}
+use Rattle.std.specs.FinMap as finite
+use Rattle.pathkey.specs.SnapNames.{snap_parsed}
+use Rattle.pathkey.specs.declared.errno.Errno.{Errno}
+use Rattle.pathkey.specs.declared.errno.Errno.TheVariants.{ENOENT, ENOMEM}
+use Rattle.reference.specs.Tree.{Tree}
+use Rattle.reference.specs.Worlds.{World}
+use Rattle.delta.specs.Applies.{IsDifference}
+use Rattle.ffi_calls.specs.Images.{Prints}
+
+-- the tree of the snapshot of that name
+abbrev pub IsKept : Result (List ℕ) Errno → World → Tree → Type 0
+IsKept (Err e) w t = ⊥
+IsKept (Ok s) w t = finite.get w.snapshots s ≡ Some t
+
+-- the tree that a text names: the live one where it is empty, and else that of the snapshot of that name
+abbrev pub NamesTree : List ℕ → World → Tree → Type 0
+NamesTree [] w t = t ≡ w.live
+NamesTree (b ∷ name) w t = IsKept (snap_parsed (b ∷ name)) w t
+
+-- why there is no snapshot of that name: the text is no name, or none has it
+abbrev pub IsNotKept : Result (List ℕ) Errno → World → Errno → Type 0
+IsNotKept (Err f) w e = e ≡ f
+IsNotKept (Ok s) w e = (e ≡ ENOENT) × (finite.get w.snapshots s ≡ None)
+
+-- why a text names no tree, or memory was refused
+abbrev pub LacksTree : List ℕ → World → Errno → Type 0
+LacksTree [] w e = e ≡ ENOMEM
+LacksTree (b ∷ name) w e = IsNotKept (snap_parsed (b ∷ name)) w e ⊎ (e ≡ ENOMEM)
+
+-- the same of one of two texts
+abbrev pub LacksOne : List ℕ → List ℕ → World → Errno → Type 0
+LacksOne old new w e = LacksTree old w e ⊎ LacksTree new w e
+
+-- the text is the difference of the trees that two texts name
+abbrev pub DiffersSo : List ℕ → List ℕ → World → List ℕ → Type 0
+DiffersSo old new w text = (t : Tree) × (u : Tree) × NamesTree old w t × NamesTree new w u × IsDifference text t u
+
+-- its size was told, and it is in the buffer where it fits
+abbrev pub PrintsDifference : List ℕ → List ℕ → World → Result ℕ Errno → List ℕ → List ℕ → Type 0
+PrintsDifference old new w outcome before after = (text : List ℕ) × DiffersSo old new w text × Prints text outcome before after

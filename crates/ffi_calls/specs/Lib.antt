@@ -1,0 +1,9 @@
+-- What the calls of texts and bytes promise.
+pub mod Changes
+pub mod Differences
+pub mod Filling
+pub mod Holes
+pub mod Images
+pub mod Reads
+pub mod Snapshots
+pub mod Upkeep

@@ -1,0 +1,22 @@
+//! The calls of a file system as C asks them: paths and names are texts, bytes go in and out by buffers of the caller.
+//!
+//! Each function reads its texts, asks the volume or a frozen tree, and tells the reply. A text that is no path or no name is
+//! refused first, in the order of the arguments, and changes nothing. Contracts say what the volume's own say, of the texts.
+#![tactic(auto)]
+
+pub mod compaction;
+pub mod deltas;
+pub mod holes;
+pub mod image_calls;
+mod read_into;
+pub mod reads;
+pub mod snapshots;
+pub mod writes;
+
+pub use compaction::compact;
+pub use deltas::delta;
+pub use holes::{frozen_stored, punch, stored};
+pub use image_calls::{load, print, print_begin, print_piece};
+pub use reads::{frozen_read, frozen_readdir, frozen_stat, read, readdir, stat};
+pub use snapshots::{drop_snapshot, freeze, frozen, restore, snapshot, snapshot_name};
+pub use writes::{create, mkdir, rename, rmdir, rmtree, truncate, unlink, write};

@@ -1,0 +1,188 @@
+//! Calls that only look: into the live tree of a volume, or into a frozen tree.
+ghost use Rattle.std.specs.Prelude.{◌≡◌, ◌≢◌, ◌≤◌, ◌^◌, ◌++◌, [], ℕ, drop, length, IfErr, IfOk, MatchResult};
+ghost use Rattle.pathkey.specs.Texts.{parsed};
+ghost use Rattle.reference.specs.Pairs.{pairs_of};
+ghost use Rattle.volume.specs.HistoryOf.{Tells};
+ghost use Rattle.ffi_calls.specs.Reads.{Fills, IsLong, Lists, OnPath, copied, letter_of, listing_bytes, read_reply, stat_reply};
+
+use crate::read_into::{blocks_between, copy_blocks};
+use pathkey::{Errno, NoMemory, Path};
+use reference::{Call, GREATEST_READ, Kind, Meta, Reply};
+use std::alloc::Global;
+use volume::{Frozen, Volume};
+
+/// Reads a file of the live tree from the offset on into the front of the buffer, at most as many bytes as it has and none
+/// past the file's end: how many were written. A buffer of more than 1,048,576 bytes is refused with EINVAL.
+pub fn read(
+    alloc: Global,
+    volume: &Volume,
+    path: &[u8],
+    offset: u64,
+    out: &mut [u8],
+) -> Result<usize, Errno>
+    ensures reply { OnPath (parsed path.now) result (λ p. Tells (Call.Read p offset (length out.old)) (read_reply result out.new) volume.now.live) }
+    ensures buffer { Fills result out.old out.new }
+{
+    let path = Path::parse(alloc, path)?;
+    let tree = volume.freeze()?;
+    read_at(alloc, &tree, &path, offset, out)
+}
+
+/// Reads a file of a frozen tree, as `read` does of the live one.
+pub fn frozen_read(
+    alloc: Global,
+    tree: &Frozen,
+    path: &[u8],
+    offset: u64,
+    out: &mut [u8],
+) -> Result<usize, Errno>
+    ensures reply { OnPath (parsed path.now) result (λ p. Tells (Call.Read p offset (length out.old)) (read_reply result out.new) tree.now) }
+    ensures buffer { Fills result out.old out.new }
+{
+    let path = Path::parse(alloc, path)?;
+    read_at(alloc, tree, &path, offset, out)
+}
+
+/// What stands at a path of the live tree.
+pub fn stat(alloc: Global, volume: &Volume, path: &[u8]) -> Result<Meta, Errno>
+    ensures { OnPath (parsed path.now) result (λ p. Tells (Call.Stat p) (stat_reply result) volume.now.live) }
+{
+    let path = Path::parse(alloc, path)?;
+    let tree = volume.freeze()?;
+    stat_at(alloc, &tree, &path)
+}
+
+/// What stands at a path of a frozen tree.
+pub fn frozen_stat(alloc: Global, tree: &Frozen, path: &[u8]) -> Result<Meta, Errno>
+    ensures { OnPath (parsed path.now) result (λ p. Tells (Call.Stat p) (stat_reply result) tree.now) }
+{
+    let path = Path::parse(alloc, path)?;
+    stat_at(alloc, tree, &path)
+}
+
+/// Lists a directory of the live tree: for each entry `d` or `f`, its name and a byte 0, in byte order of names. The result is
+/// how many bytes that takes; they are written where the buffer has room for all of them, and else it stays as it was.
+pub fn readdir(alloc: Global, volume: &Volume, path: &[u8], out: &mut [u8]) -> Result<usize, Errno>
+    ensures reply { OnPath (parsed path.now) result (λ p. Lists p volume.now.live result out.old out.new) }
+    ensures refused { IfErr result (λ _. out.new ≡ out.old) }
+{
+    let path = Path::parse(alloc, path)?;
+    let tree = volume.freeze()?;
+    readdir_at(alloc, &tree, &path, out)
+}
+
+/// Lists a directory of a frozen tree, as `readdir` does of the live one.
+pub fn frozen_readdir(
+    alloc: Global,
+    tree: &Frozen,
+    path: &[u8],
+    out: &mut [u8],
+) -> Result<usize, Errno>
+    ensures reply { OnPath (parsed path.now) result (λ p. Lists p tree.now result out.old out.new) }
+    ensures refused { IfErr result (λ _. out.new ≡ out.old) }
+{
+    let path = Path::parse(alloc, path)?;
+    readdir_at(alloc, tree, &path, out)
+}
+
+// Reads the file at a path straight from its blocks: they are all found first, so a refusal leaves the buffer as it was.
+fn read_at(
+    alloc: Global,
+    tree: &Frozen,
+    path: &Path,
+    offset: u64,
+    out: &mut [u8],
+) -> Result<usize, Errno>
+    ensures reply { Tells (Call.Read path.now offset (length out.old)) (read_reply result out.new) tree.now }
+    ensures buffer { Fills result out.old out.new }
+{
+    tree.assert_invariant();
+    let len = length_at(alloc, tree, path)?;
+    let count = out.len() as u64;
+    if count > GREATEST_READ {
+        return Err(Errno::EINVAL);
+    }
+    // A sum that is cut off lies past the file's end all the same.
+    let end = offset.saturating_add(count).min(len);
+    if end <= offset {
+        return Ok(0);
+    }
+    let blocks = blocks_between(alloc, &tree.indexes().block, path, offset, end)?;
+    copy_blocks(blocks.as_slice(), offset, end, out);
+    Ok((end - offset) as usize)
+}
+
+// The length of the file at a path; or why none can be read there.
+fn length_at(alloc: Global, tree: &Frozen, path: &Path) -> Result<u64, Errno>
+    ensures reported { MatchResult result (IsLong path.now tree.now) (λ e. (off n : ℕ) → Tells (Call.Read path.now off n) (Reply.Fault e) tree.now) }
+    ensures file { IfOk result (λ _. path.now ≢ []) }
+    ensures short { IfOk result (λ len. len ≤ 2 ^ 40) }
+{
+    tree.assert_invariant();
+    match stat_at(alloc, tree, path)? {
+        Meta::Dir { .. } => Err(Errno::EISDIR),
+        Meta::File { len, .. } => Ok(len),
+    }
+}
+
+// What stands at a path.
+fn stat_at(alloc: Global, tree: &Frozen, path: &Path) -> Result<Meta, Errno>
+    ensures { Tells (Call.Stat path.now) (stat_reply result) tree.now }
+{
+    tree.assert_invariant();
+    match tree.try_stat(alloc, path)? {
+        (Kind::Dir, _, modified) => Ok(Meta::Dir { modified }),
+        (Kind::File, len, modified) => Ok(Meta::File { len, modified }),
+    }
+}
+
+// Lists the directory at a path.
+fn readdir_at(alloc: Global, tree: &Frozen, path: &Path, out: &mut [u8]) -> Result<usize, Errno>
+    ensures { Lists path.now tree.now result out.old out.new }
+{
+    let entries = tree.try_readdir(alloc, path)?;
+    let text = listing_bytes(alloc, entries.as_slice())?;
+    Ok(copy_if_fits(text.as_slice(), out))
+}
+
+// Lays bytes over the front of a buffer that has room for all of them: how many they are.
+pub(crate) fn copy_if_fits(bytes: &[u8], out: &mut [u8]) -> usize
+    ensures size { result ≡ length bytes.now }
+    ensures buffer { out.new ≡ copied bytes.now out.old }
+{
+    if bytes.len() <= out.len() {
+        lay(bytes, out);
+    }
+    bytes.len()
+}
+
+// Lays bytes over the front of a buffer.
+fn lay(bytes: &[u8], out: &mut [u8])
+    requires { length bytes.now ≤ length out.old }
+    ensures { out.new ≡ bytes.now ++ drop (length bytes.now) out.old }
+{
+    out[..bytes.len()].copy_from_slice(bytes);
+}
+
+// Entries as bytes.
+fn listing_bytes(alloc: Global, entries: &[(Kind, Vec<u8>)]) -> Result<Vec<u8>, NoMemory>
+    ensures { IfOk result (λ text. text.items ≡ listing_bytes (pairs_of entries.now)) }
+{
+    let mut text = Vec::new(alloc);
+    for (kind, name) in entries {
+        text.push(letter_of(*kind))?;
+        text.extend_from_slice(name.as_slice())?;
+        text.push(0)?;
+    }
+    Ok(text)
+}
+
+// The letter of a kind.
+fn letter_of(kind: Kind) -> u8
+    ensures { result ≡ letter_of kind }
+{
+    match kind {
+        Kind::Dir => b'd',
+        Kind::File => b'f',
+    }
+}

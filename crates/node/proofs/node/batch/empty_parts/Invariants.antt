@@ -1,6 +1,0 @@
-use Rattle.std.proofs.Common.{◌≡◌, take, map, []}
-use Rattle.node.specs.Searchable.{see_list}
-use Rattle.node.proofs.node.batch.empty_parts.Given as goal
-
-abbrev pub invariant-loop : goal.invariant-loop
-invariant-loop g l = map see_list l.parts.items ≡ map (λ s. []) (take l.index l.slots)

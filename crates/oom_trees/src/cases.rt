@@ -1,0 +1,181 @@
+//! Pending lists that are cut, joined, sunk or copied, or of which some messages are taken, each between the two lines. Each key is so long that
+//! a copy of it takes memory, so a copy of a message shows among the requests.
+use crate::lists::{List, apart, eight, middle_of_apart, middle_of_nested, nested, puts, updates};
+use crate::window;
+use crate::words::word_at;
+use pathkey::{Key, NoMemory};
+use std::alloc::Global;
+use std::io::Write;
+
+/// Does the deed that the first word names, on lists of as many messages of a kind as the second one says. Prints how many messages each
+/// list then has, and how many of them are range-deletes. None where there is no such deed.
+pub fn scene<R: Print>(rt: &R, alloc: Global, words: &[&str], out: &mut Vec<u8>) -> Option<bool> {
+    let count = word_at(words, 1)?.parse::<u32>().ok()?;
+    match word_at(words, 0)? {
+        "cut" => Some(cut_apart(rt, alloc, count, out).is_ok()),
+        "cut_tail" => Some(cut_nested(rt, alloc, count, out).is_ok()),
+        "join" => Some(join_apart(rt, alloc, count, out).is_ok()),
+        "join_tails" => Some(join_nested(rt, alloc, count, out).is_ok()),
+        "sink" => Some(sink_apart(rt, alloc, count, out).is_ok()),
+        "take" => Some(take_updates(rt, alloc, count, out).is_ok()),
+        "copy" => Some(copy_puts(rt, alloc, count, out).is_ok()),
+        _ => None,
+    }
+}
+
+/// Prints a word, how many messages a list has, and how many of them are range-deletes.
+fn print_outcome(out: &mut Vec<u8>, word: &str, list: &List) {
+    let _ = writeln!(out, "{word} {} {}", list.len(), list.range_deletes(0));
+}
+
+/// Cuts a list at a key.
+fn cut<R: Print>(
+    rt: &R,
+    alloc: Global,
+    list: List,
+    pivot: &Key,
+    out: &mut Vec<u8>,
+) -> Result<(), NoMemory> {
+    let mut front = list;
+    let first = Key::new(alloc);
+    window::open(rt);
+    let back = front.split_off(alloc, 0, &first, pivot);
+    window::close(rt);
+    print_outcome(out, "front", &front);
+    print_outcome(out, "back", &back?);
+    Ok(())
+}
+
+/// Cuts a list whose messages lie apart, in its middle.
+fn cut_apart<R: Print>(
+    rt: &R,
+    alloc: Global,
+    count: u32,
+    out: &mut Vec<u8>,
+) -> Result<(), NoMemory> {
+    let pivot = middle_of_apart(alloc, count)?;
+    cut(rt, alloc, apart(alloc, count)?, &pivot, out)
+}
+
+/// Cuts a list whose messages wait as they came, in its middle.
+fn cut_nested<R: Print>(
+    rt: &R,
+    alloc: Global,
+    count: u32,
+    out: &mut Vec<u8>,
+) -> Result<(), NoMemory> {
+    let pivot = middle_of_nested(alloc, count)?;
+    cut(rt, alloc, nested(alloc, count)?, &pivot, out)
+}
+
+/// Joins the parts of a list before a key and from it on.
+fn join<R: Print>(
+    rt: &R,
+    alloc: Global,
+    list: List,
+    pivot: &Key,
+    out: &mut Vec<u8>,
+) -> Result<(), NoMemory> {
+    let mut front = list;
+    let back = front.split_off(alloc, 0, &Key::new(alloc), pivot)?;
+    window::open(rt);
+    let joined = front.merged(alloc, back, pivot);
+    window::close(rt);
+    print_outcome(out, "joined", &joined?);
+    Ok(())
+}
+
+/// Joins the halves of a list whose messages lie apart.
+fn join_apart<R: Print>(
+    rt: &R,
+    alloc: Global,
+    count: u32,
+    out: &mut Vec<u8>,
+) -> Result<(), NoMemory> {
+    let pivot = middle_of_apart(alloc, count)?;
+    join(rt, alloc, apart(alloc, count)?, &pivot, out)
+}
+
+/// Joins the halves of a list whose messages wait as they came.
+fn join_nested<R: Print>(
+    rt: &R,
+    alloc: Global,
+    count: u32,
+    out: &mut Vec<u8>,
+) -> Result<(), NoMemory> {
+    let pivot = middle_of_nested(alloc, count)?;
+    join(rt, alloc, nested(alloc, count)?, &pivot, out)
+}
+
+/// Lets all messages of a list sink into another.
+fn sink<R: Print>(rt: &R, list: List, to: List, out: &mut Vec<u8>) -> Result<(), NoMemory> {
+    let mut list = list;
+    let mut to = to;
+    window::open(rt);
+    let sunk = list.flush_all(&mut to);
+    window::close(rt);
+    print_outcome(out, "left", &list);
+    print_outcome(out, "to", &to);
+    sunk
+}
+
+/// Lets all messages of a list, which lie apart, sink into one that they meet.
+fn sink_apart<R: Print>(
+    rt: &R,
+    alloc: Global,
+    count: u32,
+    out: &mut Vec<u8>,
+) -> Result<(), NoMemory> {
+    let to = eight(alloc)?;
+    sink(rt, apart(alloc, count)?, to, out)
+}
+
+/// How many messages are copied out of the front of a list.
+const COPIED: usize = 7;
+
+/// Copies the oldest messages of a list, and lets one of them sink into another list.
+fn take<R: Print>(
+    rt: &R,
+    alloc: Global,
+    list: List,
+    to: List,
+    out: &mut Vec<u8>,
+) -> Result<(), NoMemory> {
+    let mut list = list;
+    let mut to = to;
+    let count = list.len().min(COPIED);
+    window::open(rt);
+    let copied = list.copy_front(alloc, count);
+    let sunk = list.flush_oldest(&mut to, 1);
+    window::close(rt);
+    let _ = writeln!(out, "copied {} sunk {}", copied?.len(), sunk?);
+    print_outcome(out, "left", &list);
+    print_outcome(out, "to", &to);
+    Ok(())
+}
+
+/// Copies the oldest of so many updates in a list, and lets one of them sink into another such list.
+fn take_updates<R: Print>(
+    rt: &R,
+    alloc: Global,
+    count: u32,
+    out: &mut Vec<u8>,
+) -> Result<(), NoMemory> {
+    let to = updates(alloc, count)?;
+    take(rt, alloc, updates(alloc, count)?, to, out)
+}
+
+/// Copies a list of puts.
+fn copy_puts<R: Print>(
+    rt: &R,
+    alloc: Global,
+    count: u32,
+    out: &mut Vec<u8>,
+) -> Result<(), NoMemory> {
+    let list = puts(alloc, count)?;
+    window::open(rt);
+    let copy = list.copy(alloc);
+    window::close(rt);
+    print_outcome(out, "copy", &copy?);
+    Ok(())
+}

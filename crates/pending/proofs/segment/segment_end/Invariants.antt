@@ -1,0 +1,7 @@
+use Rattle.std.proofs.Common.{take}
+use Rattle.std.specs.Option.{option_copied}
+use Rattle.message.specs.Stretches.{IsStretch}
+use Rattle.pending.proofs.segment.segment_end.Given as goal
+
+abbrev pub invariant-loop-waiting : goal.invariant-loop-waiting
+invariant-loop-waiting g l = IsStretch (take l.waiting-index l.msgs) l.from (option_copied l.end) (option_copied l.stop)

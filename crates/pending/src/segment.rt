@@ -1,0 +1,96 @@
+//! Stretches: keys in a row of which each message touches all or none.
+ghost use Rattle.std.specs.Prelude.{◌≡◌, IfOk, true};
+ghost use Rattle.std.specs.Option.{option_copied};
+ghost use Rattle.pathkey.specs.Keys.{is_below};
+ghost use Rattle.message.specs.PointKeys.{point_stop, IsPointStop};
+ghost use Rattle.pending.specs.MsgRef.{borrowed_msg};
+ghost use Rattle.message.specs.Stretches.{ahead_of, range_end, IsNextEnd, IsStretch};
+
+use crate::buffered_msg::BufferedMsg;
+use crate::msg_ref::MsgRef;
+use message::Update;
+use message::ends::{copy_end, earlier, is_within};
+use pathkey::{Key, NoMemory};
+use std::alloc::Global;
+
+/// The end, where it lies after `from`.
+pub(crate) fn ahead_of<'a>(from: &Key, end: Option<&'a Key>) -> Option<&'a Key>
+    ensures { option_copied result ≡ ahead_of from.now (option_copied end.entry) }
+{
+    match end {
+        Some(key) if from.cmp(key).is_lt() => Some(key),
+        _ => None,
+    }
+}
+
+/// Where the range from `lo` up to `hi` next begins or ends after `from`; `None` is no end.
+fn range_end<'a>(from: &Key, lo: &'a Key, hi: Option<&'a Key>) -> Option<&'a Key>
+    ensures { option_copied result ≡ range_end from.now (record { lo = lo.now; hi = option_copied hi.entry }) }
+{
+    if from.cmp(lo).is_lt() {
+        return Some(lo);
+    }
+    ahead_of(from, hi)
+}
+
+/// The next key after `from` where the message begins or ceases to touch keys, unless it is for `from` alone.
+fn next_end<'a, U: Update>(from: &Key, msg: MsgRef<'a, U>) -> Option<&'a Key>
+    ensures { IsNextEnd from.now (borrowed_msg msg.entry) (option_copied result) }
+{
+    match msg {
+        MsgRef::Put(key, _) => ahead_of(from, Some(key)),
+        MsgRef::Del(key) => ahead_of(from, Some(key)),
+        MsgRef::DelRange(lo, hi) => range_end(from, lo, hi),
+        MsgRef::Edit(key, _) => ahead_of(from, Some(key)),
+    }
+}
+
+/// Where the stretch that begins at `from` ends: at `end` or before it.
+pub(crate) fn segment_end<U: Update>(
+    alloc: Global,
+    msgs: &[BufferedMsg<U>],
+    from: &Key,
+    end: Option<&Key>,
+) -> Result<Option<Key>, NoMemory>
+    requires { is_below from.now (option_copied end) ≡ true }
+    ensures { IfOk result (λ stop. IsStretch msgs.now from.now (option_copied end.entry) stop) }
+{
+    let mut stop = end;
+    for waiting in msgs {
+        let msg = waiting.as_msg();
+        if msg.is_for(from) {
+            return Ok(Some(from.next(alloc)?));
+        }
+        stop = earlier(stop, next_end(from, msg));
+    }
+    copy_end(alloc, stop)
+}
+
+/// The key, where it lies from `from` up to and without `end`; else `end`.
+pub(crate) fn point_stop<'a>(
+    at: Option<&'a Key>,
+    from: &Key,
+    end: Option<&'a Key>,
+) -> Option<&'a Key>
+    ensures { option_copied result ≡ point_stop (option_copied at.entry) from.now (option_copied end.entry) }
+{
+    match at {
+        Some(key) if is_within(key, from, end) => Some(key),
+        _ => end,
+    }
+}
+
+/// The first key from `from` on that has a message for it alone, if it stands before `end`; else `end`.
+pub(crate) fn next_point<'a, U: Update>(
+    msgs: &'a [BufferedMsg<U>],
+    from: &Key,
+    end: Option<&'a Key>,
+) -> Option<&'a Key>
+    ensures { IsPointStop msgs.now from.now (option_copied end.entry) (option_copied result) }
+{
+    let mut stop = end;
+    for waiting in msgs {
+        stop = point_stop(waiting.as_msg().point_key(), from, stop);
+    }
+    stop
+}

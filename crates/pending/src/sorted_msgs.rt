@@ -1,0 +1,483 @@
+//! A sorted list of messages, kept short: what a later message makes idle is taken away.
+ghost use Rattle.std.specs.Prelude.{◌≡◌, ◌+◌, ◌^◌, ◌<◌, ◌≤◌, ◌++◌, [], ◌∷◌, true, false, length, take, drop, Some, None, if◌then◌else◌, IfOk, IfErr, IfNone, IfSome, OnOk, OnErr, MatchOption};
+ghost use Rattle.std.specs.Option.{option_copied, option_map};
+ghost use Rattle.std.specs.List.{All, slice_get};
+ghost use Rattle.pathkey.specs.Keys.{is_below};
+ghost use Rattle.message.specs.Cuts.{pieces, IsJoined, IsParted, LieIn};
+ghost use Rattle.message.specs.Effects.{effects, point_key, range_count, Takes};
+ghost use Rattle.message.specs.Oldest.{first_point};
+ghost use Rattle.message.specs.PointKeys.{is_cleared, IsPointStop, IsClearStretch};
+ghost use Rattle.message.specs.Stretches.{EndsAhead, is_key};
+ghost use Rattle.message.specs.Resolution.{IsResolved};
+ghost use Rattle.message.specs.declared.resolution.Resolution.TheVariants as resolution;
+ghost use Rattle.cow_map.specs.Places.{Rises, at_key};
+ghost use Rattle.point_ops.specs.PointOps.{left, AreRuns, IsLeft};
+ghost use Rattle.pending.specs.Ahead.{AreFrom};
+ghost use Rattle.pending.specs.MsgRef.{borrowed_msg};
+ghost use Rattle.pending.specs.SortedMsgs.{sorted_msgs};
+
+use crate::insert::insert;
+use crate::msg_ref::MsgRef;
+use crate::segment::point_stop;
+use cow_map::Cursor;
+use message::ends::earlier;
+use message::{Msg, Resolution, Update, UpdateTarget};
+use pathkey::{Key, NoMemory};
+use point_ops::{KeyOps, PointOps};
+use range_set::RangeSet;
+use std::alloc::Global;
+use std::marker::Model;
+
+/// The most messages of a sorted list.
+const MOST: usize = 1 << 62;
+
+/// A sorted list of messages, from whose front messages leave one by one.
+///
+/// Contracts see the range-deletes by their low ends, and then the point messages by their keys without the `consumed` oldest of the
+/// first key. A range-delete that comes in takes away each point message that it touches, so none in the list is newer than a
+/// point message inside it. What other lists share is not taken apart: it is counted how many messages of the first key have left.
+#[derive(Drop)]
+pub struct SortedMsgs<U: UpdateTarget> {
+    ranges: RangeSet,
+    points: PointOps<U>,
+    consumed: usize,
+}
+
+impl<U: UpdateTarget> Model for SortedMsgs<U> {
+    ghost use Rattle.std.specs.Prelude.{List};
+    ghost use Rattle.message.specs.declared.msg.Msg.{Msg};
+
+    ghost Value = { List (Msg U U.Value) };
+
+    ghost use Rattle.point_ops.specs.PointOps.{left};
+    ghost use Rattle.pending.specs.SortedMsgs.{sorted_msgs, IsSorted};
+
+    ghost view = { λ p. sorted_msgs p.ranges (left p.consumed p.points) };
+
+    ghost invariant = { λ p. IsSorted p.ranges p.points p.consumed };
+}
+
+impl<U: Update> SortedMsgs<U> {
+    /// A list without messages. It takes no memory.
+    pub(crate) fn new(alloc: Global) -> SortedMsgs<U>
+        ensures { result ≡ [] }
+    {
+        SortedMsgs {
+            ranges: RangeSet::new(alloc),
+            points: PointOps::new(alloc),
+            consumed: 0,
+        }
+    }
+
+    /// How many messages the list holds.
+    #[inline(always)]
+    pub(crate) fn len(&self) -> usize
+        ensures len { result ≡ length self.now }
+        ensures small { result ≤ 2 ^ 62 }
+    {
+        self.ranges.len() + (self.points.len() - self.consumed)
+    }
+
+    /// How many of the messages are range-deletes, without the `consumed` oldest.
+    pub(crate) fn range_deletes(&self, consumed: usize) -> usize
+        ensures count { result ≡ range_count (drop consumed self.now) }
+        ensures small { result ≤ 2 ^ 62 }
+    {
+        self.ranges.len().saturating_sub(consumed)
+    }
+
+    /// The oldest message, if there is one.
+    #[inline(always)]
+    pub(crate) fn oldest(&self) -> Option<MsgRef<'_, U>>
+        ensures { option_map borrowed_msg result ≡ slice_get self.now 0 }
+    {
+        match self.ranges.first() {
+            Some((low, high)) => Some(MsgRef::DelRange(low, high.as_ref())),
+            None => match self.points.first() {
+                Some((key, run)) => Some(MsgRef::at(key, run.op_at(self.consumed))),
+                None => None,
+            },
+        }
+    }
+
+    // ---- what comes in
+
+    /// Adds a message, newer than all others. It comes back where memory is refused, or where the list holds [`MOST`] messages.
+    /// What is left of the list then means with it what the list and it meant: a range-delete may have taken away what it touches.
+    #[inline(always)]
+    pub(crate) fn push(&mut self, alloc: Global, msg: Msg<U>) -> Result<(), Msg<U>>
+        ensures takes { OnOk result (Takes U.means self.old (msg ∷ []) self.new) }
+        ensures refused { OnErr result (Takes U.means self.old (msg ∷ []) (self.new ++ msg ∷ [])) }
+        ensures back { IfErr result (λ m. m ≡ msg) }
+    {
+        if self.len() >= MOST {
+            return Err(msg);
+        }
+        let Ok(()) = make_whole(&mut self.points, alloc, &mut self.consumed) else {
+            return Err(msg);
+        };
+        let answer = insert(&mut self.ranges, &mut self.points, alloc, msg);
+        self.points.assert_invariant();
+        answer
+    }
+
+    /// Moves the oldest messages of another list, a range-delete or those of one key and at most `most`, into their place, newer
+    /// than all that are here, and counts them. None come where [`SortedMsgs::take_range`] or [`PointOps::take_first`] takes none.
+    pub(crate) fn take_first(
+        &mut self,
+        alloc: Global,
+        from: &mut SortedMsgs<U>,
+        most: usize,
+    ) -> Option<usize>
+        ensures takes { IfSome result (λ n. Takes U.means self.old (take n from.old) self.new) }
+        ensures left { IfSome result (λ n. from.new ≡ drop n from.old) }
+        ensures within { IfSome result (λ n. (0 < n) × (n ≤ most) × (n ≤ length from.old)) }
+        ensures alike { IfSome result (λ n. All (λ m. point_key m ≡ first_point from.old) (take n from.old)) }
+        ensures none { IfNone result ((self.new ≡ self.old) × (from.new ≡ from.old)) }
+    {
+        if most == 0 || self.len() >= MOST - most.min(MOST) {
+            return None;
+        }
+        if from.ranges.len() > 0 {
+            return if self.take_range(alloc, from) {
+                Some(1)
+            } else {
+                None
+            };
+        }
+        let Ok(()) = make_whole(&mut self.points, alloc, &mut self.consumed) else {
+            return None;
+        };
+        let Ok(()) = make_whole(&mut from.points, alloc, &mut from.consumed) else {
+            return None;
+        };
+        let came = self.points.take_first(&mut from.points, most)?;
+        self.points.assert_invariant();
+        from.points.assert_invariant();
+        Some(came)
+    }
+
+    /// Moves the first range-delete of another list here, newer than all that are here, as it lies in memory. It says whether it
+    /// did: there may be none, it may hold a key that has messages here, or memory is refused.
+    fn take_range(&mut self, alloc: Global, from: &mut SortedMsgs<U>) -> bool
+        requires { length self.old < 2 ^ 62 }
+        ensures takes { result ≡ true → Takes U.means self.old (take 1 from.old) self.new }
+        ensures left { result ≡ true → from.new ≡ drop 1 from.old }
+        ensures some { result ≡ true → 1 ≤ length from.old }
+        ensures alike { result ≡ true → All (λ m. point_key m ≡ first_point from.old) (take 1 from.old) }
+        ensures no { result ≡ false → (self.new ≡ self.old) × (from.new ≡ from.old) }
+    {
+        let Some((low, high)) = from.ranges.first() else {
+            return false;
+        };
+        if self.points.has_within(low, high.as_ref()) {
+            return false;
+        }
+        self.points.assert_invariant();
+        let Ok(()) = self.ranges.take_first(alloc, &mut from.ranges) else {
+            return false;
+        };
+        true
+    }
+
+    // ---- what goes out
+
+    /// Takes the `count` oldest messages away. It takes no memory.
+    pub(crate) fn drop_front(&mut self, count: usize)
+        requires { count ≤ length self.old }
+        ensures { self.new ≡ drop count self.old }
+    {
+        // What `len` promises says that the sum below is a number.
+        let _ = self.points.len();
+        let first = count.min(self.ranges.len());
+        self.ranges.drop_front(first);
+        self.consumed = self.points.drop_oldest(self.consumed + (count - first));
+    }
+
+    /// Copies of the `count` oldest messages, or of all where there are fewer.
+    pub(crate) fn copy_front(&self, alloc: Global, count: usize) -> Result<Vec<Msg<U>>, NoMemory>
+        ensures { IfOk result (λ front. front.items ≡ take count self.now) }
+    {
+        let mut front = Vec::new(alloc);
+        self.ranges.copy_into::<U>(alloc, count, &mut front)?;
+        self.points
+            .copy_into(alloc, self.consumed, count, &mut front)?;
+        front.truncate(count);
+        Ok(front)
+    }
+
+    /// A list of the same messages, which both then share.
+    pub(crate) fn copy(&self) -> Result<SortedMsgs<U>, NoMemory>
+        ensures { IfOk result (λ p. p ≡ self.now) }
+    {
+        let ranges = self.ranges.copy()?;
+        let points = self.points.copy()?;
+        Ok(SortedMsgs {
+            ranges,
+            points,
+            consumed: self.consumed,
+        })
+    }
+
+    // ---- cuts and joins
+
+    /// Moves the messages from the pivot on out of the list. None come where that can't be: where there is a range-delete, or a
+    /// message before `lo`.
+    pub(crate) fn split_off(
+        &mut self,
+        alloc: Global,
+        lo: &Key,
+        pivot: &Key,
+    ) -> Result<Option<SortedMsgs<U>>, NoMemory>
+        ensures parted { IfOk result (λ o. MatchOption o (self.new ≡ self.old) (IsParted lo.now pivot.now self.old self.new)) }
+        ensures err { OnErr result (self.new ≡ self.old) }
+    {
+        if self.ranges.len() > 0 || !self.points.begin_from(lo) {
+            return Ok(None);
+        }
+        make_whole(&mut self.points, alloc, &mut self.consumed)?;
+        let points = self.points.split_off(pivot)?;
+        Ok(Some(SortedMsgs {
+            ranges: RangeSet::new(alloc),
+            points,
+            consumed: 0,
+        }))
+    }
+
+    /// The parts of the messages before the pivot, and those from it on. The messages are the same; a range-delete over the pivot
+    /// is made two.
+    pub(crate) fn split_at(
+        self,
+        alloc: Global,
+        pivot: &Key,
+    ) -> Result<(SortedMsgs<U>, SortedMsgs<U>), NoMemory>
+        ensures front { IfOk result (λ r. r.0 ≡ pieces [] (Some pivot.now) self) }
+        ensures back { IfOk result (λ r. r.1 ≡ pieces pivot.now None self) }
+    {
+        let mut points = whole(self.points, alloc, self.consumed)?;
+        let later = points.split_off(pivot)?;
+        let (ranges, behind) = self.ranges.split_at::<U>(alloc, pivot)?;
+        let front = SortedMsgs {
+            ranges,
+            points,
+            consumed: 0,
+        };
+        let back = SortedMsgs {
+            ranges: behind,
+            points: later,
+            consumed: 0,
+        };
+        Ok((front, back))
+    }
+
+    /// Whether each message lies whole before the pivot.
+    pub(crate) fn lies_before(&self, pivot: &Key) -> bool
+        ensures { result ≡ true → LieIn [] (Some pivot.now) self.now }
+    {
+        self.ranges.end_by::<U>(pivot) && self.points.end_before(pivot)
+    }
+
+    /// Whether each message lies whole from the pivot on.
+    pub(crate) fn lies_from(&self, pivot: &Key) -> bool
+        ensures { result ≡ true → LieIn pivot.now None self.now }
+    {
+        self.ranges.begin_from::<U>(pivot) && self.points.begin_from(pivot)
+    }
+
+    /// A list of the messages of both lists, where one lies before the pivot and the newer one from it on. There is none where they
+    /// are more than [`MOST`].
+    pub(crate) fn merged(
+        self,
+        alloc: Global,
+        newer: SortedMsgs<U>,
+        pivot: &Key,
+    ) -> Result<SortedMsgs<U>, NoMemory>
+        requires before { LieIn [] (Some pivot.now) self }
+        requires from { LieIn pivot.now None newer }
+        ensures { IfOk result (λ p. IsJoined pivot.now self newer p) }
+    {
+        if self.len() + newer.len() > MOST {
+            return Err(NoMemory);
+        }
+        let points = whole(self.points, alloc, self.consumed)?;
+        let later = whole(newer.points, alloc, newer.consumed)?;
+        let ranges = self.ranges.merged::<U>(alloc, newer.ranges, pivot)?;
+        let all = points.merged(later)?;
+        Ok(SortedMsgs {
+            ranges,
+            points: all,
+            consumed: 0,
+        })
+    }
+
+    // ---- what is asked
+
+    /// The value at the key after the messages, where `old` was there.
+    pub(crate) fn value_after(
+        &self,
+        alloc: Global,
+        key: &Key,
+        old: Option<U::Value>,
+    ) -> Result<Option<U::Value>, NoMemory>
+        ensures { IfOk result (λ v. v ≡ effects U.means self.now key.now old) }
+    {
+        self.points.assert_invariant();
+        let below = unless(self.ranges.is_covered(key), old);
+        match self.points.run_at(key) {
+            Some(run) => run.apply(alloc, consumed_at(&self.points, self.consumed, key), below),
+            None => Ok(below),
+        }
+    }
+
+    /// What the list says of the value at the key. It copies nothing but a value that it settles.
+    pub(crate) fn resolve(&self, alloc: Global, key: &Key) -> Result<Resolution<U::Value>, NoMemory>
+        ensures { IfOk result (IsResolved U.means self.now key.now) }
+    {
+        self.points.assert_invariant();
+        let is_covered = self.ranges.is_covered(key);
+        match self.points.run_at(key) {
+            Some(run) => run.resolve(
+                alloc,
+                consumed_at(&self.points, self.consumed, key),
+                is_covered,
+            ),
+            None => Ok(untouched(is_covered)),
+        }
+    }
+
+    /// Where the stretch of keys that begins at `from` ends, at `end` or before it; none where a message is for `from` alone.
+    pub(crate) fn segment_end<'a>(
+        &'a self,
+        from: &Key,
+        end: Option<&'a Key>,
+    ) -> Option<Option<&'a Key>>
+        requires { is_below from.now (option_copied end) ≡ true }
+        ensures { EndsAhead self.now from.now (option_copied end.entry) (option_map option_copied result) }
+    {
+        self.points.assert_invariant();
+        let next = self.points.first_from(from);
+        if is_key(next, from) {
+            return None;
+        }
+        let stop = self.ranges.segment_end::<U>(from, end);
+        Some(earlier(stop, next))
+    }
+
+    /// The first key from `from` on that has a message for it alone, if it stands before `end`; else `end`.
+    pub(crate) fn next_point<'a>(&'a self, from: &'a Key, end: Option<&'a Key>) -> Option<&'a Key>
+        ensures { IsPointStop self.now from.now (option_copied end.entry) (option_copied result) }
+    {
+        self.points.assert_invariant();
+        point_stop(self.points.first_from(from), from, end)
+    }
+
+    /// The entries from the key on, where no message of the first key is gone.
+    pub(crate) fn walk_from(&self, from: &Key) -> Option<Cursor<'_, KeyOps<U>>>
+        ensures { IfSome result (λ rest. AreFrom self.now from.now rest) }
+    {
+        if self.consumed > 0 {
+            return None;
+        }
+        self.points.assert_invariant();
+        Some(self.points.walk_from(from))
+    }
+
+    /// Whether a range-delete holds the key.
+    pub(crate) fn is_range_deleted(&self, key: &Key) -> bool
+        ensures { result ≡ is_cleared self.now key.now }
+    {
+        self.ranges.is_covered(key)
+    }
+
+    /// Up to where the range-deletes hold all keys from `from` on, or none: at `end` or before it.
+    pub(crate) fn range_deleted_until<'a>(
+        &'a self,
+        from: &Key,
+        end: Option<&'a Key>,
+    ) -> Option<&'a Key>
+        requires { is_below from.now (option_copied end) ≡ true }
+        ensures { IsClearStretch self.now from.now (option_copied end.entry) (option_copied result) }
+    {
+        self.ranges.segment_end::<U>(from, end)
+    }
+}
+
+/// Takes the messages of the first key away that are gone. On want of memory all is as it was.
+fn make_whole<U: Update>(
+    points: &mut PointOps<U>,
+    alloc: Global,
+    consumed: &mut usize,
+) -> Result<(), NoMemory>
+    requires { IsLeft consumed.old points.old }
+    ensures same { left consumed.new points.new ≡ left consumed.old points.old }
+    ensures left { IsLeft consumed.new points.new }
+    ensures whole { OnOk result (consumed.new ≡ 0) }
+    ensures rises { OnOk result (Rises points.new) }
+    ensures runs { OnOk result (AreRuns points.new) }
+{
+    points.make_whole(alloc, *consumed)?;
+    *consumed = 0;
+    points.assert_invariant();
+    Ok(())
+}
+
+/// The messages without those of the first key that are gone.
+fn whole<U: Update>(
+    points: PointOps<U>,
+    alloc: Global,
+    consumed: usize,
+) -> Result<PointOps<U>, NoMemory>
+    requires { IsLeft consumed points }
+    ensures same { IfOk result (λ p. p ≡ left consumed points) }
+    ensures rises { IfOk result Rises }
+    ensures runs { IfOk result AreRuns }
+{
+    let mut points = points;
+    points.make_whole(alloc, consumed)?;
+    points.assert_invariant();
+    Ok(points)
+}
+
+/// How many of the oldest messages at a key are gone: of the first key alone some may be.
+fn consumed_at<U: Update>(points: &PointOps<U>, consumed: usize, key: &Key) -> usize
+    requires { IsLeft consumed points.now }
+    ensures left { at_key key.now (left consumed points.now) ≡ option_map (λ cs. drop result cs) (at_key key.now points.now) }
+    ensures some { IfSome (at_key key.now points.now) (λ cs. result < length cs) }
+{
+    points.assert_invariant();
+    if consumed == 0 {
+        return 0;
+    }
+    match points.first() {
+        Some((first, _)) if first == key => consumed,
+        _ => 0,
+    }
+}
+
+/// Whether there is a key and it is this one.
+fn is_key(at: Option<&Key>, key: &Key) -> bool
+    ensures { result ≡ is_key (option_copied at.entry) key.now }
+{
+    match at {
+        None => false,
+        Some(at) => *at == *key,
+    }
+}
+
+/// The value, unless it is gone.
+pub(crate) fn unless<V: Drop>(is_gone: bool, old: Option<V>) -> Option<V>
+    ensures { result ≡ (if is_gone then None else old) }
+{
+    if is_gone { None } else { old }
+}
+
+/// What is told of a key that no point message touches.
+fn untouched<V>(is_covered: bool) -> Resolution<V>
+    ensures { result ≡ (if is_covered then resolution.Value None else resolution.Untouched) }
+{
+    if is_covered {
+        Resolution::Value(None)
+    } else {
+        Resolution::Untouched
+    }
+}

@@ -1,0 +1,282 @@
+//! Lists that share their messages. The updates here refuse to be copied, so what succeeds copies none.
+ghost use Rattle.std.specs.Prelude.{Some};
+
+use message::{Msg, Update, UpdateTarget};
+use pathkey::{Key, NoMemory};
+use pending::Pending;
+use std::alloc::Global;
+use test_support::{key, range};
+
+/// An update of a number that refuses each copy, as if memory for it were refused.
+#[derive(Drop)]
+struct Lone(u64);
+
+impl UpdateTarget for Lone {
+    type Value = u64;
+}
+
+impl Update for Lone {
+    ghost means = { λ lone old. Some lone.0 };
+
+    fn apply(&self, _alloc: Global, _old: Option<&u64>) -> Result<Option<u64>, NoMemory> {
+        Ok(Some(self.0))
+    }
+
+    fn join(&self, _alloc: Global, _later: &Lone) -> Result<Option<Lone>, NoMemory> {
+        Ok(None)
+    }
+
+    fn copy(&self, _alloc: Global) -> Result<Lone, NoMemory> {
+        Err(NoMemory)
+    }
+
+    fn copy_value(_alloc: Global, _value: &u64) -> Result<u64, NoMemory> {
+        Err(NoMemory)
+    }
+}
+
+/// How many keys a list has.
+const KEYS: u8 = 200;
+
+/// An update of the key of a number.
+fn update(alloc: Global, at: u8, number: u64) -> Result<Msg<Lone>, NoMemory> {
+    let at = key(alloc, at)?;
+    Ok(Msg::Edit(at, Lone(number)))
+}
+
+/// A range-delete from a number on.
+fn deletion(alloc: Global, lo: u8, hi: Option<u8>) -> Result<Msg<Lone>, NoMemory> {
+    let range = range(alloc, lo, hi)?;
+    Ok(Msg::DelRange(range))
+}
+
+/// Puts a message behind those of a list.
+fn push(list: &mut Pending<Lone>, msg: Result<Msg<Lone>, NoMemory>) -> Result<(), NoMemory> {
+    list.reserve(1)?;
+    list.push_reserved(msg?);
+    Ok(())
+}
+
+/// Puts a message behind those of a list, to wait as it came.
+fn keep(list: &mut Pending<Lone>, msg: Result<Msg<Lone>, NoMemory>) -> Result<(), NoMemory> {
+    list.reserve(1)?;
+    list.push_uncondensed(msg?);
+    Ok(())
+}
+
+/// A list with two updates at each key.
+fn list_of_lone(alloc: Global) -> Result<Pending<Lone>, NoMemory> {
+    let mut list = Pending::new(alloc);
+    for i in 0..2 * KEYS as u64 {
+        push(&mut list, update(alloc, (i * 77 % KEYS as u64) as u8, i))?;
+    }
+    Ok(list)
+}
+
+/// A list with two updates at each key, and a range-delete behind all keys.
+fn with_a_range(alloc: Global) -> Result<Pending<Lone>, NoMemory> {
+    let mut list = list_of_lone(alloc)?;
+    push(&mut list, deletion(alloc, KEYS, None))?;
+    Ok(list)
+}
+
+/// A list with two updates at each key, and one more that waits as it came.
+fn with_a_tail(alloc: Global) -> Result<Pending<Lone>, NoMemory> {
+    let mut list = list_of_lone(alloc)?;
+    keep(&mut list, update(alloc, 5, 5))?;
+    Ok(list)
+}
+
+/// A list with two updates at each key; one more, a range-delete over the key 100 and another update wait as they came.
+fn with_a_range_in_the_tail(alloc: Global) -> Result<Pending<Lone>, NoMemory> {
+    let mut list = with_a_tail(alloc)?;
+    keep(&mut list, deletion(alloc, 50, Some(150)))?;
+    keep(&mut list, update(alloc, 120, 6))?;
+    Ok(list)
+}
+
+/// A list with two updates at each key, and a range-delete over the key 100 that has its place among them.
+fn with_a_range_inside(alloc: Global) -> Result<Pending<Lone>, NoMemory> {
+    let mut list = list_of_lone(alloc)?;
+    push(&mut list, deletion(alloc, 50, Some(150)))?;
+    Ok(list)
+}
+
+/// A list with two updates at each key, of which the first of all is gone.
+fn half_gone(alloc: Global) -> Result<Pending<Lone>, NoMemory> {
+    let mut list = list_of_lone(alloc)?;
+    if list.len() > 0 {
+        list.drop_front(1);
+    }
+    Ok(list)
+}
+
+/// Whether a copy of the list succeeds and has as many messages, where copies of messages are refused.
+fn is_shared(alloc: Global, list: Result<Pending<Lone>, NoMemory>) -> bool {
+    match list {
+        Ok(list) => has_a_copy(alloc, &list) && copied(alloc, &list).is_err(),
+        Err(_) => false,
+    }
+}
+
+/// Copies of all messages of the list.
+fn copied(alloc: Global, list: &Pending<Lone>) -> Result<Vec<Msg<Lone>>, NoMemory> {
+    list.copy_front(alloc, list.len())
+}
+
+/// Whether a copy of the list succeeds and has as many messages.
+fn has_a_copy(alloc: Global, list: &Pending<Lone>) -> bool {
+    match list.copy(alloc) {
+        Ok(copy) => copy.len() == list.len(),
+        Err(_) => false,
+    }
+}
+
+#[test]
+fn copies_of_lists_copy_no_message(rt: HostRuntime) {
+    let alloc = rt.alloc();
+    assert!(rt; is_shared(alloc, list_of_lone(alloc)));
+    assert!(rt; is_shared(alloc, with_a_range(alloc)));
+    assert!(rt; is_shared(alloc, with_a_tail(alloc)));
+    assert!(rt; is_shared(alloc, with_a_range_in_the_tail(alloc)));
+    assert!(rt; is_shared(alloc, half_gone(alloc)));
+}
+
+/// Whether the list is cut at a key, and all its messages are in the parts.
+fn is_cut(alloc: Global, list: Result<Pending<Lone>, NoMemory>, at: u8) -> bool {
+    match list {
+        Ok(mut list) => has_parts(alloc, &mut list, at),
+        Err(_) => false,
+    }
+}
+
+/// The list's messages from a key on, out of the list.
+fn parted_at(alloc: Global, list: &mut Pending<Lone>, at: u8) -> Result<Pending<Lone>, NoMemory> {
+    let pivot = key(alloc, at)?;
+    list.split_off(alloc, 0, &Key::new(alloc), &pivot)
+}
+
+/// Whether a cut of the list succeeds, and all its messages are in the parts; a range-delete over the key is in both.
+fn has_parts(alloc: Global, list: &mut Pending<Lone>, at: u8) -> bool {
+    let all = list.len();
+    let ranges = ranges_in(list);
+    match parted_at(alloc, list, at) {
+        Ok(back) => { back.len() > 0 && list.len() > 0 && have_all(list, &back, all, ranges) }
+        Err(_) => false,
+    }
+}
+
+/// How many range-deletes a list has.
+fn ranges_in(list: &Pending<Lone>) -> usize {
+    list.range_deletes(0)
+}
+
+/// Whether both parts of a list have so many messages together, but for each of its range-deletes at most one more.
+fn have_all(front: &Pending<Lone>, back: &Pending<Lone>, all: usize, ranges: usize) -> bool {
+    let cut = ranges_in(front)
+        .saturating_add(ranges_in(back))
+        .saturating_sub(ranges);
+    front.len().saturating_add(back.len()) == all.saturating_add(cut)
+}
+
+#[test]
+fn cuts_copy_no_message_for_one_key(rt: HostRuntime) {
+    let alloc = rt.alloc();
+    assert!(rt; is_cut(alloc, list_of_lone(alloc), 100));
+    assert!(rt; is_cut(alloc, with_a_range(alloc), 100));
+    assert!(rt; is_cut(alloc, with_a_tail(alloc), 100));
+    assert!(rt; is_cut(alloc, with_a_range_in_the_tail(alloc), 100));
+    assert!(rt; is_cut(alloc, with_a_range_inside(alloc), 100));
+    assert!(rt; is_cut(alloc, half_gone(alloc), 100));
+}
+
+/// Whether the parts of a list before a key and from it on are joined again, and have as many messages as the parts.
+fn rejoins(alloc: Global, list: Result<Pending<Lone>, NoMemory>, at: u8) -> bool {
+    match list {
+        Ok(list) => rejoined(alloc, list, at),
+        Err(NoMemory) => false,
+    }
+}
+
+/// Whether a list that is cut at a key and joined again has as many messages as its parts had.
+fn rejoined(alloc: Global, list: Pending<Lone>, at: u8) -> bool {
+    let mut front = list;
+    match parted_at(alloc, &mut front, at) {
+        Ok(back) => is_as_long(front.len(), back.len(), joined_at(alloc, front, back, at)),
+        Err(NoMemory) => false,
+    }
+}
+
+/// Both lists as one, where they lie on both sides of a key.
+fn joined_at(
+    alloc: Global,
+    front: Pending<Lone>,
+    back: Pending<Lone>,
+    at: u8,
+) -> Result<Pending<Lone>, NoMemory> {
+    match key(alloc, at) {
+        Ok(at) => front.merged(alloc, back, &at),
+        Err(NoMemory) => Err(NoMemory),
+    }
+}
+
+/// Whether a list has as many messages as two others had.
+fn is_as_long(front: usize, back: usize, all: Result<Pending<Lone>, NoMemory>) -> bool {
+    match all {
+        Ok(all) => all.len() == front.saturating_add(back),
+        Err(NoMemory) => false,
+    }
+}
+
+/// The list, cut at a key and joined again.
+fn halves_joined(alloc: Global, list: Pending<Lone>, at: u8) -> Result<Pending<Lone>, NoMemory> {
+    let mut front = list;
+    match parted_at(alloc, &mut front, at) {
+        Ok(back) => joined_at(alloc, front, back, at),
+        Err(NoMemory) => Err(NoMemory),
+    }
+}
+
+/// Whether a list whose range-delete was cut and joined again has as many messages as before.
+fn is_whole_again(alloc: Global) -> bool {
+    let Ok(list) = with_a_range_inside(alloc) else {
+        return false;
+    };
+    let all = list.len();
+    match halves_joined(alloc, list, 100) {
+        Ok(again) => again.len() == all && ranges_in(&again) == 1,
+        Err(NoMemory) => false,
+    }
+}
+
+#[test]
+fn a_range_delete_that_was_cut_is_one_again(rt: HostRuntime) {
+    assert!(rt; is_whole_again(rt.alloc()));
+}
+
+#[test]
+fn joins_copy_no_message_for_one_key(rt: HostRuntime) {
+    let alloc = rt.alloc();
+    assert!(rt; rejoins(alloc, list_of_lone(alloc), 100));
+    assert!(rt; rejoins(alloc, with_a_range(alloc), 100));
+    assert!(rt; rejoins(alloc, with_a_tail(alloc), 100));
+    assert!(rt; rejoins(alloc, with_a_range_in_the_tail(alloc), 100));
+    assert!(rt; rejoins(alloc, half_gone(alloc), 100));
+}
+
+/// Whether all messages of a list move behind those of another.
+fn moves(alloc: Global, list: Result<Pending<Lone>, NoMemory>) -> bool {
+    let Ok(mut list) = list else {
+        return false;
+    };
+    let mut to = Pending::new(alloc);
+    let all = list.len();
+    list.flush_all(&mut to).is_ok() && list.len() == 0 && to.len() == all
+}
+
+#[test]
+fn a_list_moves_whole_without_copies(rt: HostRuntime) {
+    let alloc = rt.alloc();
+    assert!(rt; moves(alloc, with_a_range(alloc)));
+    assert!(rt; moves(alloc, with_a_range_in_the_tail(alloc)));
+}

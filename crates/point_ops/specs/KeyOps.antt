@@ -1,0 +1,44 @@
+-- What waits at one key, where it lies.
+use Rattle.std.specs.Prelude.{◌≡◌, ◌≤◌, ◌<◌, ◌+◌, ℕ, List, [], ◌∷◌, length, map, Option, Result, OnOk, OnErr, IfOk, IfErr}
+use Rattle.std.specs.List.{fold}
+use Rattle.message.specs.declared.resolution.Resolution.{Resolution}
+use Rattle.message.specs.declared.resolution.Resolution.TheVariants as resolution
+use Rattle.point_ops.specs.Changes.{KeyOp, Put, Del, Edit, run_effect}
+use Rattle.point_ops.specs.declared.key_op_ref.KeyOpRef.{KeyOpRef}
+use Rattle.point_ops.specs.declared.key_op_ref.KeyOpRef.TheVariants as op_at
+use Rattle.point_ops.specs.declared.key_ops_repr.KeyOpsRepr.{KeyOpsRepr}
+use Rattle.point_ops.specs.declared.key_ops_repr.KeyOpsRepr.TheVariants as waits
+
+module _ {U V : Type 0} where
+  abbrev pub changes_in : KeyOpsRepr U V → List (KeyOp U V)
+  changes_in (waits.Put v) = Put v ∷ []
+  changes_in waits.Del = Del ∷ []
+  changes_in (waits.Edit u) = Edit u ∷ []
+  changes_in (waits.Edits us) = map Edit us.items
+
+  -- the change that is lent
+  abbrev pub borrowed_change : KeyOpRef U V → KeyOp U V
+  borrowed_change (op_at.Put v) = Put v.now
+  borrowed_change op_at.Del = Del
+  borrowed_change (op_at.Edit u) = Edit u.now
+
+  module _ (means : U → Option V → Option V) where
+    -- the value after updates, the oldest first
+    abbrev pub edits_effect : List U → Option V → Option V
+    edits_effect us o = fold (λ w u. means u w) o us
+
+    -- an update was laid over the changes cs, which gave ds; r is how many they were and are, or the update where memory was
+    -- refused
+    pub record IsInserted (u : U) (cs ds : List (KeyOp U V)) (r : Result (ℕ × ℕ) U) : Type 0 where
+      pub meaning : OnOk r ((o : Option V) → run_effect means ds o ≡ means u (run_effect means cs o))
+      pub counted : IfOk r (λ n. (n.0 ≡ length cs) × (n.1 ≡ length ds))
+      pub bound : length ds ≤ length cs + 1
+      pub some : 0 < length ds
+      pub unchanged : OnErr r (ds ≡ cs)
+      pub back : IfErr r (λ p. p ≡ u)
+
+-- this may be said of the value that f makes of an old one
+abbrev pub IsResolvedOf : {V : Type 0} → (Option V → Option V) → Resolution V → Type 0
+IsResolvedOf f resolution.Untouched = ⊥
+IsResolvedOf {V} f (resolution.Value v) = (o : Option V) → f o ≡ v
+IsResolvedOf f resolution.NeedsBase = Unit {0}

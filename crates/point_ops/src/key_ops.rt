@@ -1,0 +1,216 @@
+//! What waits at one key.
+ghost use Rattle.std.specs.Prelude.{true, false, ◌≡◌, ◌+◌, ◌-◌, ◌<◌, ◌≤◌, [], ◌∷◌, ◌++◌, Option, None, Some, if◌then◌else◌, length, take, drop, OnOk, OnErr, IfOk, IfErr};
+ghost use Rattle.std.specs.List.{slice_get};
+ghost use Rattle.point_ops.specs.Changes.{Put, Del, Edit, is_whole, run_effect, run_msgs};
+ghost use Rattle.point_ops.specs.KeyOps.{borrowed_change, IsInserted, IsResolvedOf};
+
+use crate::edits::{self, later, only};
+use crate::key_op_ref::KeyOpRef;
+use crate::key_ops_repr::KeyOpsRepr;
+use cow_map::CopyValue;
+use message::{Msg, Resolution, Update, UpdateTarget};
+use pathkey::{Key, NoMemory};
+use std::alloc::Global;
+use std::marker::Model;
+
+/// The changes that wait at one key. Contracts see them as a list, the oldest first.
+#[derive(Drop)]
+pub struct KeyOps<U: UpdateTarget> {
+    waits: KeyOpsRepr<U>,
+}
+
+impl<U: UpdateTarget> Model for KeyOps<U> {
+    ghost use Rattle.std.specs.Prelude.{List, length, ◌<◌};
+    ghost use Rattle.point_ops.specs.Changes.{KeyOp};
+
+    ghost Value = { List (KeyOp U U.Value) };
+
+    ghost use Rattle.point_ops.specs.KeyOps.{changes_in};
+
+    ghost view = { λ r. changes_in r.waits };
+
+    ghost invariant = { λ r. 0 < length (changes_in r.waits) };
+}
+
+impl<U: Update> CopyValue for KeyOps<U> {
+    fn copy(&self, alloc: Global) -> Result<KeyOps<U>, NoMemory> {
+        let waits = self.waits.copy(alloc)?;
+        Ok(KeyOps { waits })
+    }
+}
+
+impl<U: Update> KeyOps<U> {
+    /// A put of the value.
+    pub(crate) fn put(value: U::Value) -> KeyOps<U>
+        ensures { result ≡ Put value ∷ [] }
+    {
+        KeyOps {
+            waits: KeyOpsRepr::Put(value),
+        }
+    }
+
+    /// A delete.
+    pub(crate) fn del() -> KeyOps<U>
+        ensures { result ≡ Del ∷ [] }
+    {
+        KeyOps {
+            waits: KeyOpsRepr::Del,
+        }
+    }
+
+    /// An update.
+    pub(crate) fn of_edit(update: U) -> KeyOps<U>
+        ensures { result ≡ Edit update ∷ [] }
+    {
+        KeyOps {
+            waits: KeyOpsRepr::Edit(update),
+        }
+    }
+
+    /// How many changes they are.
+    pub fn len(&self) -> usize
+        ensures len { result ≡ length self.now }
+        ensures some { 0 < result }
+    {
+        match &self.waits {
+            KeyOpsRepr::Put(_) | KeyOpsRepr::Del | KeyOpsRepr::Edit(_) => 1,
+            KeyOpsRepr::Edits(updates) => updates.len(),
+        }
+    }
+
+    /// Whether it is one change that does not ask what was there.
+    pub fn is_whole(&self) -> bool
+        ensures whole { result ≡ is_whole self.now }
+        ensures alone { result ≡ true → length self.now ≡ 1 }
+    {
+        match &self.waits {
+            KeyOpsRepr::Put(_) | KeyOpsRepr::Del => true,
+            KeyOpsRepr::Edit(_) | KeyOpsRepr::Edits(_) => false,
+        }
+    }
+
+    /// The change that has so many older ones.
+    pub fn op_at(&self, older: usize) -> KeyOpRef<'_, U>
+        requires { older < length self.now }
+        ensures { Some (borrowed_change result) ≡ slice_get self.now older }
+    {
+        match &self.waits {
+            KeyOpsRepr::Put(value) => KeyOpRef::Put(value),
+            KeyOpsRepr::Del => KeyOpRef::Del,
+            KeyOpsRepr::Edit(update) => KeyOpRef::Edit(update),
+            KeyOpsRepr::Edits(updates) => KeyOpRef::Edit(&updates[older]),
+        }
+    }
+
+    /// The value after the changes but the `consumed` oldest, where `old` was there.
+    pub fn apply(
+        &self,
+        alloc: Global,
+        consumed: usize,
+        old: Option<U::Value>,
+    ) -> Result<Option<U::Value>, NoMemory>
+        requires { consumed < length self.now }
+        ensures { IfOk result (λ v. v ≡ run_effect U.means (drop consumed self.now) old) }
+    {
+        match &self.waits {
+            KeyOpsRepr::Put(value) => Ok(Some(U::copy_value(alloc, value)?)),
+            KeyOpsRepr::Del => Ok(None),
+            KeyOpsRepr::Edit(update) => update.apply(alloc, old.as_ref()),
+            KeyOpsRepr::Edits(updates) => edits::apply_all(alloc, later(updates, consumed), old),
+        }
+    }
+
+    /// What the changes but the `consumed` oldest tell of the value at their key, where a range-delete before them holds the key or
+    /// does not.
+    pub fn resolve(
+        &self,
+        alloc: Global,
+        consumed: usize,
+        is_covered: bool,
+    ) -> Result<Resolution<U::Value>, NoMemory>
+        requires { consumed < length self.now }
+        ensures { IfOk result (IsResolvedOf (λ o. run_effect U.means (drop consumed self.now) (if is_covered then None else o))) }
+    {
+        match &self.waits {
+            KeyOpsRepr::Put(value) => Ok(Resolution::Value(Some(U::copy_value(alloc, value)?))),
+            KeyOpsRepr::Del => Ok(Resolution::Value(None)),
+            KeyOpsRepr::Edit(_) | KeyOpsRepr::Edits(_) => {
+                if !is_covered {
+                    return Ok(Resolution::NeedsBase);
+                }
+                let value = self.apply(alloc, consumed, None)?;
+                Ok(Resolution::Value(value))
+            }
+        }
+    }
+
+    /// Copies of the changes but the `consumed` oldest, as messages at the key, put behind those in `front`, until it has so many.
+    pub fn copy_into(
+        &self,
+        alloc: Global,
+        key: &Key,
+        consumed: usize,
+        count: usize,
+        front: &mut Vec<Msg<U>>,
+    ) -> Result<(), NoMemory>
+        requires { consumed < length self.now }
+        ensures { OnOk result (take count front.new.items ≡ take count (front.old.items ++ run_msgs key.now (drop consumed self.now))) }
+    {
+        match &self.waits {
+            KeyOpsRepr::Put(value) => {
+                let value = U::copy_value(alloc, value)?;
+                front.push(Msg::Put(key.copy(alloc)?, value))?;
+            }
+            KeyOpsRepr::Del => front.push(Msg::Del(key.copy(alloc)?))?,
+            KeyOpsRepr::Edit(update) => front.push(edits::msg_of(alloc, key, update)?)?,
+            KeyOpsRepr::Edits(updates) => {
+                return edits::copy_msgs(alloc, key, later(updates, consumed), count, front);
+            }
+        }
+        Ok(())
+    }
+
+    /// Lays an update over the changes, and answers how many they were and are. On want of memory it comes back.
+    pub(crate) fn edit(&mut self, alloc: Global, update: U) -> Result<(usize, usize), U>
+        ensures { IsInserted U.means update self.old self.new result }
+    {
+        let before = self.len();
+        let waits = std::mem::replace(&mut self.waits, KeyOpsRepr::Del);
+        let (waits, answer) = waits.edited(alloc, update);
+        self.waits = waits;
+        match answer {
+            Ok(()) => Ok((before, self.len())),
+            Err(update) => Err(update),
+        }
+    }
+
+    /// Takes the `consumed` oldest changes away, or all but the newest where they are no more.
+    pub(crate) fn drop_oldest(&mut self, consumed: usize)
+        ensures dropped { consumed < length self.old → self.new ≡ drop consumed self.old }
+    {
+        self.waits.drop_oldest(consumed);
+    }
+
+    /// The value of a put.
+    pub(crate) fn into_value(self) -> U::Value
+        requires { (v : U.Value) × (self ≡ Put v ∷ []) }
+        ensures { self ≡ Put result ∷ [] }
+    {
+        match self.waits {
+            KeyOpsRepr::Put(value) => value,
+            _ => unreachable!(),
+        }
+    }
+
+    /// The update of a lone update.
+    pub(crate) fn into_update(self) -> U
+        requires { (u : U) × (self ≡ Edit u ∷ []) }
+        ensures { self ≡ Edit result ∷ [] }
+    {
+        match self.waits {
+            KeyOpsRepr::Edit(update) => update,
+            KeyOpsRepr::Edits(updates) => only(updates),
+            _ => unreachable!(),
+        }
+    }
+}

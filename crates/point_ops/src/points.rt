@@ -1,0 +1,310 @@
+//! What waits at single keys, by the keys.
+ghost use Rattle.std.specs.Prelude.{◌≡◌, ◌+◌, ◌≤◌, ◌<◌, ◌^◌, ◌++◌, ◌∷◌, [], not, true, false, length, drop, take, IfOk, IfErr, OnOk, OnErr, IfSome, IfNone};
+ghost use Rattle.std.specs.BTreeMap.{insert_entry};
+ghost use Rattle.std.specs.List.{filter, list_any, slice_get};
+ghost use Rattle.std.specs.Option.{option_copied, option_map};
+ghost use Rattle.pathkey.specs.Keys.{is_in};
+ghost use Rattle.pathkey.specs.Order.{by_bytes};
+ghost use Rattle.cow_map.specs.Places.{Rises, at_key, place, AreBefore, AreFrom};
+ghost use Rattle.point_ops.specs.Changes.{Put, Del, run_effect};
+ghost use Rattle.point_ops.specs.PointOps.{left, point_count, point_msgs, first_from, AreRuns, IsLeft, Inserts, TakesFirst};
+
+use crate::counts::{copy_msgs, count_of, whole_keys};
+use crate::key_ops::KeyOps;
+use crate::one_key::{move_first, push_op, replace_ops, shorten_first};
+use cow_map::{CowMap, Cursor};
+use message::ends::is_before_end;
+use message::{Msg, Update, UpdateTarget};
+use pathkey::{Key, KeyRange, NoMemory};
+use std::alloc::Global;
+use std::marker::Model;
+
+/// The messages that wait at single keys, those of each key in one place. Contracts see the keys, which rise, each with the
+/// changes that wait there.
+#[derive(Drop)]
+pub struct PointOps<U: UpdateTarget> {
+    rows: CowMap<KeyOps<U>>,
+    count: usize,
+}
+
+impl<U: UpdateTarget> Model for PointOps<U> {
+    ghost use Rattle.std.specs.Prelude.{List, ℕ};
+    ghost use Rattle.point_ops.specs.Changes.{KeyOp};
+
+    ghost Value = { List (List ℕ × List (KeyOp U U.Value)) };
+
+    ghost use Rattle.point_ops.specs.PointOps.{ArePoints};
+
+    ghost view = { λ p. p.rows };
+
+    ghost invariant = { λ p. ArePoints p.rows p.count };
+}
+
+// ---- what is asked
+
+impl<U: Update> PointOps<U> {
+    /// No messages. It takes no memory.
+    pub fn new(alloc: Global) -> PointOps<U>
+        ensures { result ≡ [] }
+    {
+        PointOps {
+            rows: CowMap::new(alloc),
+            count: 0,
+        }
+    }
+
+    /// Says that the keys rise, that some change waits at each, and that all are not too many. It does nothing.
+    pub fn assert_invariant(&self)
+        ensures rises { Rises self.now }
+        ensures runs { AreRuns self.now }
+        ensures small { point_count self.now ≤ 2 ^ 62 }
+    {
+        self.rows.assert_invariant();
+    }
+
+    /// How many messages there are.
+    pub fn len(&self) -> usize
+        ensures len { result ≡ point_count self.now }
+        ensures small { result ≤ 2 ^ 62 }
+    {
+        self.count
+    }
+
+    /// What waits at the first key.
+    pub fn first(&self) -> Option<(&Key, &KeyOps<U>)>
+        ensures { option_map (λ p. (p.0.now, p.1.now)) result ≡ slice_get self.now 0 }
+    {
+        self.rows.cursor().peek()
+    }
+
+    /// What waits at the key.
+    pub fn run_at(&self, key: &Key) -> Option<&KeyOps<U>>
+        ensures { option_copied result ≡ at_key key.now self.now }
+    {
+        self.rows.get(key)
+    }
+
+    /// What waits at the key and behind it, key by key.
+    pub fn walk_from(&self, key: &Key) -> Cursor<'_, KeyOps<U>>
+        ensures { result ≡ drop (place key.now self.now) self.now }
+    {
+        self.rows.lower_bound(key)
+    }
+
+    /// The first key that has messages, at this one or behind it.
+    pub fn first_from(&self, key: &Key) -> Option<&Key>
+        ensures { option_copied result ≡ first_from key.now self.now }
+    {
+        match self.rows.lower_bound(key).peek() {
+            None => None,
+            Some((first, _)) => Some(first),
+        }
+    }
+
+    /// Whether a key that has messages stands from `lo` on and before `hi`; `None` is no end.
+    pub fn has_within(&self, lo: &Key, hi: Option<&Key>) -> bool
+        ensures { result ≡ list_any (λ e. is_in (record { lo = lo.now; hi = option_copied hi.entry }) e.0) self.now }
+    {
+        self.rows.assert_invariant();
+        match self.first_from(lo) {
+            None => false,
+            Some(next) => is_before_end(next, hi),
+        }
+    }
+
+    /// Whether no key stands before `lo`.
+    pub fn begin_from(&self, lo: &Key) -> bool
+        ensures yes { result ≡ true → AreFrom lo.now self.now }
+        ensures no { result ≡ false → AreFrom lo.now self.now → ⊥ }
+    {
+        self.rows.assert_invariant();
+        match self.rows.cursor().peek() {
+            None => true,
+            Some((first, _)) => lo.cmp(first).is_le(),
+        }
+    }
+
+    /// Whether each key stands before the pivot.
+    pub fn end_before(&self, pivot: &Key) -> bool
+        ensures yes { result ≡ true → AreBefore pivot.now self.now }
+        ensures no { result ≡ false → AreBefore pivot.now self.now → ⊥ }
+    {
+        self.rows.assert_invariant();
+        match self.rows.last() {
+            None => true,
+            Some((last, _)) => last.cmp(pivot).is_lt(),
+        }
+    }
+
+    /// Copies of the messages but the `consumed` oldest of the first key, put behind those in `front`, until it has so many.
+    pub fn copy_into(
+        &self,
+        alloc: Global,
+        consumed: usize,
+        count: usize,
+        front: &mut Vec<Msg<U>>,
+    ) -> Result<(), NoMemory>
+        requires { IsLeft consumed self.now }
+        ensures { OnOk result (take count front.new.items ≡ take count (front.old.items ++ point_msgs (left consumed self.now))) }
+    {
+        copy_msgs(&self.rows, alloc, consumed, count, front)
+    }
+
+    /// The same messages, which both then share.
+    pub fn copy(&self) -> Result<PointOps<U>, NoMemory>
+        ensures { IfOk result (λ p. p ≡ self.now) }
+    {
+        let rows = self.rows.share()?;
+        Ok(PointOps {
+            rows,
+            count: self.count,
+        })
+    }
+
+    // ---- what comes in
+
+    /// A put comes in the place of what waits at the key. On want of memory it comes back, and all is as it was.
+    #[inline(always)]
+    pub fn put(&mut self, key: Key, value: U::Value) -> Result<(), (Key, U::Value)>
+        requires { point_count self.old < 2 ^ 62 }
+        ensures entries { OnOk result (self.new ≡ insert_entry by_bytes self.old key (Put value ∷ [])) }
+        ensures inserts { OnOk result (Inserts U.means key (λ o. Some value) self.old self.new) }
+        ensures bound { OnOk result (point_count self.new ≤ point_count self.old + 1) }
+        ensures unchanged { OnErr result (self.new ≡ self.old) }
+        ensures back { IfErr result (λ p. p ≡ (key, value)) }
+    {
+        match self.overwrite(key, KeyOps::put(value)) {
+            Ok(()) => Ok(()),
+            Err((key, run)) => Err((key, run.into_value())),
+        }
+    }
+
+    /// Likewise a delete.
+    #[inline(always)]
+    pub fn del(&mut self, key: Key) -> Result<(), Key>
+        requires { point_count self.old < 2 ^ 62 }
+        ensures entries { OnOk result (self.new ≡ insert_entry by_bytes self.old key (Del ∷ [])) }
+        ensures inserts { OnOk result (Inserts U.means key (λ o. None) self.old self.new) }
+        ensures bound { OnOk result (point_count self.new ≤ point_count self.old + 1) }
+        ensures unchanged { OnErr result (self.new ≡ self.old) }
+        ensures back { IfErr result (λ k. k ≡ key) }
+    {
+        match self.overwrite(key, KeyOps::del()) {
+            Ok(()) => Ok(()),
+            Err((key, _)) => Err(key),
+        }
+    }
+
+    /// An update is laid over what waits at the key. On want of memory it comes back, and all is as it was.
+    #[inline(always)]
+    pub fn edit(&mut self, alloc: Global, key: Key, update: U) -> Result<(), (Key, U)>
+        requires { point_count self.old < 2 ^ 62 }
+        ensures inserts { OnOk result (Inserts U.means key (U.means update) self.old self.new) }
+        ensures bound { OnOk result (point_count self.new ≤ point_count self.old + 1) }
+        ensures unchanged { OnErr result (self.new ≡ self.old) }
+        ensures back { IfErr result (λ p. p ≡ (key, update)) }
+    {
+        let (before, after) = push_op(&mut self.rows, alloc, key, update)?;
+        self.count = self.count - before + after;
+        Ok(())
+    }
+
+    /// One change comes in the place of what waits at the key.
+    fn overwrite(&mut self, key: Key, run: KeyOps<U>) -> Result<(), (Key, KeyOps<U>)>
+        requires room { point_count self.old < 2 ^ 62 }
+        requires one { length run ≡ 1 }
+        ensures entries { OnOk result (self.new ≡ insert_entry by_bytes self.old key run) }
+        ensures bound { OnOk result (point_count self.new ≤ point_count self.old + 1) }
+        ensures unchanged { OnErr result (self.new ≡ self.old) }
+        ensures back { IfErr result (λ p. p ≡ (key, run)) }
+    {
+        let consumed = replace_ops(&mut self.rows, key, run)?;
+        self.count = self.count + 1 - consumed;
+        Ok(())
+    }
+
+    /// Moves what waits at the first key of another list, at most `most` messages and newer than all that are here, to its place,
+    /// and answers how many came. None come where `from` has none, where they are more, where memory is refused, or where
+    /// updates would be laid over what waits here.
+    pub fn take_first(&mut self, from: &mut PointOps<U>, most: usize) -> Option<usize>
+        requires { point_count self.old + most ≤ 2 ^ 62 }
+        ensures moved { IfSome result (λ n. TakesFirst U.means n most from.old self.old from.new self.new) }
+        ensures none { IfNone result ((self.new ≡ self.old) × (from.new ≡ from.old)) }
+    {
+        let (came, consumed) = move_first(&mut self.rows, &mut from.rows, most)?;
+        self.count = self.count + came - consumed;
+        from.count -= came;
+        Some(came)
+    }
+
+    // ---- what goes
+
+    /// Takes away what waits at the keys of a range. On want of memory all is as it was.
+    pub fn clear(&mut self, range: &KeyRange) -> Result<(), NoMemory>
+        ensures ok { OnOk result (self.new ≡ filter (λ e. not (is_in range.now e.0)) self.old) }
+        ensures bound { point_count self.new ≤ point_count self.old }
+        ensures err { OnErr result (self.new ≡ self.old) }
+    {
+        if !self.has_within(&range.lo, range.hi.as_ref()) {
+            return Ok(());
+        }
+        let out = self.rows.extract_range(range)?;
+        self.count -= count_of(&out);
+        Ok(())
+    }
+
+    /// Takes the oldest messages away, as far as these are all of a key, and answers how many of the first key left are then to go.
+    /// It takes no memory.
+    pub fn drop_oldest(&mut self, count: usize) -> usize
+        requires { count ≤ point_count self.old }
+        ensures same { point_msgs (left result self.new) ≡ drop count (point_msgs self.old) }
+        ensures left { IsLeft result self.new }
+        ensures bound { point_count self.new ≤ point_count self.old }
+    {
+        let (keys, left) = whole_keys(&self.rows, count);
+        self.rows.drop_front(keys);
+        self.count -= count - left;
+        left
+    }
+
+    /// Takes the `consumed` oldest messages of the first key away. On want of memory all is as it was.
+    pub fn make_whole(&mut self, alloc: Global, consumed: usize) -> Result<(), NoMemory>
+        requires { IsLeft consumed self.old }
+        ensures ok { OnOk result (self.new ≡ left consumed self.old) }
+        ensures err { OnErr result (self.new ≡ self.old) }
+    {
+        shorten_first(&mut self.rows, alloc, consumed)?;
+        self.count -= consumed;
+        Ok(())
+    }
+
+    /// Moves what waits at the pivot and behind it out. On want of memory all is as it was.
+    pub fn split_off(&mut self, pivot: &Key) -> Result<PointOps<U>, NoMemory>
+        ensures parts { IfOk result (λ back. self.old ≡ self.new ++ back) }
+        ensures front { OnOk result (AreBefore pivot.now self.new) }
+        ensures back { IfOk result (λ back. AreFrom pivot.now back) }
+        ensures err { OnErr result (self.new ≡ self.old) }
+    {
+        let rows = self.rows.split_off(pivot)?;
+        let count = count_of(&rows);
+        self.count -= count;
+        Ok(PointOps { rows, count })
+    }
+
+    /// The messages of both lists, where all keys of the newer one stand behind the others.
+    pub fn merged(self, newer: PointOps<U>) -> Result<PointOps<U>, NoMemory>
+        requires rises { Rises self → Rises newer → Rises (self ++ newer) }
+        requires small { point_count self + point_count newer ≤ 2 ^ 62 }
+        ensures { IfOk result (λ p. p ≡ self ++ newer) }
+    {
+        let mut rows = self.rows;
+        let mut later = newer.rows;
+        rows.assert_invariant();
+        later.assert_invariant();
+        rows.append(&mut later)?;
+        Ok(PointOps {
+            rows,
+            count: self.count + newer.count,
+        })
+    }
+}

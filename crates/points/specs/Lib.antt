@@ -1,3 +1,0 @@
-pub mod Changes
-pub mod Points
-pub mod Runs

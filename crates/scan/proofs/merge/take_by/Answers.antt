@@ -1,4 +1,0 @@
-use Rattle.scan.proofs.merge.take_by.Goals as goal
-
-pub returns : goal.returns
-returns g c = record { some = (c.in-Some.field-0-0, c.in-Some.ensures.some.0, c.in-Some.ensures.some.1); none = tt }

@@ -1,0 +1,152 @@
+//! The pairs of a range one after the other, taken from the tree piece by piece.
+ghost use Rattle.std.specs.Prelude.{◌≡◌, ◌+◌, ◌-◌, ◌*◌, ◌^◌, ℕ, [], List, Option, Some, Bool, true, false, cond, eqb, max, min, IfOk, IfNone, MatchOption};
+ghost use Rattle.std.specs.Fn.{ComputesKey};
+ghost use Rattle.std.specs.List.{starts_with};
+ghost use Rattle.message.specs.Ranges.{before};
+ghost use Rattle.node.specs.Meaning.{value as value_at};
+ghost use Rattle.pathkey.specs.Keys.{next_key};
+ghost use Rattle.scan.specs.Pairs.{AreAhead, AreFrom, IsEndOf, IsGiven, IsTaken};
+ghost use Rattle.scan.specs.Sizes.{IsPiece, is_walked, raised, size_past, walked_for};
+
+use crate::scan;
+use message::Update;
+use node::Tree;
+use pathkey::{Key, KeyRange, NoMemory};
+use std::alloc::Global;
+use std::collections::VecDeque;
+
+/// The most pairs of the first piece.
+const FIRST: usize = 32;
+
+/// The most pairs of a piece.
+const MOST: usize = 256;
+
+/// Pairs that were taken from a tree and are not asked for yet.
+///
+/// Each piece has twice as many pairs as the one before. Where pairs are passed, the next piece has one: a caller that jumps
+/// over most pairs has few of them copied for nothing. Behind a short piece the tree is asked no more. Each piece is one walk of
+/// the tree, which is counted where it is made.
+#[derive(Drop)]
+pub struct Readahead<U: Update> {
+    /// They stand in key order.
+    pub pairs: VecDeque<(Key, U::Value)>,
+    /// Whether no other pair is left in the range.
+    pub all: bool,
+    /// How many walks of the tree there were, as far as 64 bits count.
+    pub walks: u64,
+    /// How many pairs these walks asked for, all together, as far as 64 bits count.
+    pub asked: u64,
+    /// How many pairs the next piece may have, at least one.
+    most: usize,
+}
+
+impl<U: Update> Readahead<U> {
+    /// No pair yet.
+    pub fn new(alloc: Global) -> Readahead<U>
+        ensures { (result.pairs.items ≡ []) × (result.all ≡ false) × (result.most ≡ 32) × (result.walks ≡ 0) × (result.asked ≡ 0) }
+    {
+        Readahead {
+            pairs: VecDeque::new(alloc),
+            all: false,
+            walks: 0,
+            asked: 0,
+            most: FIRST,
+        }
+    }
+
+    /// The first pair of the range; none where the range has no value.
+    ///
+    /// It is `first_in` for ranges with one end, each of which begins behind the pair that was given before. The tree is walked once
+    /// where none of the pairs at hand lies in the range and others may be left, and not at all else.
+    pub fn first(
+        &mut self,
+        alloc: Global,
+        tree: &Tree<U>,
+        range: &KeyRange,
+    ) -> Result<Option<(Key, U::Value)>, NoMemory>
+        requires { AreAhead (value_at U.means tree.now.root) range.now.lo range.now.hi self.old.all self.old.pairs.items }
+        ensures given { IfOk result (λ r. IsGiven (value_at U.means tree.now.root) range.now.lo range.now.hi r self.new.all self.new.pairs.items) }
+        ensures piece { is_walked range.now.lo self.old.all self.old.pairs.items ≡ true → IfOk result (λ r. IsPiece (walked_for range.now.lo self.old.pairs.items self.old.most) r self.new.all self.new.pairs.items) }
+        ensures walks { self.new.walks ≡ raised (is_walked range.now.lo self.old.all self.old.pairs.items) 1 self.old.walks }
+        ensures asked { self.new.asked ≡ raised (is_walked range.now.lo self.old.all self.old.pairs.items) (walked_for range.now.lo self.old.pairs.items self.old.most) self.old.asked }
+        ensures most { self.new.most ≡ cond (is_walked range.now.lo self.old.all self.old.pairs.items) (min (2 * walked_for range.now.lo self.old.pairs.items self.old.most) 256) (size_past (λ k. before k range.now.lo) self.old.pairs.items self.old.most) }
+    {
+        if let Some(pair) = self.take_from(&range.lo) {
+            return Ok(Some(pair));
+        }
+        if self.all {
+            return Ok(None);
+        }
+        self.refill(alloc, tree, range)
+    }
+
+    /// Walks the tree for the next piece, counts the walk, and takes out the first pair.
+    fn refill(
+        &mut self,
+        alloc: Global,
+        tree: &Tree<U>,
+        range: &KeyRange,
+    ) -> Result<Option<(Key, U::Value)>, NoMemory>
+        ensures given { IfOk result (λ r. IsGiven (value_at U.means tree.now.root) range.now.lo range.now.hi r self.new.all self.new.pairs.items) }
+        ensures piece { IfOk result (λ r. IsPiece (max self.old.most 1) r self.new.all self.new.pairs.items) }
+        ensures walks { self.new.walks ≡ min (self.old.walks + 1) (2 ^ 64 - 1) }
+        ensures asked { self.new.asked ≡ min (self.old.asked + max self.old.most 1) (2 ^ 64 - 1) }
+        ensures most { self.new.most ≡ min (2 * max self.old.most 1) 256 }
+    {
+        // Never 0, but no type keeps that.
+        let most = self.most.max(1);
+        self.most = most.saturating_add(most).min(MOST);
+        self.walks = self.walks.saturating_add(1);
+        self.asked = self.asked.saturating_add(most as u64);
+        // It is counted already, also where it is refused memory.
+        let piece = scan(alloc, tree, range, most)?;
+        self.all = piece.len() < most;
+        self.pairs = VecDeque::from_vec(piece);
+        Ok(self.pairs.pop_front())
+    }
+
+    /// Takes out the first pair whose key does not begin with this one, and those before it.
+    ///
+    /// It is for a caller that passes all that lies below the pair which was given last. Where none is left, the others of the range
+    /// begin at the least key behind all that begin so, unless `all` says that there are no others.
+    pub fn next_past(&mut self, front: &Key) -> Option<(Key, U::Value)>
+        ensures all { self.new.all ≡ self.old.all }
+        ensures none { IfNone result (self.new.pairs.items ≡ []) }
+        ensures taken { IsTaken (λ k. starts_with eqb k front.now) self.old.pairs.items result self.new.pairs.items }
+        ensures most { self.new.most ≡ size_past (λ k. starts_with eqb k front.now) self.old.pairs.items self.old.most }
+        ensures counts { (self.new.walks ≡ self.old.walks) × (self.new.asked ≡ self.old.asked) }
+        ensures given { (f : List ℕ → Option U.Value) (hi : Option (List ℕ)) (end : List ℕ) → IsEndOf end front.now → AreFrom f (next_key front.now) hi self.old.all self.old.pairs.items → MatchOption result (AreAhead f end hi self.new.all []) (λ p. IsGiven f end hi (Some p) self.new.all self.new.pairs.items) }
+    {
+        self.take_unless(|key| key.as_bytes().starts_with(front.as_bytes()))
+    }
+
+    /// Takes out the first pair that does not stand before the key, and those before it.
+    fn take_from(&mut self, lo: &Key) -> Option<(Key, U::Value)>
+        ensures all { self.new.all ≡ self.old.all }
+        ensures taken { IsTaken (λ k. before k lo.now) self.old.pairs.items result self.new.pairs.items }
+        ensures most { self.new.most ≡ size_past (λ k. before k lo.now) self.old.pairs.items self.old.most }
+        ensures counts { (self.new.walks ≡ self.old.walks) × (self.new.asked ≡ self.old.asked) }
+        ensures given { (f : List ℕ → Option U.Value) (hi : Option (List ℕ)) → AreAhead f lo.now hi self.old.all self.old.pairs.items → MatchOption result (AreAhead f lo.now hi self.new.all []) (λ p. IsGiven f lo.now hi (Some p) self.new.all self.new.pairs.items) }
+    {
+        self.take_unless(|key| key.cmp(lo).is_lt())
+    }
+
+    /// Takes out the first pair whose key is not passed, and those before it.
+    fn take_unless<P: FnMut(&Key) -> bool>(&mut self, passed: P) -> Option<(Key, U::Value)>
+        requires { P.IsAlwaysCallable passed }
+        ensures all { self.new.all ≡ self.old.all }
+        ensures none { IfNone result (self.new.pairs.items ≡ []) }
+        ensures taken { (test : List ℕ → Bool) → ComputesKey P.FnMut test passed → IsTaken test self.old.pairs.items result self.new.pairs.items }
+        ensures most { (test : List ℕ → Bool) → ComputesKey P.FnMut test passed → self.new.most ≡ size_past test self.old.pairs.items self.old.most }
+        ensures counts { (self.new.walks ≡ self.old.walks) × (self.new.asked ≡ self.old.asked) }
+    {
+        let mut passed = passed;
+        'passed: while let Some(pair) = self.pairs.pop_front() {
+            if !passed(&pair.0) {
+                return Some(pair);
+            }
+            self.most = 1;
+        }
+        None
+    }
+}

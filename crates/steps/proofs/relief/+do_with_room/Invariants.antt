@@ -1,4 +1,0 @@
-use Rattle.steps.proofs.relief.+do_with_room.Given as goal
-
-abbrev pub decreases-do_with_room : goal.decreases-do_with_room
-decreases-do_with_room g l = l.tries

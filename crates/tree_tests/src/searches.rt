@@ -1,0 +1,190 @@
+//! First pairs through many messages, beside the same messages laid on a plain row of numbers.
+use crate::trees::{Course, SMALL, append, goes_anew, new_tree};
+use node::Tree;
+use pathkey::KeyRange;
+use scan::{first_in, scan};
+use std::alloc::Global;
+use test_support::{Digit, Plain, Random, Row, are_numbered, number, range};
+
+/// Whether a range of a tree has these pairs, of which at most so many are asked for.
+fn holds(
+    alloc: Global,
+    tree: &Tree<Digit>,
+    range: &KeyRange,
+    limit: usize,
+    wanted: &[(u8, u64)],
+) -> bool {
+    match scan(alloc, tree, range, limit) {
+        Ok(pairs) => are_numbered(&pairs, wanted),
+        Err(_) => false,
+    }
+}
+
+/// Whether a range of a tree has this first pair.
+fn begins_with(
+    alloc: Global,
+    tree: &Tree<Digit>,
+    range: &KeyRange,
+    wanted: Option<&(u8, u64)>,
+) -> bool {
+    match (first_in(alloc, tree, range), wanted) {
+        (Ok(Some(pair)), Some(numbers)) => number(&pair.0) == numbers.0 && pair.1 == numbers.1,
+        (Ok(None), None) => true,
+        _ => false,
+    }
+}
+
+/// How many pairs are asked for.
+const LIMITS: &[usize] = &[0, 1, 2, 7, 50, 256, usize::MAX];
+
+/// A part of the keys: the first, and the one that ends it.
+pub type Part = (u8, Option<u8>);
+
+/// Whether a part of the tree has what that part of the row has, and first what the row has first.
+fn agrees(
+    alloc: Global,
+    tree: &Tree<Digit>,
+    row: &Row,
+    part: Part,
+    range: &KeyRange,
+    limit: usize,
+) -> bool {
+    match row.pairs(alloc, part.0, part.1, limit) {
+        Ok(wanted) => holds(alloc, tree, range, limit, &wanted)
+            && (limit == 0 || begins_with(alloc, tree, range, wanted.first())),
+        Err(_) => false,
+    }
+}
+
+/// Whether the tree has in a part of the keys what the row has there, and first what the row has first.
+pub fn agrees_where(
+    alloc: Global,
+    tree: &Tree<Digit>,
+    row: &Row,
+    part: Part,
+    limit: usize,
+) -> bool {
+    match range(alloc, part.0, part.1) {
+        Ok(range) => agrees(alloc, tree, row, part, &range, limit),
+        Err(_) => false,
+    }
+}
+
+/// Whether the tree agrees with the row in a part of the keys, whatever number of pairs is asked for.
+fn agrees_on(alloc: Global, tree: &Tree<Digit>, row: &Row, part: Part) -> bool {
+    for limit in LIMITS {
+        if !agrees_where(alloc, tree, row, part, *limit) {
+            return false;
+        }
+    }
+    true
+}
+
+/// Puts 300 messages into both; `false` where memory is refused.
+fn fill(alloc: Global, tree: &mut Tree<Digit>, row: &mut Row) -> bool {
+    let mut random = Random(7);
+    for _ in 0..300 {
+        let message = Plain::random(&mut random);
+        row.lay(message);
+        if !append(alloc, tree, &[message]) {
+            return false;
+        }
+    }
+    true
+}
+
+const PARTS: &[Part] = &[
+    (0, None),
+    (0, Some(128)),
+    (11, Some(12)),
+    (20, Some(20)),
+    (130, Some(10)),
+    (13, Some(241)),
+    (255, None),
+];
+
+/// Whether the tree agrees with the row in each part of the keys after the messages; the number of the first in which it does not.
+fn agrees_filled(alloc: Global, tree: &mut Tree<Digit>, row: &mut Row) -> Result<(), usize> {
+    if !fill(alloc, tree, row) {
+        return Err(usize::MAX);
+    }
+    let mut number = 0usize;
+    for part in PARTS {
+        if !agrees_on(alloc, tree, row, *part) {
+            return Err(number);
+        }
+        number = number.saturating_add(1);
+    }
+    Ok(())
+}
+
+/// Whether a new tree agrees with a new row in each part of the keys after the messages; the number of the first in which it does not.
+fn agrees_anew(alloc: Global) -> Result<(), usize> {
+    match new_tree(alloc, SMALL) {
+        Ok(mut tree) => agrees_filled(alloc, &mut tree, &mut Row::new()),
+        Err(_) => Err(usize::MAX),
+    }
+}
+
+#[test]
+fn finds_the_pairs_that_all_messages_make(rt: HostRuntime) -> Result<(), usize> {
+    agrees_anew(rt.alloc())
+}
+
+/// Whether nothing is found in a range of a tree.
+fn is_empty(alloc: Global, tree: &Tree<Digit>, range: &KeyRange) -> bool {
+    begins_with(alloc, tree, range, None) && holds(alloc, tree, range, 9, &[])
+}
+
+/// Nothing is found in a tree.
+struct Nothing;
+
+impl Course for Nothing {
+    fn goes(&self, alloc: Global, tree: &mut Tree<Digit>) -> bool {
+        match range(alloc, 0, None) {
+            Ok(all) => is_empty(alloc, tree, &all),
+            Err(_) => false,
+        }
+    }
+}
+
+#[test]
+fn finds_nothing_in_a_new_tree(rt: HostRuntime) {
+    assert!(rt; goes_anew(rt.alloc(), SMALL, &Nothing));
+}
+
+/// Puts 50 values, deletes those from 5 to 39 and edits 20; `false` where memory is refused.
+fn cover(alloc: Global, tree: &mut Tree<Digit>) -> bool {
+    for at in 0..50 {
+        if !append(alloc, tree, &[Plain::Put(at, 3)]) {
+            return false;
+        }
+    }
+    append(
+        alloc,
+        tree,
+        &[Plain::DelRange(5, Some(40)), Plain::Edit(20, 4)],
+    )
+}
+
+/// Whether the first four pairs from the key 3 on are these.
+fn has_four(alloc: Global, tree: &Tree<Digit>, wanted: &[(u8, u64)]) -> bool {
+    match range(alloc, 3, None) {
+        Ok(range) => holds(alloc, tree, &range, 4, wanted),
+        Err(_) => false,
+    }
+}
+
+/// A search goes past what a range-delete covers.
+struct Past;
+
+impl Course for Past {
+    fn goes(&self, alloc: Global, tree: &mut Tree<Digit>) -> bool {
+        cover(alloc, tree) && has_four(alloc, tree, &[(3, 3), (4, 3), (20, 4), (40, 3)])
+    }
+}
+
+#[test]
+fn goes_past_what_a_range_delete_covers(rt: HostRuntime) {
+    assert!(rt; goes_anew(rt.alloc(), SMALL, &Past));
+}

@@ -1,0 +1,98 @@
+//! Steps of all eight kinds, at places that look random.
+use node::{Place, StepKind, StepReply, Tree, TreeStep};
+use std::alloc::Global;
+use steps::{TriedStep, compact_step, do_step};
+use test_support::{Digit, Random};
+
+/// How many steps of each kind were done, in the order of the kinds.
+#[derive(Clone, Copy)]
+pub struct Done([u32; 8]);
+
+impl Done {
+    /// None was done yet.
+    pub fn new() -> Done {
+        Done([0; 8])
+    }
+
+    /// Counts a step.
+    fn count(&mut self, kind: StepKind) {
+        let counter = &mut self.0[kind as usize];
+        *counter = counter.saturating_add(1);
+    }
+
+    /// Whether so many were done in all, and so many of the rarest kind.
+    pub fn has(&self, all: u32, each: u32) -> bool {
+        let mut sum = 0u32;
+        let mut least = u32::MAX;
+        for count in self.0 {
+            sum = sum.saturating_add(count);
+            least = least.min(count);
+        }
+        all <= sum && each <= least
+    }
+}
+
+/// The place that up to three numbers of slots lead to, where a node may be.
+fn somewhere(random: &mut Random) -> Place {
+    let mut at = Place::root();
+    for _ in 0..random.below(4) {
+        match at.under(random.below(4) as u8) {
+            Some(below) => at = below,
+            None => return at,
+        }
+    }
+    at
+}
+
+/// A kind of step. Those that make a tree lower come more often than those that make it higher.
+fn some_kind(random: &mut Random) -> StepKind {
+    match random.below(20) {
+        0..=3 => StepKind::FlushInner,
+        4..=7 => StepKind::FlushLeaf,
+        8 => StepKind::SplitInner,
+        9..=11 => StepKind::MergeLeaves,
+        12..=14 => StepKind::MergeInner,
+        15 => StepKind::RootUp,
+        16..=17 => StepKind::RootDown,
+        _ => StepKind::DropCovered,
+    }
+}
+
+/// A step of some kind somewhere.
+fn some_step(random: &mut Random) -> TreeStep {
+    TreeStep {
+        kind: some_kind(random),
+        at: somewhere(random),
+        slot: random.below(4) as u8,
+    }
+}
+
+/// Does a step. It ensures nothing, so that no proof of a test reads what a step does.
+fn turn_of(alloc: Global, tree: &mut Tree<Digit>, step: TreeStep) -> TriedStep {
+    let reply = do_step(alloc, tree, step);
+    TriedStep { step, reply }
+}
+
+/// Relieves the heaviest slot, or tries a step of any kind somewhere; none where nothing is pending.
+fn turn(alloc: Global, random: &mut Random, tree: &mut Tree<Digit>) -> Option<TriedStep> {
+    if random.below(2) == 0 {
+        return compact_step(alloc, tree);
+    }
+    Some(turn_of(alloc, tree, some_step(random)))
+}
+
+/// Tries a step, and counts it where it was done.
+pub fn try_step(
+    alloc: Global,
+    random: &mut Random,
+    tree: &mut Tree<Digit>,
+    done: &mut Done,
+) -> bool {
+    let Some(turn) = turn(alloc, random, tree) else {
+        return true;
+    };
+    if matches!(turn.reply, StepReply::Did(_)) {
+        done.count(turn.step.kind);
+    }
+    turn.reply != StepReply::NoMemory
+}

@@ -1,0 +1,93 @@
+//! Trees of numbers, messages that come to them, and what they have at a key.
+//!
+//! What the tests of this crate ask is asked by functions that ensure nothing and of which each holds one value with a destructor: so their
+//! proofs, and those of the tests, stay short. They answer `false` where memory is refused.
+use lookup::get;
+use node::{Shape, Tree};
+use pathkey::{Key, NoMemory};
+use std::alloc::Global;
+use test_support::{Digit, Plain, batch, key};
+
+/// A shape of few slots, messages and entries.
+pub const SMALL: Shape = Shape {
+    fanout: 4,
+    pending: 8,
+    leaf: 4,
+};
+
+/// The smallest shape.
+pub const SMALLEST: Shape = Shape {
+    fanout: 4,
+    pending: 4,
+    leaf: 4,
+};
+
+/// Small nodes with room for many messages: in the smallest shape a few range-deletes leave no room for any step.
+pub const ROOMY: Shape = Shape {
+    fanout: 4,
+    pending: 64,
+    leaf: 4,
+};
+
+/// A new tree of a shape; it is refused where the shape is not ok.
+pub fn new_tree(alloc: Global, shape: Shape) -> Result<Tree<Digit>, NoMemory> {
+    if !shape.ok() {
+        return Err(NoMemory);
+    }
+    Tree::new(alloc, shape)
+}
+
+/// What a new tree goes through.
+pub trait Course {
+    /// Whether it goes as it should; `false` where memory is refused.
+    fn goes(&self, alloc: Global, tree: &mut Tree<Digit>) -> bool;
+}
+
+/// Whether a new tree of a shape goes through a course.
+pub fn goes_anew<C: Course>(alloc: Global, shape: Shape, course: &C) -> bool {
+    match new_tree(alloc, shape) {
+        Ok(mut tree) => course.goes(alloc, &mut tree),
+        Err(_) => false,
+    }
+}
+
+/// Whether a new tree goes through each course; the number of the first through which it does not.
+pub fn all_go<C: Course>(alloc: Global, shape: Shape, courses: &[C]) -> Result<(), usize> {
+    let mut number = 0usize;
+    for course in courses {
+        if !goes_anew(alloc, shape, course) {
+            return Err(number);
+        }
+        number = number.saturating_add(1);
+    }
+    Ok(())
+}
+
+/// Appends messages to a tree.
+pub fn append(alloc: Global, tree: &mut Tree<Digit>, msgs: &[Plain]) -> bool {
+    match batch(alloc, msgs) {
+        Ok(batch) => tree.append(alloc, batch).is_ok(),
+        Err(_) => false,
+    }
+}
+
+/// Whether a tree has this at a key; none where memory is refused.
+pub fn has_at(alloc: Global, tree: &Tree<Digit>, at: &Key, wanted: Option<u64>) -> Option<bool> {
+    match get(alloc, tree, at) {
+        Ok(found) => Some(found == wanted),
+        Err(_) => None,
+    }
+}
+
+/// Whether a tree has this at the key of a number; none where memory is refused.
+pub fn has_if_read(alloc: Global, tree: &Tree<Digit>, at: u8, wanted: Option<u64>) -> Option<bool> {
+    match key(alloc, at) {
+        Ok(at) => has_at(alloc, tree, &at, wanted),
+        Err(_) => None,
+    }
+}
+
+/// Whether a tree has this at the key of a number.
+pub fn has(alloc: Global, tree: &Tree<Digit>, at: u8, wanted: Option<u64>) -> bool {
+    has_if_read(alloc, tree, at, wanted) == Some(true)
+}

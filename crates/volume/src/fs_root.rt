@@ -1,0 +1,84 @@
+//! Indexes, and beside them the moment of the root of the tree that they mean: so it is told without a look-up.
+ghost use Rattle.std.specs.Prelude.{◌≡◌, IfOk};
+ghost use Rattle.pathkey.specs.Names.{is_root};
+ghost use Rattle.reference.specs.Calls.{is_done};
+ghost use Rattle.reference.specs.Plant.{modified_of};
+ghost use Rattle.reference.specs.Shape.{IsMoment};
+ghost use Rattle.volume.specs.FsRoot.{after_call, after_planting};
+
+use call_compiler::{Indexes, Reply};
+use pathkey::{Errno, NoMemory, Path};
+use reference::Meta;
+
+/// Indexes, and the moment of the root of the tree that they mean.
+#[derive(Drop)]
+pub struct FsRoot {
+    /// The indexes.
+    pub indexes: Indexes,
+    /// The moment of last change of the root.
+    pub modified: u64,
+}
+
+impl FsRoot {
+    /// These indexes and the moment, as one more owner of both trees. It fails only where a further owner
+    /// of their nodes is refused.
+    pub fn share(&self) -> Result<FsRoot, NoMemory>
+        ensures { IfOk result (λ r. r ≡ self.now) }
+    {
+        share(&self.indexes, self.modified)
+    }
+}
+
+/// These indexes, as one more owner of both trees, with the moment of the root.
+pub(crate) fn share(indexes: &Indexes, modified: u64) -> Result<FsRoot, NoMemory>
+    ensures { IfOk result (λ r. r ≡ record { indexes = indexes.now; modified = modified }) }
+{
+    let indexes = indexes.share()?;
+    Ok(FsRoot { indexes, modified })
+}
+
+/// The moment of the root after a call at a moment, which puts an entry into the root or takes one out, or does not. It takes no
+/// memory.
+pub(crate) fn after_call(reply: &Reply, in_root: bool, at: u64, modified: u64) -> u64
+    ensures { result ≡ after_call in_root reply.now at modified }
+{
+    if is_done(reply) && in_root {
+        at
+    } else {
+        modified
+    }
+}
+
+/// Whether the reply is that of a call that was done and has nothing to tell.
+fn is_done(reply: &Reply) -> bool
+    ensures { result ≡ is_done reply.now }
+{
+    matches!(reply, Reply::Done)
+}
+
+/// The moment of the root after an entry was to be planted. It takes no memory.
+pub(crate) fn after_planting(
+    answer: &Result<(), Errno>,
+    path: &Path,
+    meta: Meta,
+    modified: u64,
+) -> u64
+    ensures { result ≡ after_planting answer.now path.now meta modified }
+{
+    if answer.is_ok() && path.is_root() {
+        mtime_of(meta)
+    } else {
+        modified
+    }
+}
+
+/// The moment of metadata.
+pub(crate) fn mtime_of(meta: Meta) -> u64
+    ensures value { result ≡ modified_of meta }
+    ensures early { IsMoment (modified_of meta) }
+{
+    match meta {
+        Meta::Dir { modified } => modified,
+        Meta::File { len: _, modified } => modified,
+    }
+}

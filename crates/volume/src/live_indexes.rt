@@ -1,0 +1,304 @@
+//! The live indexes of a volume, with the marks of the jobs taken from their trees.
+ghost use Rattle.std.specs.Prelude.{◌≡◌, ◌↔◌, ℕ, [], None, IfOk, IfNone, IfSome, OnErr, OnOk};
+ghost use Rattle.call_compiler.specs.Compiled.{messages};
+ghost use Rattle.call_compiler.specs.Laws.{HaveTaken};
+ghost use Rattle.volume.specs.Changes.{StepsLive};
+ghost use Rattle.volume.specs.Jobs.{AnswersTaking, AnswersInstalling, DoneFits, mark_count};
+ghost use Rattle.volume.specs.Marked.{KeepMarkedLists, KeepsMarks, Stands, no_marks, without_mark};
+ghost use Rattle.volume.specs.HistoryOf.{HeaviestIn, pending_in};
+
+use crate::event::{CompactStep, Index, Step, in_tree};
+use crate::job::{Done, InstallReply, Job, TakeReply};
+use call_compiler::{Batch, Indexes};
+use flush::heaviest;
+use jobs::{Backlog, Marks, Ticket};
+use node::{StepReply, TreeStep, append_both_kept};
+use pathkey::NoMemory;
+use std::alloc::Global;
+use std::marker::Model;
+use steps::{CompactTarget, compact_in, make_room, preemptive_split};
+
+// The updates of the two indexes differ in type, so that no function can be given either's tree. What is done alike in both is
+// written once, as a macro. Where a tree is only looked at, `in_tree` makes a tree of an index; `step`, `backlog` and `take_job`
+// choose it with its marks.
+
+/// Takes a job of the slot of an index's root, and counts it.
+macro_rules! take_in {
+    ($live:expr, $alloc:expr, $slot:expr, $all:expr, $index:ident, $marks:ident, $job:path) => {
+        match $live.$marks.take_job($alloc, &$live.indexes.$index.tree, $live.given, $all, $slot) {
+            jobs::TakeOutcome::Taken(job) => {
+                $live.given += 1;
+                TakeReply::Taken($job(job))
+            }
+            jobs::TakeOutcome::NotThere => TakeReply::NotThere,
+            jobs::TakeOutcome::NoRoom => TakeReply::NoRoom,
+            jobs::TakeOutcome::NoMemory => TakeReply::NoMemory,
+        }
+    };
+}
+
+/// Puts what was built of a job into an index's tree.
+macro_rules! install_in {
+    ($live:expr, $built:expr, $index:ident, $marks:ident, $done:path) => {
+        match $live.$marks.install(&mut $live.indexes.$index.tree, $built) {
+            jobs::InstallOutcome::Installed => InstallReply::Installed,
+            jobs::InstallOutcome::Stale => InstallReply::Stale,
+            jobs::InstallOutcome::NoMemory(done) => InstallReply::NoMemory($done(done)),
+        }
+    };
+}
+
+/// Indexes, and the marks of the jobs taken from them: they stand beside the trees, so that no share of a tree has any.
+pub struct LiveIndexes {
+    indexes: Indexes,
+    meta_marks: Marks,
+    block_marks: Marks,
+    given: u128,
+}
+
+// Written out, as that of `pathkey::Key`.
+impl Drop for LiveIndexes {
+    fn drop(self) {
+        let LiveIndexes {
+            indexes: _,
+            meta_marks: _,
+            block_marks: _,
+            given: _,
+        } = self;
+    }
+}
+
+impl Model for LiveIndexes {
+    ghost use Rattle.volume.specs.Codes.{coded_live};
+    ghost use Rattle.volume.specs.Marked.{PLive, AreMarked};
+
+    ghost Value = { PLive };
+
+    ghost coded = { coded_live };
+
+    ghost view = { λ l. record { indexes = l.indexes; marks = record { meta = l.meta_marks; block = l.block_marks; given = l.given } } };
+
+    ghost invariant = { λ l. AreMarked (record { indexes = l.indexes; marks = record { meta = l.meta_marks; block = l.block_marks; given = l.given } }) };
+}
+
+impl LiveIndexes {
+    /// These indexes without marks. It takes no memory.
+    pub fn new(alloc: Global, indexes: Indexes) -> LiveIndexes
+        ensures indexes { result.indexes ≡ indexes }
+        ensures marks { result.marks ≡ no_marks 0 }
+    {
+        LiveIndexes {
+            indexes,
+            meta_marks: Marks::new(alloc),
+            block_marks: Marks::new(alloc),
+            given: 0,
+        }
+    }
+
+    /// The indexes.
+    pub fn indexes(&self) -> &Indexes
+        ensures { result.now ≡ self.now.indexes }
+    {
+        &self.indexes
+    }
+
+    /// What its type keeps: both trees are lawful, each mark has a slot of its own, at most 64 stand, and no ticket was given
+    /// twice. It does nothing.
+    pub fn assert_invariant(&self)
+        ensures { Stands self.now }
+    {
+        let _ = self.indexes.meta.tree.root();
+        let _ = self.indexes.block.tree.root();
+    }
+
+    /// Other indexes in the place of these. All marks go; no ticket is given again.
+    pub fn replace(&mut self, indexes: Indexes)
+        ensures indexes { self.new.indexes ≡ indexes }
+        ensures marks { self.new.marks ≡ no_marks self.old.marks.given }
+        ensures kept { KeepsMarks self.old self.new }
+    {
+        self.indexes = indexes;
+        self.meta_marks.cancel_all();
+        self.block_marks.cancel_all();
+    }
+
+    /// Puts the messages of a batch into both trees, whole or not at all. The list of a marked slot stays as it was, with the new
+    /// pieces behind it.
+    pub fn append(&mut self, alloc: Global, batch: Batch) -> Result<(), NoMemory>
+        ensures done { OnOk result (HaveTaken (messages batch) self.old.indexes self.new.indexes) }
+        ensures lists { OnOk result (KeepMarkedLists (messages batch) self.old self.new) }
+        ensures no_meta { batch.meta.items ≡ [] → self.new.indexes.meta ≡ self.old.indexes.meta }
+        ensures no_block { batch.block.items ≡ [] → self.new.indexes.block ≡ self.old.indexes.block }
+        ensures err { OnErr result (self.new ≡ self.old) }
+        ensures marks { self.new.marks ≡ self.old.marks }
+        ensures kept { KeepsMarks self.old self.new }
+    {
+        let Batch { meta, block } = batch;
+        if meta.is_empty() && block.is_empty() {
+            // A lawful tree has taken no messages as it stands: said for the checker.
+            self.assert_invariant();
+            return Ok(());
+        }
+        if self.meta_marks.len() == 0 && self.block_marks.len() == 0 {
+            return append_both_kept(
+                alloc,
+                &mut self.indexes.meta.tree,
+                meta,
+                &[],
+                &mut self.indexes.block.tree,
+                block,
+                &[],
+            );
+        }
+        let meta_kept = self.meta_marks.kept(alloc, self.indexes.meta.tree.root())?;
+        let block_kept = self
+            .block_marks
+            .kept(alloc, self.indexes.block.tree.root())?;
+        append_both_kept(
+            alloc,
+            &mut self.indexes.meta.tree,
+            meta,
+            meta_kept.as_slice(),
+            &mut self.indexes.block.tree,
+            block,
+            block_kept.as_slice(),
+        )
+    }
+
+    /// Does a tree step in the index that it names. Where it is done, the marks that do not outlive it go.
+    pub fn step(&mut self, alloc: Global, step: Step) -> StepReply
+        ensures { StepsLive step result self.old self.new }
+    {
+        match step.index {
+            Index::Meta => self
+                .meta_marks
+                .step(alloc, &mut self.indexes.meta.tree, step.step),
+            Index::Block => self
+                .block_marks
+                .step(alloc, &mut self.indexes.block.tree, step.step),
+        }
+    }
+
+    /// The flush of the slot of an index than which none has more pending messages; none where nothing is pending.
+    pub fn heaviest(&self, index: Index) -> Option<TreeStep>
+        ensures { HeaviestIn index result self.now.indexes }
+    {
+        in_tree!(self.indexes, index, tree => heaviest(tree))
+    }
+
+    /// The slot of an index's root of which a job would move the most messages; none where no job would move any.
+    pub fn backlog(&self, index: Index) -> Option<Backlog> {
+        match index {
+            Index::Meta => self.meta_marks.heaviest(&self.indexes.meta.tree),
+            Index::Block => self.block_marks.heaviest(&self.indexes.block.tree),
+        }
+    }
+
+    /// A step of the same index to try where this one has no room; none where none is known.
+    pub fn make_room(&self, step: Step) -> Option<Step>
+        ensures { IfSome result (λ other. other.index ≡ step.index) }
+    {
+        let index = step.index;
+        let step = LiveTarget(index).make_room(self, step.step)?;
+        Some(Step { index, step })
+    }
+
+    /// Flushes the heaviest slot of an index or, where its flush has no room, does what makes room for it; `None` where nothing
+    /// is pending there. Where a full leaf could not be cut, since its node has all slots that it may have, the node is parted
+    /// first.
+    pub fn compact_step(&mut self, alloc: Global, index: Index) -> Option<CompactStep>
+        ensures nothing { (result ≡ None) ↔ (pending_in index self.old.indexes ≡ 0) }
+        ensures unchanged { IfNone result (self.new ≡ self.old) }
+        ensures index { IfSome result (λ r. r.step.index ≡ index) }
+        ensures stepped { IfSome result (λ r. StepsLive r.step r.reply self.old self.new) }
+    {
+        let turn = compact_in(alloc, LiveTarget(index), self)?;
+        let step = Step {
+            index,
+            step: turn.step,
+        };
+        Some(CompactStep {
+            step,
+            reply: turn.reply,
+        })
+    }
+
+    /// How many marks stand. It takes no memory.
+    fn mark_count(&self) -> usize
+        ensures { result ≡ mark_count self.now.marks }
+    {
+        self.meta_marks.len() + self.block_marks.len()
+    }
+
+    /// Takes a job of the slot with this number of an index's root, under the next ticket.
+    pub fn take_job(&mut self, alloc: Global, index: Index, slot: u8) -> TakeReply
+        ensures { AnswersTaking index slot result self.old self.new }
+    {
+        let all = self.mark_count();
+        match index {
+            Index::Meta => take_in!(self, alloc, slot, all, meta, meta_marks, Job::Meta),
+            Index::Block => take_in!(self, alloc, slot, all, block, block_marks, Job::Block),
+        }
+    }
+
+    /// Puts what was built of a job in the place of the child of the mark's slot.
+    pub fn install(&mut self, done: Done) -> InstallReply
+        requires { DoneFits done self.old }
+        ensures { AnswersInstalling done result self.old self.new }
+    {
+        match done {
+            Done::Meta(done) => install_in!(self, done, meta, meta_marks, Done::Meta),
+            Done::Block(done) => install_in!(self, done, block, block_marks, Done::Block),
+        }
+    }
+
+    /// Takes away the mark with the ticket, if it stands. It takes no memory.
+    pub fn cancel(&mut self, ticket: Ticket)
+        ensures indexes { self.new.indexes ≡ self.old.indexes }
+        ensures marks { self.new.marks ≡ without_mark ticket.number self.old.marks }
+        ensures kept { KeepsMarks self.old self.new }
+    {
+        self.meta_marks.cancel(ticket);
+        self.block_marks.cancel(ticket);
+    }
+
+    /// Takes all marks away. It takes no memory.
+    pub fn cancel_all(&mut self)
+        ensures indexes { self.new.indexes ≡ self.old.indexes }
+        ensures marks { self.new.marks ≡ no_marks self.old.marks.given }
+        ensures kept { KeepsMarks self.old self.new }
+    {
+        self.meta_marks.cancel_all();
+        self.block_marks.cancel_all();
+    }
+}
+
+/// The live tree of an index, with the marks of its jobs, as relief sees it.
+#[derive(Clone, Copy)]
+struct LiveTarget(Index);
+
+impl CompactTarget<LiveIndexes> for LiveTarget {
+    ghost use Rattle.volume.specs.Changes.{StepsLive};
+    ghost use Rattle.volume.specs.HistoryOf.{pending_in};
+
+    ghost answers = { λ t s r a b. StepsLive (record { index = t.0; step = s }) r a b };
+
+    ghost waiting = { λ t l. pending_in t.0 l.indexes };
+
+    fn heaviest(self, on: &LiveIndexes) -> Option<TreeStep> {
+        on.heaviest(self.0)
+    }
+
+    fn make_room(self, on: &LiveIndexes, step: TreeStep) -> Option<TreeStep> {
+        in_tree!(on.indexes, self.0, tree => make_room(tree, step))
+    }
+
+    fn preemptive_split(self, on: &LiveIndexes, flush: TreeStep) -> Option<TreeStep> {
+        in_tree!(on.indexes, self.0, tree => preemptive_split(tree, flush))
+    }
+
+    fn try_step(self, alloc: Global, on: &mut LiveIndexes, step: TreeStep) -> StepReply {
+        let index = self.0;
+        on.step(alloc, Step { index, step })
+    }
+}

@@ -1,0 +1,68 @@
+//! Jobs that a run of events holds.
+ghost use Rattle.std.specs.Prelude.{◌≡◌, ◌<◌, IfOk, IfErr, IfSome, length, vec_capacity};
+ghost use Rattle.volume.specs.RunJob.{IsUnbuilt, MayInstall, held_ticket, others, position, with_ticket};
+
+use crate::job::{Done, Job};
+use jobs::Ticket;
+use std::alloc::Global;
+
+/// A job that a run holds.
+#[derive(Drop)]
+pub enum RunJob {
+    /// As it was taken.
+    Taken(Job),
+    /// What was built of it, where memory was refused when it was to be installed.
+    Built(Done),
+}
+
+impl RunJob {
+    /// The job's ticket. It takes no memory.
+    pub(crate) fn ticket(&self) -> Ticket
+        ensures { result.number ≡ held_ticket self.now }
+    {
+        match self {
+            RunJob::Taken(job) => job.ticket(),
+            RunJob::Built(done) => done.ticket(),
+        }
+    }
+
+    /// What is to be installed. Where memory is refused the job comes back as it was.
+    pub(crate) fn built(self, alloc: Global) -> Result<Done, RunJob>
+        ensures ok { IfOk result (λ d. MayInstall self d) }
+        ensures err { IfErr result (λ held. held ≡ self) }
+        ensures unbuilt { IfErr result IsUnbuilt }
+    {
+        match self {
+            RunJob::Taken(job) => match job.build(alloc) {
+                Ok(done) => Ok(done),
+                Err(job) => Err(RunJob::Taken(job)),
+            },
+            RunJob::Built(done) => Ok(done),
+        }
+    }
+}
+
+/// The number of the first job with the ticket. It takes no memory.
+fn position(held: &[RunJob], ticket: Ticket) -> Option<usize>
+    ensures place { result ≡ position ticket.number held.now }
+    ensures bound { IfSome result (λ i. i < length held.now) }
+{
+    let mut i = 0;
+    for job in held {
+        if job.ticket().number == ticket.number {
+            return Some(i);
+        }
+        i += 1;
+    }
+    None
+}
+
+/// Takes the first job with the ticket out. It takes no memory.
+pub(crate) fn take_out(held: &mut Vec<RunJob>, ticket: Ticket) -> Option<RunJob>
+    ensures job { result ≡ with_ticket ticket.number held.old.items }
+    ensures others { held.new.items ≡ others ticket.number held.old.items }
+    ensures room { vec_capacity held.new ≡ vec_capacity held.old }
+{
+    let i = position(held.as_slice(), ticket)?;
+    Some(held.remove(i))
+}

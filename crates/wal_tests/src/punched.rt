@@ -1,0 +1,458 @@
+//! Files of which parts were made zeros. No function here ensures anything, so that no proof of a test reads the contract of a volume.
+use crate::deltas_by_hand::freeze;
+use crate::small::new_volume;
+use std::alloc::Global;
+use volume::{Errno, Frozen, Kind, Path, SnapName, Volume};
+
+/// How many bytes have which value.
+type Run = (u64, u8);
+
+/// Holes that are made in a file one after the other, and what is then told of the file.
+struct Row {
+    /// The offset and the count of each.
+    asked: &'static [(u64, u64)],
+    /// How many bytes the last made zeros.
+    count: u64,
+    /// The moment of the file; holes are made at moment 7.
+    modified: u64,
+    /// Its bytes.
+    bytes: &'static [Run],
+    /// Its stored bytes: runs of them, each from a byte up to and without another.
+    stored: &'static [(u64, u64)],
+}
+
+/// The file before: three blocks of `a`, `b` and `c`, and 10 bytes `d`, of moment 3.
+const WHOLE: [Run; 4] = [(4096, b'a'), (4096, b'b'), (4096, b'c'), (10, b'd')];
+
+const LENGTH: u64 = 12298;
+
+/// Each row begins with the whole file.
+const ROWS: [Row; 11] = [
+    // The second block.
+    Row {
+        asked: &[(4096, 4096)],
+        count: 4096,
+        modified: 7,
+        bytes: &[(4096, b'a'), (4096, 0), (4096, b'c'), (10, b'd')],
+        stored: &[(0, 4096), (8192, LENGTH)],
+    },
+    // From within the first block into the third.
+    Row {
+        asked: &[(4090, 4106)],
+        count: 4106,
+        modified: 7,
+        bytes: &[(4090, b'a'), (4106, 0), (4092, b'c'), (10, b'd')],
+        stored: &[(0, 4096), (8192, LENGTH)],
+    },
+    // Two bytes at the edge of two blocks: none goes.
+    Row {
+        asked: &[(4095, 2)],
+        count: 2,
+        modified: 7,
+        bytes: &[(4095, b'a'), (2, 0), (4095, b'b'), (4096, b'c'), (10, b'd')],
+        stored: &[(0, LENGTH)],
+    },
+    // One byte within a block.
+    Row {
+        asked: &[(5000, 1)],
+        count: 1,
+        modified: 7,
+        bytes: &[
+            (4096, b'a'),
+            (904, b'b'),
+            (1, 0),
+            (3191, b'b'),
+            (4096, b'c'),
+            (10, b'd'),
+        ],
+        stored: &[(0, LENGTH)],
+    },
+    // The first block and the beginning of the second.
+    Row {
+        asked: &[(0, 4100)],
+        count: 4100,
+        modified: 7,
+        bytes: &[(4100, 0), (4092, b'b'), (4096, b'c'), (10, b'd')],
+        stored: &[(4096, LENGTH)],
+    },
+    // All, and beyond the end: the last block is stored in part, and stays.
+    Row {
+        asked: &[(0, u64::MAX)],
+        count: LENGTH,
+        modified: 7,
+        bytes: &[(LENGTH, 0)],
+        stored: &[(12288, LENGTH)],
+    },
+    // From within the last block on.
+    Row {
+        asked: &[(12290, 1_099_511_627_776)],
+        count: 8,
+        modified: 7,
+        bytes: &[(4096, b'a'), (4096, b'b'), (4096, b'c'), (2, b'd'), (8, 0)],
+        stored: &[(0, LENGTH)],
+    },
+    // Within blocks that are not stored any more: they are not stored for it.
+    Row {
+        asked: &[(0, 8192), (10, 4100), (8000, 192)],
+        count: 192,
+        modified: 7,
+        bytes: &[(8192, 0), (4096, b'c'), (10, b'd')],
+        stored: &[(8192, LENGTH)],
+    },
+    // The same bytes twice.
+    Row {
+        asked: &[(4000, 9000), (4000, 9000)],
+        count: 8298,
+        modified: 7,
+        bytes: &[(4000, b'a'), (8298, 0)],
+        stored: &[(0, 4096), (12288, LENGTH)],
+    },
+    // Behind the end.
+    Row {
+        asked: &[(LENGTH, 1)],
+        count: 0,
+        modified: 3,
+        bytes: &WHOLE,
+        stored: &[(0, LENGTH)],
+    },
+    // Nothing.
+    Row {
+        asked: &[(100, 0)],
+        count: 0,
+        modified: 3,
+        bytes: &WHOLE,
+        stored: &[(0, LENGTH)],
+    },
+];
+
+/// The path of a text.
+fn path(alloc: Global, text: &str) -> Option<Path> {
+    Path::parse(alloc, text.as_bytes()).ok()
+}
+
+/// Puts a byte so many times behind others.
+fn push(bytes: &mut Vec<u8>, count: u64, byte: u8) -> bool {
+    for _ in 0..count {
+        if bytes.push(byte).is_err() {
+            return false;
+        }
+    }
+    true
+}
+
+/// Puts the bytes of the runs behind others.
+fn push_runs(bytes: &mut Vec<u8>, runs: &[Run]) -> bool {
+    for (count, byte) in runs {
+        if !push(bytes, *count, *byte) {
+            return false;
+        }
+    }
+    true
+}
+
+/// The bytes of the runs.
+fn bytes_of(alloc: Global, runs: &[Run]) -> Option<Vec<u8>> {
+    let mut bytes = Vec::new(alloc);
+    if push_runs(&mut bytes, runs) {
+        return Some(bytes);
+    }
+    None
+}
+
+fn mkdir(alloc: Global, volume: &mut Volume, path: &Path) -> bool {
+    volume.mkdir(alloc, path, 1).is_ok()
+}
+
+fn create(alloc: Global, volume: &mut Volume, file: &Path) -> bool {
+    volume.create(alloc, file, 2).is_ok()
+}
+
+fn write(alloc: Global, volume: &mut Volume, file: &Path, bytes: &[u8]) -> bool {
+    volume.write(alloc, file, 0, bytes, 3).is_ok()
+}
+
+fn relieve(alloc: Global, volume: &mut Volume) -> bool {
+    volume.compact_step(alloc).is_some()
+}
+
+/// Makes the directory `/d`.
+fn make_directory(alloc: Global, volume: &mut Volume) -> bool {
+    match path(alloc, "/d") {
+        Some(path) => mkdir(alloc, volume, &path),
+        None => false,
+    }
+}
+
+/// Writes the bytes that the file has before any hole.
+fn write_whole(alloc: Global, volume: &mut Volume, file: &Path) -> bool {
+    match bytes_of(alloc, &WHOLE) {
+        Some(bytes) => write(alloc, volume, file, bytes.as_slice()),
+        None => false,
+    }
+}
+
+/// Lets a volume do what waits.
+fn settle(alloc: Global, volume: &mut Volume) {
+    for _ in 0..100 {
+        if !relieve(alloc, volume) {
+            break;
+        }
+    }
+}
+
+/// Makes the directory and the file.
+fn fill(alloc: Global, volume: &mut Volume, file: &Path) -> bool {
+    make_directory(alloc, volume) && create(alloc, volume, file) && write_whole(alloc, volume, file)
+}
+
+/// A volume with a directory `/d`, and with the file before any hole, in a small tree.
+fn filled(alloc: Global, file: &Path) -> Option<Volume> {
+    let mut volume = new_volume(alloc)?;
+    if !fill(alloc, &mut volume, file) {
+        return None;
+    }
+    settle(alloc, &mut volume);
+    Some(volume)
+}
+
+fn frozen(volume: &Volume, name: &SnapName) -> Option<Frozen> {
+    volume.frozen(name).ok()
+}
+
+fn read(alloc: Global, tree: &Frozen, file: &Path) -> Option<Vec<u8>> {
+    tree.try_read(alloc, file, 0, 100_000).ok()
+}
+
+fn stat(alloc: Global, tree: &Frozen, file: &Path) -> Option<(Kind, u64, u64)> {
+    tree.try_stat(alloc, file).ok()
+}
+
+fn stored(alloc: Global, tree: &Frozen, file: &Path, offset: u64) -> Option<(u64, u64)> {
+    tree.next_extent(alloc, file, offset).ok()
+}
+
+/// Whether the file of a tree has these bytes.
+fn reads(alloc: Global, tree: &Frozen, file: &Path, wanted: &[u8]) -> bool {
+    match read(alloc, tree, file) {
+        Some(bytes) => bytes.as_slice() == wanted,
+        None => false,
+    }
+}
+
+/// Whether the file of a tree has the bytes of these runs.
+fn reads_runs(alloc: Global, tree: &Frozen, file: &Path, runs: &[Run]) -> bool {
+    match bytes_of(alloc, runs) {
+        Some(wanted) => reads(alloc, tree, file, wanted.as_slice()),
+        None => false,
+    }
+}
+
+/// Whether it has its length, and the moment.
+fn is_reported(alloc: Global, tree: &Frozen, file: &Path, modified: u64) -> bool {
+    match stat(alloc, tree, file) {
+        Some((kind, length, moment)) => {
+            kind == Kind::File && length == LENGTH && moment == modified
+        }
+        None => false,
+    }
+}
+
+/// Whether the file of a tree has the bytes, and the moment.
+fn has_bytes(alloc: Global, tree: &Frozen, file: &Path, runs: &[Run], modified: u64) -> bool {
+    reads_runs(alloc, tree, file, runs) && is_reported(alloc, tree, file, modified)
+}
+
+/// Whether these runs of the file are stored, and no others.
+fn has_runs(alloc: Global, tree: &Frozen, file: &Path, runs: &[(u64, u64)]) -> bool {
+    let mut offset = 0;
+    for run in runs {
+        if stored(alloc, tree, file, offset) != Some(*run) {
+            return false;
+        }
+        offset = run.1;
+    }
+    stored(alloc, tree, file, offset) == Some((LENGTH, LENGTH))
+}
+
+fn punch(alloc: Global, volume: &mut Volume, file: &Path, hole: (u64, u64)) -> Option<u64> {
+    volume.punch(alloc, file, hole.0, hole.1, 7).ok()
+}
+
+/// Makes the holes in the file: how many bytes the last made zeros.
+fn punch_each(
+    alloc: Global,
+    volume: &mut Volume,
+    file: &Path,
+    holes: &[(u64, u64)],
+) -> Option<u64> {
+    let mut count = Some(0);
+    for hole in holes {
+        count = punch(alloc, volume, file, *hole);
+        if count.is_none() {
+            return None;
+        }
+    }
+    count
+}
+
+fn snapshot(alloc: Global, volume: &mut Volume, name: &SnapName) -> bool {
+    volume.snapshot(alloc, name).is_ok()
+}
+
+/// Whether the live tree is as the row says.
+fn is_live(alloc: Global, volume: &Volume, file: &Path, row: &Row) -> bool {
+    match freeze(volume) {
+        Some(tree) => {
+            has_bytes(alloc, &tree, file, row.bytes, row.modified)
+                && has_runs(alloc, &tree, file, row.stored)
+        }
+        None => false,
+    }
+}
+
+/// The runs that are stored before any hole.
+const ALL: [(u64, u64); 1] = [(0, LENGTH)];
+
+/// Whether a snapshot has the file before any hole.
+fn keeps(alloc: Global, volume: &Volume, file: &Path, name: &SnapName) -> bool {
+    match frozen(volume, name) {
+        Some(tree) => {
+            has_bytes(alloc, &tree, file, &WHOLE, 3) && has_runs(alloc, &tree, file, &ALL)
+        }
+        None => false,
+    }
+}
+
+/// Whether holes are made in a volume as their row says, and a snapshot that was taken before keeps its bytes.
+fn makes_beside(
+    alloc: Global,
+    volume: &mut Volume,
+    file: &Path,
+    name: &SnapName,
+    row: &Row,
+) -> bool {
+    snapshot(alloc, volume, name)
+        && punch_each(alloc, volume, file, row.asked) == Some(row.count)
+        && is_live(alloc, volume, file, row)
+        && keeps(alloc, volume, file, name)
+}
+
+/// Whether holes are made in a new volume as their row says, and a snapshot that is taken before keeps its bytes.
+fn makes(alloc: Global, file: &Path, name: &SnapName, row: &Row) -> bool {
+    match filled(alloc, file) {
+        Some(mut volume) => makes_beside(alloc, &mut volume, file, name, row),
+        None => false,
+    }
+}
+
+/// Whether the holes of each row are made in a file as it says; the number of the first of which they are not.
+fn makes_each(alloc: Global, file: &Path, name: &SnapName) -> Result<(), usize> {
+    for (number, row) in ROWS.iter().enumerate() {
+        if !makes(alloc, file, name, row) {
+            return Err(number);
+        }
+    }
+    Ok(())
+}
+
+/// Whether the holes of each row are made in a file as it says, beside a snapshot with the name `before`.
+fn makes_each_beside(alloc: Global, file: &Path) -> Result<(), usize> {
+    match SnapName::parse(alloc, b"before") {
+        Ok(name) => makes_each(alloc, file, &name),
+        Err(_) => Err(usize::MAX),
+    }
+}
+
+/// Whether the holes of each row are made in the file `/f` as it says.
+fn makes_each_at(alloc: Global) -> Result<(), usize> {
+    match path(alloc, "/f") {
+        Some(file) => makes_each_beside(alloc, &file),
+        None => Err(usize::MAX),
+    }
+}
+
+#[test]
+fn makes_zeros_of_a_part_of_a_file(rt: HostRuntime) -> Result<(), usize> {
+    makes_each_at(rt.alloc())
+}
+
+/// Why no hole is made at a path.
+fn fault_of_punch(alloc: Global, volume: &mut Volume, path: &Path) -> Option<Errno> {
+    volume.punch(alloc, path, 0, 1, 7).err()
+}
+
+/// Why it is not told what is stored there.
+fn fault_of_stored(alloc: Global, volume: &Volume, path: &Path) -> Option<Errno> {
+    volume.next_extent(alloc, path, 0).err()
+}
+
+/// Whether both calls are refused so.
+fn are_refused(alloc: Global, volume: &mut Volume, path: &Path, fault: Errno) -> bool {
+    fault_of_punch(alloc, volume, path) == Some(fault)
+        && fault_of_stored(alloc, volume, path) == Some(fault)
+}
+
+/// Whether both calls are refused with this fault at the path that a text names.
+fn are_refused_at(alloc: Global, volume: &mut Volume, text: &str, fault: Errno) -> bool {
+    match path(alloc, text) {
+        Some(path) => are_refused(alloc, volume, &path, fault),
+        None => false,
+    }
+}
+
+/// Where no file stands, and why the calls are refused there.
+const REFUSED: [(&str, Errno); 4] = [
+    ("/", Errno::EISDIR),
+    ("/d", Errno::EISDIR),
+    ("/d/x", Errno::ENOENT),
+    ("/f/x", Errno::ENOTDIR),
+];
+
+/// Whether both calls are refused at each; the number of the first where they are not.
+fn are_refused_each(alloc: Global, volume: &mut Volume) -> Result<(), usize> {
+    for (number, (text, fault)) in REFUSED.iter().enumerate() {
+        if !are_refused_at(alloc, volume, text, *fault) {
+            return Err(number);
+        }
+    }
+    Ok(())
+}
+
+/// Whether the live tree has the file before any hole.
+fn is_whole(alloc: Global, volume: &Volume, file: &Path) -> bool {
+    match freeze(volume) {
+        Some(tree) => has_bytes(alloc, &tree, file, &WHOLE, 3),
+        None => false,
+    }
+}
+
+/// Whether both calls are refused where no file stands, and nothing is changed; the number of the first where it is otherwise.
+fn refuses_each_in(alloc: Global, volume: &mut Volume, file: &Path) -> Result<(), usize> {
+    are_refused_each(alloc, volume)?;
+    if is_whole(alloc, volume, file) {
+        Ok(())
+    } else {
+        Err(usize::MAX)
+    }
+}
+
+/// Whether both calls are refused where no file stands in a new volume, and nothing is changed.
+fn refuses_each(alloc: Global, file: &Path) -> Result<(), usize> {
+    match filled(alloc, file) {
+        Some(mut volume) => refuses_each_in(alloc, &mut volume, file),
+        None => Err(usize::MAX),
+    }
+}
+
+/// Whether both calls are refused where no file stands, and the file `/f` stays whole.
+fn refuses_each_beside(alloc: Global) -> Result<(), usize> {
+    match path(alloc, "/f") {
+        Some(file) => refuses_each(alloc, &file),
+        None => Err(usize::MAX),
+    }
+}
+
+#[test]
+fn refuses_what_is_no_file(rt: HostRuntime) -> Result<(), usize> {
+    refuses_each_beside(rt.alloc())
+}

@@ -1,0 +1,118 @@
+//! What a log makes of a volume.
+use crate::log_by_hand::{FIRST, FIRST_END, LOG, SECOND_END, SIZE};
+use crate::small::new_volume;
+use pathkey::{Errno, Path};
+use recovery::{ReplayError, ReplayReport, replay};
+use std::alloc::Global;
+use std::test::Fail;
+use volume::Volume;
+
+/// The first bytes of the log.
+fn front(end: usize) -> &'static [u8] {
+    if end <= LOG.len() { &LOG[..end] } else { LOG }
+}
+
+/// What a volume tells of a path. It ensures nothing, so that no proof of a test reads the contract of a volume.
+fn length_of(alloc: Global, volume: &Volume, path: &Path) -> Result<u64, Errno> {
+    match volume.stat(alloc, path) {
+        Ok((_, length, _)) => Ok(length),
+        Err(fault) => Err(fault),
+    }
+}
+
+/// Replays a log.
+fn replayed(alloc: Global, volume: &mut Volume, log: &[u8], number: u64) -> Option<ReplayReport> {
+    if number > 1000 || log.len() > 1000 {
+        return None;
+    }
+    Some(replay(alloc, volume, log, number))
+}
+
+/// Whether the file that the log makes has this length, or is missing so.
+fn has_length(alloc: Global, volume: &Volume, want: Result<u64, Errno>) -> bool {
+    match Path::parse(alloc, b"/a/x") {
+        Ok(path) => length_of(alloc, volume, &path) == want,
+        Err(_) => false,
+    }
+}
+
+/// What a log does on a new volume.
+#[derive(Clone, Copy)]
+struct Row {
+    log: &'static [u8],
+    /// The number of its first record.
+    number: u64,
+    /// What is told of it.
+    reported: ReplayReport,
+    /// The length of the file.
+    length: Result<u64, Errno>,
+}
+
+/// Whether a log does that on a volume.
+fn does(alloc: Global, volume: &mut Volume, row: &Row) -> bool {
+    replayed(alloc, volume, row.log, row.number) == Some(row.reported)
+        && has_length(alloc, volume, row.length)
+}
+
+/// Whether a log does what its row says on a new volume.
+fn does_on_new(alloc: Global, row: &Row) -> bool {
+    match new_volume(alloc) {
+        Some(mut volume) => does(alloc, &mut volume, row),
+        None => false,
+    }
+}
+
+/// Where a log ends, how many records were done of it, how many bytes those take, and the length of the file.
+const ENDS: [(usize, usize, usize, Result<u64, Errno>); 6] = [
+    (0, 0, 0, Err(Errno::ENOENT)),
+    (FIRST_END - 1, 0, 0, Err(Errno::ENOENT)),
+    (FIRST_END, 1, FIRST_END, Err(Errno::ENOENT)),
+    (SECOND_END - 1, 1, FIRST_END, Err(Errno::ENOENT)),
+    (SECOND_END, 2, SECOND_END, Ok(4)),
+    (SIZE, 3, SIZE, Ok(4)),
+];
+
+/// The row of a log that ends there.
+fn row_of(end: &(usize, usize, usize, Result<u64, Errno>)) -> Row {
+    let reported = ReplayReport {
+        records: end.1,
+        size: end.2,
+        stopped: None,
+    };
+    Row {
+        log: front(end.0),
+        number: FIRST,
+        reported,
+        length: end.3,
+    }
+}
+
+#[test]
+fn whole_and_cut(rt: HostRuntime) -> Result<(), Fail> {
+    for end in &ENDS {
+        assert!(rt; does_on_new(rt.alloc(), &row_of(end)), "{}", end.0);
+    }
+    Ok(())
+}
+
+/// The second record alone: `/a` is missing where its file is made.
+fn second_alone() -> Row {
+    let fault = Errno::ENOENT;
+    let reported = ReplayReport {
+        records: 0,
+        size: 0,
+        stopped: Some(ReplayError { done: 0, fault }),
+    };
+    Row {
+        log: &LOG[FIRST_END..],
+        number: FIRST + 1,
+        reported,
+        length: Err(Errno::ENOENT),
+    }
+}
+
+#[test]
+fn stops_where_a_change_is_refused(rt: HostRuntime) -> Result<(), Fail> {
+    assert!(rt; does_on_new(rt.alloc(), &second_alone()));
+    Ok(())
+}

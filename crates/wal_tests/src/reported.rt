@@ -1,0 +1,135 @@
+//! Bodies told as lines of a script, against lines that were written by hand.
+use crate::log_by_hand::{FIRST_BODY, SECOND_BODY, THIRD_BODY};
+use log_lines::wal_dump;
+use logs::encode::{
+    encode_path_call, encode_punch, encode_rename, encode_snapshot_call, encode_truncate,
+    encode_write,
+};
+use logs::{PathCall, SnapshotCall};
+use pathkey::Errno;
+use std::alloc::Global;
+use std::test::Fail;
+
+/// The lines of a body. It ensures nothing, so that no proof of a test reads what they mean.
+fn lines(alloc: Global, body: &[u8]) -> Result<Vec<u8>, Errno> {
+    wal_dump(alloc, body)
+}
+
+/// Whether a body is told by these lines.
+fn is_reported(alloc: Global, body: &[u8], want: &[u8]) -> bool {
+    match lines(alloc, body) {
+        Ok(text) => text.as_slice() == want,
+        Err(_) => false,
+    }
+}
+
+/// Whether a change that was laid is told by these lines.
+fn is_laid_reported(alloc: Global, laid: Result<usize, Errno>, room: &[u8], want: &[u8]) -> bool {
+    match laid {
+        Ok(size) => size <= room.len() && is_reported(alloc, &room[..size], want),
+        Err(_) => false,
+    }
+}
+
+/// Why a body is not told, if it is not.
+fn fault_of(alloc: Global, body: &[u8]) -> Option<Errno> {
+    match lines(alloc, body) {
+        Ok(_) => None,
+        Err(fault) => Some(fault),
+    }
+}
+
+/// Why a body that was laid is not told, if it is not.
+fn fault_of_laid(alloc: Global, laid: Result<usize, Errno>, room: &[u8]) -> Option<Errno> {
+    match laid {
+        Ok(size) if size <= room.len() => fault_of(alloc, &room[..size]),
+        _ => None,
+    }
+}
+
+#[test]
+fn reported_as_by_hand(rt: HostRuntime) -> Result<(), Fail> {
+    assert!(rt; is_reported(rt.alloc(), b"", b""));
+    assert!(rt; is_reported(rt.alloc(), FIRST_BODY, b"at 7\nmkdir /a\n"));
+    assert!(rt;
+        is_reported(
+            rt.alloc(),
+            SECOND_BODY,
+            b"at 8\ncreate /a/x\nat 9\nwrite /a/x 2 6869\n"
+        )
+    );
+    assert!(rt; is_reported(rt.alloc(), THIRD_BODY, b"snapshot s\n"));
+    assert_eq!(rt; fault_of(rt.alloc(), &FIRST_BODY[1..]), Some(Errno::EINVAL));
+    Ok(())
+}
+
+#[test]
+fn each_change_reported(rt: HostRuntime) -> Result<(), Fail> {
+    let mut room = [0u8; 64];
+    let laid = encode_path_call(rt.alloc(), PathCall::Unlink, b"/", 1, &mut room);
+    assert!(rt; is_laid_reported(rt.alloc(), laid, &room, b"at 1\nunlink /\n"));
+    let laid = encode_rename(rt.alloc(), b"/a b", b"/%", 4, &mut room);
+    assert!(rt; is_laid_reported(rt.alloc(), laid, &room, b"at 4\nrename /a%20b /%25\n"));
+    let laid = encode_truncate(rt.alloc(), b"/a", 12, 5, &mut room);
+    assert!(rt; is_laid_reported(rt.alloc(), laid, &room, b"at 5\ntruncate /a 12\n"));
+    let laid = encode_write(rt.alloc(), b"/a", 7, b"", 6, &mut room);
+    assert!(rt; is_laid_reported(rt.alloc(), laid, &room, b"at 6\nwrite /a 7 -\n"));
+    let laid = encode_write(rt.alloc(), b"/a", u64::MAX, b"x", 6, &mut room);
+    assert_eq!(rt; fault_of_laid(rt.alloc(), laid, &room), Some(Errno::EFBIG));
+    let laid = encode_punch(rt.alloc(), b"/a", 4096, 8192, 6, &mut room);
+    assert!(rt; is_laid_reported(rt.alloc(), laid, &room, b"# punch /a 4096 8192\n"));
+    let laid = encode_snapshot_call(rt.alloc(), SnapshotCall::Remove, b"s", &mut room);
+    assert!(rt; is_laid_reported(rt.alloc(), laid, &room, b"drop s\n"));
+    let laid = encode_snapshot_call(rt.alloc(), SnapshotCall::Restore, b"s", &mut room);
+    assert!(rt; is_laid_reported(rt.alloc(), laid, &room, b"restore s\n"));
+    Ok(())
+}
+
+/// Lays the write of bytes at the moment 2. It ensures nothing, so that no proof of a test reads what is laid.
+fn lay(alloc: Global, path: &[u8], offset: u64, bytes: &[u8], room: &mut [u8]) -> Option<usize> {
+    encode_write(alloc, path, offset, bytes, 2, room).ok()
+}
+
+/// Lays such a write of so many zeros at the offset 3.
+fn lay_zeros(alloc: Global, count: usize, room: &mut [u8]) -> Option<usize> {
+    match Vec::from_elem(alloc, 0u8, count) {
+        Ok(bytes) => lay(alloc, b"/a", 3, bytes.as_slice(), room),
+        Err(_) => None,
+    }
+}
+
+/// The body of a write of so many zeros.
+fn long_body(alloc: Global, count: usize) -> Option<Vec<u8>> {
+    let Ok(mut body) = Vec::from_elem(alloc, 0u8, count.saturating_add(64)) else {
+        return None;
+    };
+    match lay_zeros(alloc, count, body.as_mut_slice()) {
+        Some(size) => {
+            body.truncate(size);
+            Some(body)
+        }
+        None => None,
+    }
+}
+
+/// The text without its zeros, or nothing.
+fn shown(alloc: Global, count: usize) -> Option<Vec<u8>> {
+    let body = long_body(alloc, count)?;
+    let Ok(mut text) = lines(alloc, body.as_slice()) else {
+        return None;
+    };
+    text.retain(|byte| *byte != b'0');
+    Some(text)
+}
+
+#[test]
+fn a_long_write_reported(rt: HostRuntime) -> Result<(), Fail> {
+    let text = shown(rt.alloc(), 28_672).ok_or("none")?;
+    assert_eq!(rt; text.as_slice(), b"at 2\nwrite /a 3 \n".as_slice());
+    let text = shown(rt.alloc(), 57_345).ok_or("none")?;
+    assert_eq!(rt;
+        text.as_slice(),
+        b"at 2\nwrite /a 3 \nwrite /a 28675 \nwrite /a 57347 \n".as_slice()
+    );
+    Ok(())
+}

@@ -1,0 +1,15 @@
+// Whether the thread that serves stays awake until the next request. To wake it takes several microseconds, and where
+// requests come densely the next one is there sooner than it slept.
+#ifndef BUSY_POLL_H
+#define BUSY_POLL_H
+#include <stdbool.h>
+
+// For how many microseconds it looks at most; for none where 0 is said, or where there is one processor alone.
+void busy_poll_set(unsigned microseconds);
+// Whether the next request is there.
+bool busy_poll_ready(int device);
+// Looks for it for so long, where the last ones came as soon as that: whether it is there.
+bool busy_poll_wait(int device);
+// The next request has come, whether it was looked for or not.
+void busy_poll_note(void);
+#endif

@@ -1,0 +1,21 @@
+// The difference of two images that are printed side by side, piece by piece: neither they nor the text have to fit
+// into
+// memory, and between two pieces other calls of the volume are made.
+#ifndef DELTA_PRINT_H
+#define DELTA_PRINT_H
+#include "doorvervain.h"
+#include "sha256.h"
+
+struct delta_io {
+    // Gives the next bytes of an image, and none at its end.
+    int (*next)(void *self, struct doorvervain_printer *image, uint8_t *out, size_t capacity, size_t *size);
+    // Takes the next bytes of the text.
+    int (*put)(void *self, const char *bytes, size_t count);
+    void *self;
+};
+
+// Gives away the text that makes the second image of the first one. `digits` is the checksum of the first image, and
+// then that of the second. 0, ENOMEM, or what one of the functions answered: then a beginning was given away.
+int delta_print_images(const struct delta_io *io, struct doorvervain_printer *old, struct doorvervain_printer *new,
+                       char digits[SHA256_DIGITS + 1]);
+#endif

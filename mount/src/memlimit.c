@@ -1,0 +1,136 @@
+// Counts all memory of the process (--wrap=malloc and others), and limits it for calls that make the tree grow
+// (--size).
+//
+// Invariant: `taken` is the sum of the usable sizes of all blocks. Only between `memlimit_begin` and `memlimit_suspend`
+// or `memlimit_retry` does the calling thread get no memory beyond the limit less the reserve, so removals and undo
+// always may take more.
+#include "memlimit.h"
+#include <errno.h>
+#include <inttypes.h>
+#include <malloc.h>
+#include <stdatomic.h>
+#include <stdio.h>
+#include <stdlib.h>
+#include <string.h>
+
+enum { STEPS_AT_ONCE = 256, MOST_ROUNDS = 64 };
+
+void *__real_malloc(size_t count);
+void *__real_calloc(size_t many, size_t count);
+void *__real_realloc(void *old, size_t count);
+void __real_free(void *at);
+void *__wrap_malloc(size_t count);
+void *__wrap_calloc(size_t many, size_t count);
+void *__wrap_realloc(void *old, size_t count);
+void __wrap_free(void *at);
+char *__wrap_strdup(const char *text);
+
+static _Atomic size_t taken;
+static uint64_t size;
+// Of the thread that makes a call: the most that may be taken, 0 where it is not limited.
+static _Thread_local size_t most;
+static _Thread_local bool was_refused;
+
+// What a piece of memory takes, with the word that malloc keeps in front of it.
+static size_t taken_by(void *at) { return at ? malloc_usable_size(at) + sizeof(size_t) : 0; }
+
+static bool is_refused(size_t more) {
+    size_t now = atomic_load_explicit(&taken, memory_order_relaxed);
+    if (!most || (now <= most && more <= most - now)) return false;
+    was_refused = true;
+    errno = ENOMEM;
+    return true;
+}
+
+static void *count_in(void *at) {
+    atomic_fetch_add_explicit(&taken, taken_by(at), memory_order_relaxed);
+    return at;
+}
+
+static void count_out(size_t bytes) { atomic_fetch_sub_explicit(&taken, bytes, memory_order_relaxed); }
+
+void *__wrap_malloc(size_t count) { return is_refused(count) ? 0 : count_in(__real_malloc(count)); }
+
+void *__wrap_calloc(size_t many, size_t count) {
+    size_t all;
+    if (__builtin_mul_overflow(many, count, &all) || is_refused(all)) return 0;
+    return count_in(__real_calloc(many, count));
+}
+
+void *__wrap_realloc(void *old, size_t count) {
+    size_t before = taken_by(old);
+    if (count > before && is_refused(count - before)) return 0;
+    void *at = __real_realloc(old, count);
+    if (!at && count) return 0;
+    count_out(before);
+    return count_in(at);
+}
+
+void __wrap_free(void *at) {
+    count_out(taken_by(at));
+    __real_free(at);
+}
+
+char *__wrap_strdup(const char *text) {
+    size_t count = strlen(text) + 1;
+    char *copy = __wrap_malloc(count);
+    return copy ? memcpy(copy, text, count) : 0;
+}
+
+static uint64_t reserve(void) { return size / SHARE_KEPT; }
+
+void memlimit_set(uint64_t bytes) { size = bytes; }
+
+// A number of /proc/meminfo, in bytes.
+static uint64_t machine_has(const char *what) {
+    char line[128];
+    uint64_t kilobytes = 0;
+    size_t length = strlen(what);
+    FILE *file = fopen("/proc/meminfo", "re");
+    while (file && fgets(line, sizeof line, file))
+        if (!strncmp(line, what, length) && line[length] == ':') kilobytes = strtoull(line + length + 1, 0, 10);
+    if (file) fclose(file);
+    return kilobytes * 1024;
+}
+
+struct mem_usage memlimit_usage(void) {
+    if (size) return (struct mem_usage){size, atomic_load(&taken), reserve()};
+    uint64_t all = machine_has("MemTotal"), available = machine_has("MemAvailable");
+    return (struct mem_usage){all, all - (available < all ? available : all), 0};
+}
+
+uint64_t memlimit_taken(void) { return atomic_load(&taken); }
+
+void memlimit_begin(void) {
+    most = size - reserve();
+    was_refused = false;
+}
+
+void memlimit_suspend(void) { most = 0; }
+
+int memlimit_reserve(struct bytes *bytes, size_t more) {
+    size_t limit = most;
+    most = 0;
+    int err = bytes_reserve(bytes, more);
+    most = limit;
+    return err;
+}
+
+// Whether steps of the tree gave memory back. What was removed takes memory until they have come to it. A step that
+// finds no memory itself changes nothing, so that they are not tried for ever.
+static bool gives_back(const struct backend *backend) {
+    size_t before = atomic_load(&taken);
+    for (unsigned i = 0; i < MOST_ROUNDS && backend_compact(backend, STEPS_AT_ONCE); i++)
+        if (atomic_load(&taken) < before) return true;
+    return false;
+}
+
+bool memlimit_retry(const struct backend *backend, int *err) {
+    bool wants_room = was_refused && *err == ENOMEM;
+    most = 0;
+    was_refused = false;
+    if (!wants_room) return false;
+    if (gives_back(backend)) return true;
+    *err = ENOSPC;
+    return false;
+}

@@ -1,0 +1,48 @@
+// The calls of one request that changes the tree. Each is noted with what undoes it, so that a request is done as a
+// whole or not at all: no other request comes between.
+#ifndef TXN_H
+#define TXN_H
+#include "private_dir.h"
+
+enum { MAX_UNDO = 24 };
+
+enum undo_kind { BY_RENAME, BY_REMOVAL, BY_TEXT, BY_CREATION, BY_REMAKING };
+
+struct undo_entry {
+    enum undo_kind how;
+    bool is_removal; // it goes where the request is done
+    uint64_t at;     // the moment at which it is undone, so that folders keep theirs
+    char path[LONGEST_PATH + 1];
+    char back[LONGEST_PATH + 1]; // where it was; of a file that went with its folder, the folder
+    struct bytes text;           // what it had
+};
+
+struct txn {
+    struct mount *mount;
+    uint64_t at; // the moment of the request
+    size_t count;
+    char read_path[LONGEST_PATH + 1]; // of the file that was read last; empty: none was
+    struct bytes read;                // its text
+    struct undo_entry undone[MAX_UNDO];
+};
+
+void txn_begin(struct txn *txn, struct mount *mount, uint64_t at);
+// Makes a directory or a file at a moment; where that is undone, its directory gets the moment `back_at`.
+int txn_create(struct txn *txn, enum change what, const char *path, uint64_t at, uint64_t back_at);
+// Moves what stands at a path to where nothing stands.
+int txn_rename(struct txn *txn, const char *from, const char *to, uint64_t at, uint64_t back_at);
+// The text of a file of the mount's own, until the next change of that file.
+int txn_read(struct txn *txn, const char *path, const struct bytes **out);
+// Gives a file of the mount's own another text.
+int txn_write(struct txn *txn, const char *path, const char *text, size_t length);
+// Takes what stands at a path of the mount's own away, and nothing where nothing stands.
+int txn_remove(struct txn *txn, const char *path);
+// Removes a small file of the mount's own, and nothing where nothing is there: faster than to park it. Where its text
+// is
+// known it need not be read: it is taken over then; null: it is not known.
+int txn_unlink(struct txn *txn, const char *path, struct bytes *text);
+// The same with the folder of the mount's own that it is alone in. ENOENT where that has none.
+int txn_remove_record(struct txn *txn, const char *folder, const char *file, struct bytes *text);
+// Ends a request with its fault: where there is one, all is undone. Folders for records that are empty then go.
+int txn_end(struct txn *txn, int err);
+#endif

@@ -1,0 +1,214 @@
+// The file of the write-ahead log: writing, syncing, and beginning the next one ("Log" in docs/FORMATS.md).
+//
+// Invariant: called under `wal_lock`. Records are written in the order of their numbers, and after a failed write or
+// sync nothing more is written to this log. A record without calls is a sync marker: all before it was on the disk.
+// Zeros after the last record belong to no record, and are cut off at the end.
+#define _GNU_SOURCE
+#include "wal_encode.h"
+#include "store_inside.h"
+#include <assert.h>
+#include <errno.h>
+#include <fcntl.h>
+#include <inttypes.h>
+#include <string.h>
+#include <time.h>
+#include <unistd.h>
+
+enum {
+    WRITTEN_AT_ONCE = 1 << 20,
+    ROOM_KEPT = 8 << 20,
+    ZEROS_AHEAD = 1 << 20,
+    ENOUGH_TO_SHARE = 1 << 19,
+    RECORDS_OF_A_LOG = 40,
+    NANOSECONDS = 1000000000,
+};
+
+uint64_t store_record(uint64_t log, uint64_t index) { return log << RECORDS_OF_A_LOG | index; }
+
+// From here on no change is answered as done until an image is whole that has all of them.
+static int fail(struct store *store, int err) {
+    if (!store->err)
+        store_report(store, "log.%" PRIu64 " is not kept, and changes are refused: %s", store->number, strerror(err));
+    store->err = err;
+    store->sync_errseq++;
+    return err;
+}
+
+static int write_at(int file, const char *from, size_t left, uint64_t at) {
+    while (left) {
+        ssize_t done = pwrite(file, from, left, (off_t)at);
+        if (done < 0 && errno == EINTR) continue;
+        if (done < 0) return errno;
+        from += done;
+        at += (uint64_t)done;
+        left -= (size_t)done;
+    }
+    return 0;
+}
+
+static int write_out(struct store *store) {
+    store->is_synced = false;
+    store->has_written = true;
+    int err = write_at(store->log, store->record_buffer.at, store->record_buffer.length, store->length);
+    if (err) return err;
+    store->length += store->record_buffer.length;
+    store->wal_bytes += store->record_buffer.length;
+    if (store->allocated < store->length) store->allocated = store->length;
+    store->record_buffer.length = 0;
+    return 0;
+}
+
+// Zeros behind the records: a file that keeps its length and its blocks is synced without its file system's journal.
+// Where there is no room for them, none are there.
+static void fill_ahead(struct store *store) {
+    static const char zeros[1 << 16];
+    if (store->allocated > store->length) return;
+    for (uint64_t end = store->length + ZEROS_AHEAD; store->allocated < end; store->allocated += sizeof zeros)
+        if (write_at(store->log, zeros, sizeof zeros, store->allocated)) return;
+}
+
+// A record of no calls is a mark: all that lies before it was on the disk. So who finds a record before it that is not
+// whole knows that the disk lost it.
+static int write_sync_marker(struct store *store) {
+    struct record_frame frame;
+    if (!store->is_synced || !store->records) return 0;
+    int err = wal_frame(&frame, store_record(store->number, store->records), "", 0);
+    if (!err) err = wal_put_record(&store->record_buffer, &frame, "", 0);
+    store->records += !err;
+    return err;
+}
+
+// The records of a batch, of which each has a frame.
+struct framing {
+    const struct store *store;
+    const struct wal_batch *batch;
+    struct record_frame *frames;
+    size_t count;
+    _Atomic int err;
+};
+
+// The calls of a record.
+static const char *calls_of(const struct wal_batch *batch, size_t index, size_t *length) {
+    const size_t *ends = (const size_t *)batch->ends.at;
+    size_t from = index ? ends[index - 1] : 0;
+    *length = ends[index] - from;
+    return batch->calls.at + from;
+}
+
+static void frame_one(void *self, size_t index) {
+    struct framing *framing = self;
+    const struct store *store = framing->store;
+    size_t length;
+    const char *calls = calls_of(framing->batch, index, &length);
+    int err = wal_frame(&framing->frames[index], store_record(store->number, store->records + index), calls, length);
+    if (err) framing->err = err;
+}
+
+// Those of a large batch are shared by the worker pool.
+static int frame_all(struct store *store, struct framing *framing) {
+    struct pool_task task = {.part = frame_one, .self = framing, .count = framing->count};
+    store->frames.length = 0;
+    if (bytes_reserve(&store->frames, framing->count * sizeof *framing->frames)) return ENOMEM;
+    framing->frames = (struct record_frame *)store->frames.at;
+    if (framing->batch->calls.length >= ENOUGH_TO_SHARE) pool_run(&store->pool, &task);
+    else
+        for (size_t i = 0; i < framing->count; i++) frame_one(framing, i);
+    return framing->err;
+}
+
+static int put_records(struct store *store, const struct framing *framing) {
+    int err = 0;
+    for (size_t i = 0; !err && i < framing->count; i++) {
+        size_t length;
+        const char *calls = calls_of(framing->batch, i, &length);
+        err = wal_put_record(&store->record_buffer, &framing->frames[i], calls, length);
+        store->records += !err;
+        if (!err && store->record_buffer.length >= WRITTEN_AT_ONCE) err = write_out(store);
+    }
+    return err || !store->record_buffer.length ? err : write_out(store);
+}
+
+static int write_batch(struct store *store, const struct wal_batch *batch) {
+    struct framing framing = {store, batch, 0, batch->ends.length / sizeof(size_t), 0};
+    int err = framing.count ? write_sync_marker(store) : 0;
+    if (!err) err = frame_all(store, &framing);
+    return err ? err : put_records(store, &framing);
+}
+
+int wal_write_in_flight(struct store *store) {
+    const struct wal_batch *batch;
+    assert(lock_is_held(&store->wal_lock));
+    int err = store->err;
+    while ((batch = store_first_in_flight(store))) {
+        if (!err) err = write_batch(store, batch);
+        store_drop_in_flight(store);
+    }
+    store->record_buffer.length = 0;
+    if (store->record_buffer.capacity > ROOM_KEPT) bytes_free(&store->record_buffer);
+    if (err && !store->err) fail(store, err);
+    return err ? EIO : 0;
+}
+
+// The disk is at work already when the sync comes.
+void store_begin_sync(struct store *store) {
+    if (!store->err) sync_file_range(store->log, 0, 0, SYNC_FILE_RANGE_WRITE);
+}
+
+uint64_t store_clock(void) {
+    struct timespec now;
+    clock_gettime(CLOCK_MONOTONIC, &now);
+    return (uint64_t)now.tv_sec * NANOSECONDS + (uint64_t)now.tv_nsec;
+}
+
+int wal_sync_in_flight(struct store *store) {
+    int err = wal_write_in_flight(store);
+    if (err || store->is_synced) return err;
+    uint64_t begun = store_clock();
+    fill_ahead(store);
+    if (fdatasync(store->log)) return fail(store, errno), EIO;
+    store->is_synced = true;
+    store->took = store_clock() - begun;
+    return 0;
+}
+
+// Without the zeros behind its records.
+static int cut_and_sync(int file, uint64_t length) {
+    return ftruncate(file, (off_t)length) || fdatasync(file) ? errno : 0;
+}
+
+int store_close_log(struct store *store) {
+    int err = store->err;
+    if (!err && store->has_written) err = write_sync_marker(store);
+    if (!err && store->record_buffer.length) err = write_out(store);
+    if (!err) err = cut_and_sync(store->log, store->length);
+    close(store->log);
+    return err;
+}
+
+int store_open_log(struct store *store, uint64_t number, uint64_t length) {
+    char name[STORE_NAME];
+    store_name(name, "log", number);
+    int file = openat(store->directory, name, O_WRONLY | O_CREAT | O_CLOEXEC | O_NOFOLLOW, 0600);
+    if (file < 0) return errno;
+    store->log = file;
+    store->number = number;
+    store->length = store->allocated = length;
+    store->is_synced = true;
+    return 0;
+}
+
+int wal_rotate(struct store *store, struct former_log *former) {
+    struct former_log now = {store->log, store->length};
+    int err = store_open_log(store, store->number + 1, 0);
+    if (err) return err;
+    *former = now;
+    store->records = store->wal_bytes = 0;
+    return 0;
+}
+
+int store_end_log(struct store *store, const struct former_log *former) {
+    int err = cut_and_sync(former->file, former->length);
+    if (!err && fsync(store->directory)) err = errno;
+    close(former->file);
+    return err && !store->err ? (fail(store, err), EIO) : 0;
+}

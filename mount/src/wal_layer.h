@@ -1,0 +1,25 @@
+// What a store and a replica share: a call that changes something is noted, as an entry of a log, and handed on. One
+// that
+// is refused leaves no note.
+#ifndef WAL_LAYER_H
+#define WAL_LAYER_H
+#include "backend.h"
+
+// The first member of who notes, and so the `self` of these functions.
+struct wal_layer {
+    struct backend inner;
+    // Begins a call, and says behind which bytes its note goes, and in `err` why it is refused, which is 0 before.
+    // Null: the call does nothing, and is answered as done.
+    struct bytes *(*begins)(void *self, int *err);
+    // Ends a call that began: what it is answered with. Null: with its fault as it is.
+    int (*ends)(void *self, int err);
+};
+
+int wal_layer_change(void *self, enum change what, const char *path, uint64_t at);
+int wal_layer_rename(void *self, const char *from, const char *to, uint64_t at);
+int wal_layer_truncate(void *self, const char *path, uint64_t length, uint64_t at);
+// The inner backend writes all or nothing.
+int wal_layer_write(void *self, const char *path, uint64_t offset, const char *bytes, size_t count, uint64_t at,
+                    size_t *done);
+int wal_layer_punch(void *self, const char *path, uint64_t offset, uint64_t count, uint64_t at);
+#endif

@@ -1,0 +1,106 @@
+"""The functions of a crate with their bodies: which of them an edit changes, and which a line of a check tells of."""
+from __future__ import annotations
+
+import dataclasses
+import functools
+import re
+from typing import Iterator
+
+from definitions import lines_of
+from resolve import checksum
+from record import Crate, Edit
+from source import Item, Source, Span
+from items import header_of
+
+
+@dataclasses.dataclass(frozen=True)
+class Function:
+    """A function with a body, and where its proof would lie below proofs/."""
+
+    path: str
+    name: str
+    body: Span
+    first_line: int
+    last_line: int
+    folder: re.Pattern
+    exact: str
+    # what a check of it alone names: it, or its module where it is of a trait; '' is the crate
+    alone: str
+
+    def has_line(self, path: str, line: int) -> bool:
+        return path == self.path and self.first_line <= line <= self.last_line
+
+
+def functions_of(source: Source) -> Iterator[Function]:
+    module = re.sub(r"(^|/)(lib|main|mod)$", "", source.path[len("src/") : -len(".rt")])
+    yield from functions_among(source, source.items, module)
+
+
+def functions_among(source: Source, items: tuple[Item, ...], module: str, holder: str = "", is_of_trait: bool = False) -> Iterator[Function]:
+    for item in items:
+        if item.kind == "fn" and item.body:
+            front = "/".join(filter(None, (module, holder)))
+            exact = "/".join(filter(None, (front, item.name)))
+            of_trait = r"\w*" if holder else ""
+            folder = re.compile(re.escape(front) + of_trait + ("/" if front else "") + re.escape(item.name))
+            alone = (module if is_of_trait else exact).replace("/", "::")
+            # from its attributes on: the prover tells of an export at these
+            lines = source.line(item.span.start), source.line(item.span.end - 1)
+            yield Function(source.path, item.name, item.body, *lines, folder, exact, alone)
+        elif item.kind == "mod":
+            yield from functions_among(source, item.parts, "/".join(filter(None, (module, item.name))))
+        elif item.kind in ("impl", "trait"):
+            of_trait, holder_name = (item.name, item.name) if item.kind == "trait" else header_of(source, item)
+            yield from functions_among(source, item.parts, module, holder_name, bool(of_trait))
+
+
+class Bodies:
+    """The functions of a crate, found by places, lines and folders of proofs."""
+
+    def __init__(self, crate: Crate):
+        self.folder = crate.folder
+        self.sources = {it.path: it for it in crate.sources()}
+        self.all = [it for source in crate.sources() for it in functions_of(source)]
+
+    def touched(self, edit: Edit) -> frozenset[Function] | None:
+        """The functions whose bodies hold all that the edit changes; None where it changes more, or where its texts overlap."""
+        found = set()
+        for change in edit.changes():
+            text = self.sources[change.path].text if change.path in self.sources else ""
+            if text.count(change.old) != 1:
+                return None
+            at = text.index(change.old)
+            inside = [it for it in self.all if it.path == change.path and it.body.start < at and at + len(change.old) < it.body.end]
+            if len(inside) != 1:
+                return None
+            found.add(inside[0])
+        return frozenset(found)
+
+    def at_line(self, path: str, line: int) -> list[Function]:
+        return [it for it in self.all if it.has_line(path, line)]
+
+    def of_proof(self, folder: str) -> list[Function]:
+        """The functions whose proof may lie in the folder."""
+        exact = [it for it in self.all if it.exact == folder]
+        return exact if len(exact) == 1 else [it for it in self.all if it.folder.fullmatch(folder)]
+
+    def in_group(self, folder: str) -> list[Function]:
+        """Where the folder holds the one proof of functions that call one another, the functions that may be among them."""
+        module, _, name = folder.rpartition("/")
+        return [it for it in self.all if it.exact.rpartition("/")[0].startswith(module)] if name.startswith("+") else []
+
+    @functools.cached_property
+    def proofs(self) -> dict[str, list[str]]:
+        """The texts in proofs/ by the folders in which they lie."""
+        found: dict[str, list[str]] = {}
+        for file in sorted((self.folder / "proofs").rglob("*.antt")):
+            text = " ".join(lines_of(file.read_text(encoding="utf-8")))
+            found.setdefault(str(file.parent.relative_to(self.folder / "proofs")), []).append(text)
+        return found
+
+    def checksum(self, edit: Edit) -> str:
+        """A checksum of the bodies and proofs of the functions that the edit changes: with others it may be refused at other goals."""
+        functions = [it for it in self.all if it in (self.touched(edit) or ())]
+        bodies = [" ".join(it.body.of(self.sources[it.path].said).split()) for it in functions]
+        proofs = [self.proofs[folder] for folder in self.proofs if any(it.folder.fullmatch(folder) for it in functions)]
+        return checksum([*bodies, *map(repr, proofs)])[:8]
