@@ -62,7 +62,6 @@ static int read_all(struct mount *mount, struct inode *inode, struct bytes *out)
     const struct attrs *attrs;
     struct attrs read;
     struct resolved_path resolved;
-    if (!mount_keeps_records(mount)) return EOPNOTSUPP;
     int err = attrs_of(mount, inode, &attrs);
     if (!err) err = bytes_reserve(out, 1);
     if (err || !attrs->has_extended) return err;
@@ -96,7 +95,7 @@ int extended_list(struct mount *mount, struct inode *inode, struct bytes *out) {
         err = bytes_append(out, one.name, strlen(one.name) + 1);
     }
     bytes_free(&all);
-    return err == EOPNOTSUPP ? 0 : err;
+    return err;
 }
 
 static int write_all(struct mount *mount, struct inode *inode, const struct bytes *all, uint64_t at) {
@@ -129,13 +128,13 @@ static int change(struct mount *mount, struct inode *inode, const char *name, co
     return err;
 }
 
-static int may_change(const struct mount *mount, const struct inode *inode, const char *name) {
-    return is_refused(name) || !mount_keeps_records(mount) ? EOPNOTSUPP : fs_may_write(inode);
+static int may_change(const struct inode *inode, const char *name) {
+    return is_refused(name) ? EOPNOTSUPP : fs_may_write(inode);
 }
 
 int extended_set(struct mount *mount, struct inode *inode, const char *name, const char *value, size_t length,
                  int flags) {
-    int err = may_change(mount, inode, name);
+    int err = may_change(inode, name);
     if (err) return err;
     do {
         memlimit_begin();
@@ -146,6 +145,6 @@ int extended_set(struct mount *mount, struct inode *inode, const char *name, con
 
 // A removal may take what it needs.
 int extended_remove(struct mount *mount, struct inode *inode, const char *name) {
-    int err = may_change(mount, inode, name);
+    int err = may_change(inode, name);
     return err ? err : change(mount, inode, name, 0, 0, XATTR_REPLACE);
 }

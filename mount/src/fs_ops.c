@@ -170,17 +170,14 @@ struct truncation {
     uint64_t length, at;
 };
 
-// Where no record can have a time, the tree's moment of a file is set to it.
-static struct truncation find_cut(const struct mount *mount, const struct inode *inode, const struct setattr *setattr,
+// A time that is set to now is the tree's own mtime; any other goes into the record.
+static struct truncation find_cut(const struct inode *inode, const struct setattr *setattr,
                                   const struct node_stat *node_stat) {
-    bool is_file = !inode->is_directory;
-    bool sets_mtime = is_file && setattr->modify && (setattr->modifies_now || !mount_keeps_records(mount));
-    uint64_t at = sets_mtime && !setattr->modifies_now ? timespec_to_ns(*setattr->modify) : setattr->at;
     uint64_t length = setattr->length ? *setattr->length : node_stat->length;
-    return (struct truncation){.is_wanted = is_file && (setattr->length || sets_mtime),
+    return (struct truncation){.is_wanted = !inode->is_directory && (setattr->length || setattr->modifies_now),
                                .lengthens = length > node_stat->length,
                                .length = length,
-                               .at = at ? at : 1};
+                               .at = setattr->at};
 }
 
 // The moment that an entry has once it is set.
@@ -236,12 +233,12 @@ static int set_attributes(struct mount *mount, struct inode *inode, const struct
     return err;
 }
 
-// Another owner holds where records do, and all of them are believed.
+// Another owner holds where records are believed.
 static int may_set_owner(const struct mount *mount, const struct doorvervain_attributes *base,
                          const struct setattr *setattr) {
     bool changes_user = setattr->user && *setattr->user != base->user;
     bool changes_group = setattr->group && *setattr->group != base->group;
-    return (changes_user || changes_group) && !(mount_keeps_records(mount) && mount->trusts_attributes) ? EPERM : 0;
+    return (changes_user || changes_group) && !mount->trusts_attributes ? EPERM : 0;
 }
 
 int fs_setattr(struct mount *mount, struct inode *inode, const struct setattr *setattr) {
@@ -252,7 +249,7 @@ int fs_setattr(struct mount *mount, struct inode *inode, const struct setattr *s
     if (!err) err = may_set_owner(mount, &known->base, setattr);
     if (!err) err = fs_node_stat(mount, inode, &node_stat);
     if (err) return err;
-    struct truncation truncation = find_cut(mount, inode, setattr, &node_stat);
+    struct truncation truncation = find_cut(inode, setattr, &node_stat);
     uint64_t mtime_ns = next_mtime(&truncation, &node_stat);
     struct attrs wanted = *known;
     if (wanted.base.held != mtime_ns) wanted.base.has_modified = 0;

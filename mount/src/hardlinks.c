@@ -164,7 +164,7 @@ static int may_link(struct mount *mount, struct inode *inode, struct inode *pare
     const struct attrs *attrs;
     int err = fs_may_rename(parent, name);
     if (!err) err = fs_may_write(inode);
-    if (!err && (!mount_keeps_records(mount) || inode->is_directory)) err = EPERM;
+    if (!err && inode->is_directory) err = EPERM;
     if (!err && (inode->is_unlinked || !inode->parent)) err = ENOENT;
     if (!err) err = inode_path(parent, name, resolved);
     if (!err) err = attrs_can_store(mount, resolved->path);

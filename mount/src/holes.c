@@ -135,8 +135,7 @@ static int allocate(struct mount *mount, struct inode *inode, const struct resol
 int holes_allocate(struct mount *mount, struct inode *inode, int mode, uint64_t offset, uint64_t count) {
     const int known = FALLOC_FL_KEEP_SIZE | FALLOC_FL_PUNCH_HOLE | FALLOC_FL_ZERO_RANGE;
     struct resolved_path resolved;
-    bool makes_holes = mode & (FALLOC_FL_PUNCH_HOLE | FALLOC_FL_ZERO_RANGE);
-    if (mode & ~known || (makes_holes && !mount_keeps_records(mount))) return EOPNOTSUPP;
+    if (mode & ~known) return EOPNOTSUPP;
     if (count > UINT64_MAX - offset) return EFBIG;
     struct extent range = {offset, offset + count};
     int err = fs_may_write(inode);

@@ -193,7 +193,7 @@ void inode_detach(struct inode *inode) {
 }
 
 static bool may_go(const struct inode *inode) {
-    return inode->role == ORDINARY && !inode->first && !inode->in_memory_only && !inode_is_held(inode);
+    return inode->role == ORDINARY && !inode->first && !inode->is_pinned && !inode_is_held(inode);
 }
 
 // Frees what nobody holds below an entry.

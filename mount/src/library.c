@@ -209,13 +209,6 @@ static const struct backend_ops library_ops = {
     .close = library_close,
 };
 
-static const struct attr_ops library_attr_ops = {
-    .record_dir = doorvervain_attr_dir,
-    .record_path = doorvervain_attr_path,
-    .print = doorvervain_attr_encode,
-    .parse = doorvervain_attr_decode,
-};
-
 struct doorvervain *library_volume(void *self) {
     struct library *library = self;
     return &library->volume;
@@ -267,8 +260,7 @@ int open_library(const struct open_options *options, struct backend *out) {
     if (!library) return ENOMEM;
     library->steps = options->steps;
     library->has_backlog = options->steps;
-    *out =
-        (struct backend){.ops = &library_ops, .self = library, .attr_ops = &library_attr_ops, .tree = &library->volume};
+    *out = (struct backend){.ops = &library_ops, .self = library, .tree = &library->volume};
     int err = options->image ? load(library, options) : open_empty(library);
     if (err) free(library);
     return err;

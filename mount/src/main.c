@@ -95,7 +95,6 @@ static int serve_options(struct options *options) {
     options->open.image = full_name(options->open.image);
     options->open.store = full_name(options->open.store);
     options->open.trace = full_name(options->open.trace);
-    options->open.betr = full_name(options->open.betr);
     struct etcd_options *replica = &options->open.replica;
     const char **files[] = {&replica->cacert, &replica->cert, &replica->key, &replica->password_file};
     for (size_t i = 0; i < sizeof files / sizeof *files; i++) *files[i] = full_name(*files[i]);

@@ -59,12 +59,8 @@ static int make(struct mount *mount, struct inode *parent, const char *name, con
     return err;
 }
 
-static int may_make(struct mount *mount, const struct inode *parent, const char *name, const struct create_args *args,
-                    struct resolved_path *resolved) {
-    uint8_t kind = args->base.kind;
-    bool is_usual = kind == DOORVERVAIN_DIRECTORY || kind == DOORVERVAIN_FILE;
+static int may_make(struct mount *mount, const struct inode *parent, const char *name, struct resolved_path *resolved) {
     int err = fs_may_rename(parent, name);
-    if (!err && !is_usual && !mount_keeps_records(mount)) err = EPERM;
     if (!err) err = inode_path(parent, name, resolved);
     return err ? err : attrs_can_store(mount, resolved->path);
 }
@@ -77,7 +73,7 @@ int namei_create(struct mount *mount, struct inode *parent, const char *name, co
     bool is_directory = args->base.kind == DOORVERVAIN_DIRECTORY;
     out->is_other_name = false;
     if (parent->role == SNAPSHOT_FOLDER) return is_directory ? snapshot_take(mount, name, out) : EPERM;
-    int err = may_make(mount, parent, name, args, &resolved);
+    int err = may_make(mount, parent, name, &resolved);
     if (!err) err = inherit_group(mount, parent, &wanted.base);
     if (err) return err;
     attrs_untrust(mount, &wanted.base);

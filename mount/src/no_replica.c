@@ -1,4 +1,4 @@
-// Stands in for replica.c if the library, libcurl or jansson is missing: --replica fails, and the other functions do
+// Stands in for replica.c if libcurl or jansson is missing: --replica fails, and the other functions do
 // nothing.
 #include "replica.h"
 #include <errno.h>
@@ -6,7 +6,7 @@
 
 int replica_open(const struct open_options *options, struct mount *mount) {
     (void)options, (void)mount;
-    fputs("doorvervain-mount: made without --replica: that takes the library, libcurl and jansson\n", stderr);
+    fputs("doorvervain-mount: made without --replica: that takes libcurl and jansson\n", stderr);
     return ENOSYS;
 }
 

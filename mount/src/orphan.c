@@ -139,8 +139,7 @@ int orphan_put(struct mount *mount, struct inode *inode) {
     if (inode_is_held(inode)) return 0;
     if (inode == mount->deferred) {
         int err = orphan_flush_deferred(mount);
-        if (err)
-            inode->in_memory_only = true; // Until its name is gone, it is not freed with the directory that it is in.
+        if (err) inode->is_pinned = true;
         return err;
     }
     if (!inode->is_unlinked || !inode->parent) {

@@ -102,11 +102,6 @@ bool private_tidy(struct mount *mount) {
     return err == ENOTEMPTY;
 }
 
-static int refuse(const char *what) {
-    fprintf(stderr, "doorvervain-mount: %s\n", what);
-    return EINVAL;
-}
-
 // A file that an image has in the place of one of the folders goes. The root keeps its moment.
 static int leave_out_file(struct mount *mount, const char *path) {
     struct node_stat node_stat;
@@ -119,8 +114,6 @@ static int leave_out_file(struct mount *mount, const char *path) {
 }
 
 int private_start(struct mount *mount) {
-    if (!mount_keeps_records(mount) && (stands(mount, TREE_PATH) || stands(mount, LINKS_PATH)))
-        return refuse("the image has attributes or links, which a mount with --pipe does not know");
     int err = leave_out_file(mount, PRIVATE_PATH);
     if (!err) err = leave_out_file(mount, TREE_PATH);
     if (!err) err = leave_out_file(mount, LINKS_PATH);

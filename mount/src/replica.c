@@ -168,7 +168,7 @@ static void begin_at(struct replica *replica, struct mount *mount, const struct 
     replica->number = start->number;
     replica->done = replica->checkpoint_version = start->checkpoint.version;
     replica->revision = start->checkpoint.revision;
-    mount->backend = (struct backend){.ops = &replica_ops, .self = replica, .attr_ops = replica->layer.inner.attr_ops};
+    mount->backend = (struct backend){.ops = &replica_ops, .self = replica};
     mount->replica = replica;
     mount->orphans = replica->number << NUMBERS_OF_A_MOUNT;
     inodes_number_above(mount->orphans);

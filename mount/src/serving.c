@@ -24,7 +24,7 @@
 static int open_backend(const struct open_options *open_options, struct mount *mount) {
     if (open_options->replica.members) return replica_open(open_options, mount);
     if (open_options->store) return store_open(open_options, &mount->backend, &mount->store);
-    return open_options->betr ? open_pipe(open_options, &mount->backend) : open_library(open_options, &mount->backend);
+    return open_library(open_options, &mount->backend);
 }
 
 static int open_volume(const struct options *options, struct mount *mount) {

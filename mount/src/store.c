@@ -387,8 +387,7 @@ int store_open(const struct open_options *options, struct backend *backend, stru
         return err;
     }
     store->layer = (struct wal_layer){.inner = *backend, .begins = call_begins};
-    *backend = (struct backend){
-        .ops = &store_ops, .self = store, .attr_ops = store->layer.inner.attr_ops, .tree = store->layer.inner.tree};
+    *backend = (struct backend){.ops = &store_ops, .self = store, .tree = store->layer.inner.tree};
     *out = store;
     return 0;
 }

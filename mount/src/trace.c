@@ -311,6 +311,6 @@ int open_trace(const struct open_options *options, struct backend *backend) {
         return err;
     }
     *backend = (struct backend){
-        .ops = &trace_ops, .self = trace, .attr_ops = trace->inner.attr_ops, .tree = trace->inner.tree};
+        .ops = &trace_ops, .self = trace, .tree = trace->inner.tree};
     return 0;
 }
