@@ -6,6 +6,7 @@
 #define _GNU_SOURCE
 #include "delta_parse.h"
 #include "text.h"
+#include "memlimit.h"
 #include <errno.h>
 #include <stdlib.h>
 #include <string.h>
@@ -54,7 +55,7 @@ static int by_entry_path(const void *a, const void *b, void *patch) {
 // Null where memory is wanting.
 static struct delta_entry **sort_entries(struct delta *delta, const struct bytes *list) {
     size_t count = count_entries(list);
-    struct delta_entry **out = malloc((count + 1) * sizeof *out);
+    struct delta_entry **out = mem_alloc((count + 1) * sizeof *out);
     if (!out) return 0;
     for (size_t i = 0; i < count; i++) out[i] = &entries(list)[i];
     qsort_r(out, count, sizeof *out, by_entry_path, delta);
@@ -336,8 +337,8 @@ static int do_all(struct delta_applier *applier) {
 int delta_run(struct delta *delta, const struct backend *backend) {
     struct delta_applier applier = {.delta = delta, .backend = backend};
     int err = do_all(&applier);
-    free(applier.removed);
-    free(applier.added);
+    mem_free(applier.removed);
+    mem_free(applier.added);
     bytes_free(&applier.dir_mtimes);
     bool is_of_machine = err == ENOMEM || err == ENOSPC || err == EIO;
     return err && !is_of_machine ? EINVAL : err;

@@ -113,16 +113,16 @@ static int write_all(struct mount *mount, struct inode *inode, const struct byte
 }
 
 // A null value takes the attribute away.
-static int change(struct mount *mount, struct inode *inode, const char *name, const char *value, size_t length,
-                  int flags) {
+static int change(const struct request *request, struct inode *inode, const char *name, const char *value,
+                  size_t length, int flags) {
     struct bytes all = {0}, changed = {0};
     struct packed one;
-    int err = read_all(mount, inode, &all);
+    int err = read_all(request->mount, inode, &all);
     bool stands = !err && find(&all, name, &one);
     if (!err && stands && flags & XATTR_CREATE) err = EEXIST;
     if (!err && !stands && flags & XATTR_REPLACE) err = ENODATA;
     if (!err) err = exchange(&all, &one, name, value, length, &changed);
-    if (!err) err = write_all(mount, inode, &changed, clock_now_ns());
+    if (!err) err = write_all(request->mount, inode, &changed, request->at);
     bytes_free(&all);
     bytes_free(&changed);
     return err;
@@ -132,19 +132,19 @@ static int may_change(const struct inode *inode, const char *name) {
     return is_refused(name) ? EOPNOTSUPP : fs_may_write(inode);
 }
 
-int extended_set(struct mount *mount, struct inode *inode, const char *name, const char *value, size_t length,
+int extended_set(struct request *request, struct inode *inode, const char *name, const char *value, size_t length,
                  int flags) {
     int err = may_change(inode, name);
     if (err) return err;
     do {
-        memlimit_begin();
-        err = change(mount, inode, name, value, length, flags);
-    } while (memlimit_retry(&mount->backend, &err));
+        memlimit_begin(&request->budget);
+        err = change(request, inode, name, value, length, flags);
+    } while (memlimit_retry(&request->budget, &request->mount->backend, &err));
     return err;
 }
 
 // A removal may take what it needs.
-int extended_remove(struct mount *mount, struct inode *inode, const char *name) {
+int extended_remove(const struct request *request, struct inode *inode, const char *name) {
     int err = may_change(inode, name);
-    return err ? err : change(mount, inode, name, 0, 0, XATTR_REPLACE);
+    return err ? err : change(request, inode, name, 0, 0, XATTR_REPLACE);
 }

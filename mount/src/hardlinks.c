@@ -131,7 +131,7 @@ static int make_once(struct txn *txn, struct link_args *args) {
 // The entry is that of the file in its place from now on.
 static void settle(struct inode *inode, struct inode *folder, char *name, uint64_t number) {
     if (inode->link) {
-        free(name);
+        mem_free(name);
         return;
     }
     inode_move(inode, folder, name);
@@ -143,14 +143,14 @@ static int make_name(struct mount *mount, struct link_args *args, uint64_t at) {
     struct inode *inode = args->inode;
     struct private_path path = private_link(args->number);
     struct inode *folder = inode_private_dir(mount->root, LINKS);
-    char *name = folder ? strdup(private_name(&path)) : 0;
+    char *name = folder ? mem_strdup(private_name(&path)) : 0;
     if (!name) return ENOMEM;
     args->attrs = inode->attrs;
     args->attrs.base.names++;
     txn_begin(&txn, mount, at);
     int err = txn_end(&txn, make_once(&txn, args));
     if (err) {
-        free(name);
+        mem_free(name);
         return err;
     }
     settle(inode, folder, name, args->number);
@@ -171,17 +171,17 @@ static int may_link(struct mount *mount, struct inode *inode, struct inode *pare
     return err ? err : attrs_of(mount, inode, &attrs);
 }
 
-int hardlink_create(struct mount *mount, struct inode *inode, struct inode *parent, const char *name,
+int hardlink_create(struct request *request, struct inode *inode, struct inode *parent, const char *name,
                     struct lookup_result *out) {
-    uint64_t at = clock_now_ns();
+    struct mount *mount = request->mount;
     struct link_args args = {.inode = inode, .parent = parent, .number = inode->link ? inode->link : inode->ino};
     int err = parent->role == SNAPSHOT_FOLDER ? EPERM : may_link(mount, inode, parent, name, &args.resolved);
     if (!err) err = fs_node_stat(mount, inode, &args.file);
     if (err) return err;
     do {
-        memlimit_begin();
-        err = make_name(mount, &args, at);
-    } while (memlimit_retry(&mount->backend, &err));
+        memlimit_begin(&request->budget);
+        err = make_name(mount, &args, request->at);
+    } while (memlimit_retry(&request->budget, &mount->backend, &err));
     out->inode = inode;
     if (!err) fs_fill_stat(mount, inode, args.file, &out->stat);
     return err;

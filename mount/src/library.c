@@ -6,6 +6,7 @@
 #include "image.h"
 #include "library.h"
 #include "backend.h"
+#include "memlimit.h"
 #include <errno.h>
 #include <fcntl.h>
 #include <inttypes.h>
@@ -189,7 +190,7 @@ static int library_close(void *self, struct image *image) {
     int err = image ? save(library, image) : 0;
     forget_tree(library);
     doorvervain_close(&library->volume);
-    free(library);
+    mem_free(library);
     return err;
 }
 
@@ -256,12 +257,12 @@ static int load(struct library *library, const struct open_options *options) {
 }
 
 int open_library(const struct open_options *options, struct backend *out) {
-    struct library *library = calloc(1, sizeof *library);
+    struct library *library = mem_calloc(1, sizeof *library);
     if (!library) return ENOMEM;
     library->steps = options->steps;
     library->has_backlog = options->steps;
     *out = (struct backend){.ops = &library_ops, .self = library, .tree = &library->volume};
     int err = options->image ? load(library, options) : open_empty(library);
-    if (err) free(library);
+    if (err) mem_free(library);
     return err;
 }

@@ -65,26 +65,26 @@ static int may_make(struct mount *mount, const struct inode *parent, const char 
     return err ? err : attrs_can_store(mount, resolved->path);
 }
 
-int namei_create(struct mount *mount, struct inode *parent, const char *name, const struct create_args *args,
+int namei_create(struct request *request, struct inode *parent, const char *name, const struct create_args *args,
                  struct lookup_result *out) {
-    uint64_t at = clock_now_ns();
+    struct mount *mount = request->mount;
     struct resolved_path resolved;
     struct create_args wanted = *args;
     bool is_directory = args->base.kind == DOORVERVAIN_DIRECTORY;
     out->is_other_name = false;
-    if (parent->role == SNAPSHOT_FOLDER) return is_directory ? snapshot_take(mount, name, out) : EPERM;
+    if (parent->role == SNAPSHOT_FOLDER) return is_directory ? snapshot_take(request, name, out) : EPERM;
     int err = may_make(mount, parent, name, &resolved);
     if (!err) err = inherit_group(mount, parent, &wanted.base);
     if (err) return err;
     attrs_untrust(mount, &wanted.base);
     do {
-        memlimit_begin();
-        err = make(mount, parent, name, &resolved, &wanted, at, &out->inode);
-    } while (memlimit_retry(&mount->backend, &err));
+        memlimit_begin(&request->budget);
+        err = make(mount, parent, name, &resolved, &wanted, request->at, &out->inode);
+    } while (memlimit_retry(&request->budget, &mount->backend, &err));
     if (err) return err;
     size_t length = args->target ? strlen(args->target) : 0;
     holes_dense(mount, out->inode, length);
-    fs_fill_stat(mount, out->inode, (struct node_stat){is_directory, length, at}, &out->stat);
+    fs_fill_stat(mount, out->inode, (struct node_stat){is_directory, length, request->at}, &out->stat);
     return 0;
 }
 
@@ -132,20 +132,20 @@ static int find_known(struct mount *mount, struct inode *parent, const char *nam
     return is_known ? 0 : fs_lookup(mount, parent, name, out);
 }
 
-int namei_remove(struct mount *mount, struct inode *parent, const char *name, bool is_directory) {
-    uint64_t at = clock_now_ns();
+int namei_remove(struct request *request, struct inode *parent, const char *name, bool is_directory) {
+    struct mount *mount = request->mount;
     struct lookup_result result;
     struct resolved_path resolved;
     if (parent->role == SNAPSHOT_FOLDER) return is_directory ? snapshot_drop(mount, name) : EPERM;
     int err = fs_may_rename(parent, name);
     if (!err) err = inode_path(parent, name, &resolved);
     if (err) return err;
-    if (is_directory) return remove_folder(mount, parent, name, &resolved, at);
+    if (is_directory) return remove_folder(mount, parent, name, &resolved, request->at);
     err = find_known(mount, parent, name, &result);
     if (err) return err;
     if (result.inode->is_directory) return EISDIR;
-    if (result.is_other_name) return hardlink_remove(mount, parent, name, result.inode, at);
-    return orphan_unlink(mount, result.inode, at);
+    if (result.is_other_name) return hardlink_remove(mount, parent, name, result.inode, request->at);
+    return orphan_unlink(mount, result.inode, request->at);
 }
 
 // ---- what moves
@@ -174,16 +174,16 @@ static int move_once(struct txn *txn, struct move *move) {
     return err ? err : backend->ops->rename(backend->self, move->from.path, move->to.path, txn->at);
 }
 
-static int move_path(struct mount *mount, struct move *move, uint64_t at) {
+static int move_path(struct request *request, struct move *move) {
     struct txn txn;
     int err;
     do {
         move->orphan.name = 0;
-        memlimit_begin();
-        txn_begin(&txn, mount, at);
+        memlimit_begin(&request->budget);
+        txn_begin(&txn, request->mount, request->at);
         err = txn_end(&txn, move_once(&txn, move));
         if (err) orphan_free(&move->orphan);
-    } while (memlimit_retry(&mount->backend, &err));
+    } while (memlimit_retry(&request->budget, &request->mount->backend, &err));
     return err;
 }
 
@@ -196,7 +196,7 @@ static void follow(struct mount *mount, struct move *move, char *name, uint64_t 
     struct inode *former = inode_find(move->new_parent, name); // of a tree that is not there any more
     if (former) inode_detach(former);
     source->change = ns_to_timespec(at);
-    if (move->source.is_other_name) free(name);
+    if (move->source.is_other_name) mem_free(name);
     else inode_move(source, move->new_parent, name);
 }
 
@@ -232,18 +232,17 @@ static int may_move(struct mount *mount, struct move *move, const char *name, co
     return err ? err : find_both(mount, move, name, new_name, flags);
 }
 
-int namei_rename(struct mount *mount, struct inode *parent, const char *name, struct inode *new_parent,
+int namei_rename(struct request *request, struct inode *parent, const char *name, struct inode *new_parent,
                  const char *new_name, unsigned flags) {
-    uint64_t at = clock_now_ns();
     struct move move = {.parent = parent, .new_parent = new_parent};
-    int err = may_move(mount, &move, name, new_name, flags);
+    int err = may_move(request->mount, &move, name, new_name, flags);
     if (err || move.source.inode == move.target.inode) return err;
-    char *copy = strdup(new_name);
-    err = copy ? move_path(mount, &move, at) : ENOMEM;
+    char *copy = mem_strdup(new_name);
+    err = copy ? move_path(request, &move) : ENOMEM;
     if (err) {
-        free(copy);
+        mem_free(copy);
         return err;
     }
-    follow(mount, &move, copy, at);
+    follow(request->mount, &move, copy, request->at);
     return 0;
 }

@@ -8,6 +8,7 @@
 #include "hardlinks.h"
 #include "attrs.h"
 #include "store.h"
+#include "memlimit.h"
 #include <assert.h>
 #include <errno.h>
 #include <stdlib.h>
@@ -29,14 +30,14 @@ int orphan_move(struct txn *txn, struct inode *inode, struct orphan *out) {
     if (!err) err = attrs_of(txn->mount, inode, &attrs);
     if (!err) err = private_orphan_path(txn->mount, &out->path);
     if (err) return err;
-    out->name = strdup(private_name(&out->path));
+    out->name = mem_strdup(private_name(&out->path));
     err = out->name ? move(txn, inode, &resolved, &out->path) : ENOMEM;
     if (err) orphan_free(out);
     return err;
 }
 
 void orphan_free(struct orphan *orphan) {
-    free(orphan->name);
+    mem_free(orphan->name);
     orphan->name = 0;
 }
 
@@ -50,7 +51,7 @@ void orphan_moved(struct mount *mount, struct inode *inode, struct orphan *orpha
     inode_move(inode, folder, orphan->name);
     inode->is_unlinked = true;
     inode->change = ns_to_timespec(at);
-    orphan_put(mount, inode);
+    orphan_put(mount, inode, at);
 }
 
 // A file that somebody holds becomes an orphan, and lives there until nobody does.
@@ -110,7 +111,7 @@ int orphan_flush_deferred(struct mount *mount) {
         mount->deferred = inode;
         return err;
     }
-    free(name);
+    mem_free(name);
     mount->deferred_path = 0;
     return 0;
 }
@@ -124,7 +125,7 @@ bool orphan_defer(struct mount *mount, struct inode *inode, const char *name, ui
     // In the log of several mounts a request's change is its own. Where a store refuses changes, that is answered now.
     if (!inode_is_held(inode) || inode->open_count || mount->replica) return false;
     if (mount->store && store_refuses(mount->store)) return false;
-    mount->deferred_path = name ? strdup(name) : 0;
+    mount->deferred_path = name ? mem_strdup(name) : 0;
     if (name && !mount->deferred_path) return false;
     mount->deferred = inode;
     mount->deferred_at = at;
@@ -135,7 +136,7 @@ int orphan_unlink(struct mount *mount, struct inode *inode, uint64_t at) {
     return orphan_defer(mount, inode, 0, at) ? 0 : orphan_unlink_now(mount, inode, at);
 }
 
-int orphan_put(struct mount *mount, struct inode *inode) {
+int orphan_put(struct mount *mount, struct inode *inode, uint64_t at) {
     if (inode_is_held(inode)) return 0;
     if (inode == mount->deferred) {
         int err = orphan_flush_deferred(mount);
@@ -146,12 +147,12 @@ int orphan_put(struct mount *mount, struct inode *inode) {
         inode_put(inode);
         return 0;
     }
-    int err = orphan_delete(mount, inode, clock_now_ns());
+    int err = orphan_delete(mount, inode, at);
     if (err) inode_detach(inode); // The bytes go with the mount's own folder.
     return err;
 }
 
-void orphan_forget(struct mount *mount, struct inode *inode, uint64_t lookups) {
+void orphan_forget(struct mount *mount, struct inode *inode, uint64_t lookups, uint64_t at) {
     inode->nlookup -= lookups < inode->nlookup ? lookups : inode->nlookup;
-    orphan_put(mount, inode);
+    orphan_put(mount, inode, at);
 }

@@ -69,13 +69,14 @@ int snapshots_find(struct mount *mount) {
 
 static bool is_reserved(const char *name) { return !strncmp(name, RESERVED, sizeof RESERVED - 1); }
 
-int snapshot_take(struct mount *mount, const char *name, struct lookup_result *out) {
+int snapshot_take(struct request *request, const char *name, struct lookup_result *out) {
+    struct mount *mount = request->mount;
     int err;
     if (is_reserved(name)) return EPERM;
     do {
-        memlimit_begin();
+        memlimit_begin(&request->budget);
         err = take_tree(mount, name, &out->inode);
-    } while (memlimit_retry(&mount->backend, &err));
+    } while (memlimit_retry(&request->budget, &mount->backend, &err));
     return err ? err : fs_getattr(mount, out->inode, &out->stat);
 }
 
@@ -88,7 +89,7 @@ int snapshot_drop(struct mount *mount, const char *name) {
 }
 
 static int note(struct bytes *out, uint64_t parent_ino, uint64_t ino, const char *name) {
-    struct stale_dentry stale = {parent_ino, ino, strdup(name)};
+    struct stale_dentry stale = {parent_ino, ino, mem_strdup(name)};
     return stale.name ? bytes_append(out, &stale, sizeof stale) : ENOMEM;
 }
 
@@ -127,7 +128,7 @@ static void note_root(struct mount *mount, struct bytes *out) {
 
 static void free_notes(struct bytes *notes) {
     struct stale_dentry *stale = (struct stale_dentry *)notes->at;
-    for (size_t i = 0; i < notes->length / sizeof *stale; i++) free(stale[i].name);
+    for (size_t i = 0; i < notes->length / sizeof *stale; i++) mem_free(stale[i].name);
     notes->length = 0;
 }
 

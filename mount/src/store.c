@@ -333,7 +333,7 @@ static void free_store(struct store *store) {
     store_batches_free(store);
     bytes_free(&store->record_buffer);
     bytes_free(&store->frames);
-    free(store);
+    mem_free(store);
 }
 
 // What cannot be kept in the log goes into an image.
@@ -371,7 +371,7 @@ static size_t max_pending(void) {
 }
 
 int store_open(const struct open_options *options, struct backend *backend, struct store **out) {
-    struct store *store = calloc(1, sizeof *store);
+    struct store *store = mem_calloc(1, sizeof *store);
     if (!store) return ENOMEM;
     store->directory = store->lock_file = -1;
     pthread_mutex_init(&store->wal_lock.mutex, 0);

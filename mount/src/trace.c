@@ -260,7 +260,7 @@ static void free_trace(struct trace *trace) {
     if (trace->replies.fd >= 0) close(trace->replies.fd);
     struct bytes *all[] = {&trace->line, &trace->reply, &trace->calls.lines, &trace->replies.lines};
     for (size_t i = 0; i < sizeof all / sizeof *all; i++) bytes_free(all[i]);
-    free(trace);
+    mem_free(trace);
 }
 
 static int trace_close(void *self, struct image *image) {
@@ -299,7 +299,7 @@ static int open_file(const char *name, const char *ending, struct trace_file *ou
 }
 
 int open_trace(const struct open_options *options, struct backend *backend) {
-    struct trace *trace = calloc(1, sizeof *trace);
+    struct trace *trace = mem_calloc(1, sizeof *trace);
     if (!trace) return ENOMEM;
     trace->inner = *backend;
     trace->name = options->trace;
