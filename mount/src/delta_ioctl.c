@@ -7,6 +7,7 @@
 #include "delta_parse.h"
 #include "memlimit.h"
 #include "snapshots.h"
+#include <assert.h>
 #include <errno.h>
 #include <string.h>
 
@@ -43,6 +44,7 @@ static int print_to_live(struct mount *mount, const char *from, struct bytes *ou
 }
 
 int delta_print(struct mount *mount, const struct send_request *wanted, struct bytes *out) {
+    assert(request_lock_is_held(mount));
     bool has_ends = memchr(wanted->from, 0, sizeof wanted->from) && memchr(wanted->to, 0, sizeof wanted->to);
     if (!mount->backend.tree) return EOPNOTSUPP;
     if (!has_ends || !wanted->from[0]) return EINVAL;
@@ -91,6 +93,7 @@ static int apply(struct request *request, const struct bytes *given, struct byte
 }
 
 int delta_apply(struct request *request, const struct bytes *given, struct delta_answer *answer, struct bytes *stale) {
+    assert(request_lock_is_held(request->mount));
     *answer = (struct delta_answer){DELTA_IS_DONE, 0};
     if (!request->mount->backend.tree) return EOPNOTSUPP;
     int err = delta_find_bad_line(given, &answer->line);

@@ -233,7 +233,7 @@ static int take_piece(void *self, const uint8_t *bytes, size_t count) {
 // Gives the image of the live tree to a function.
 static int print_live(struct doorvervain *tree, int (*put)(void *self, const uint8_t *bytes, size_t count),
                       void *self) {
-    static uint8_t piece[PIECE];
+    uint8_t piece[PIECE];
     struct doorvervain_frozen live;
     int failed = 0;
     uint8_t number = doorvervain_freeze(tree, &live);

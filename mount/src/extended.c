@@ -6,6 +6,7 @@
 #include "fs_ops.h"
 #include "attrs.h"
 #include "memlimit.h"
+#include <assert.h>
 #include <errno.h>
 #include <string.h>
 #include <sys/xattr.h>
@@ -78,6 +79,7 @@ static bool is_refused(const char *name) {
 }
 
 int extended_get(struct mount *mount, struct inode *inode, const char *name, struct bytes *out) {
+    assert(request_lock_is_held(mount));
     struct bytes all = {0};
     struct packed one;
     int err = is_refused(name) ? EOPNOTSUPP : read_all(mount, inode, &all);
@@ -88,6 +90,7 @@ int extended_get(struct mount *mount, struct inode *inode, const char *name, str
 }
 
 int extended_list(struct mount *mount, struct inode *inode, struct bytes *out) {
+    assert(request_lock_is_held(mount));
     struct bytes all = {0};
     int err = read_all(mount, inode, &all);
     for (struct packed one = {0}; !err && one.end < all.length;) {
@@ -134,6 +137,7 @@ static int may_change(const struct inode *inode, const char *name) {
 
 int extended_set(struct request *request, struct inode *inode, const char *name, const char *value, size_t length,
                  int flags) {
+    assert(request_lock_is_held(request->mount));
     int err = may_change(inode, name);
     if (err) return err;
     do {
@@ -145,6 +149,7 @@ int extended_set(struct request *request, struct inode *inode, const char *name,
 
 // A removal may take what it needs.
 int extended_remove(const struct request *request, struct inode *inode, const char *name) {
+    assert(request_lock_is_held(request->mount));
     int err = may_change(inode, name);
     return err ? err : change(request, inode, name, 0, 0, XATTR_REPLACE);
 }

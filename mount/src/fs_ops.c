@@ -10,6 +10,7 @@
 #include "attrs.h"
 #include "replica.h"
 #include "memlimit.h"
+#include <assert.h>
 #include <errno.h>
 #include <fcntl.h>
 #include <string.h>
@@ -52,6 +53,7 @@ static int stand(struct mount *mount, const struct resolved_path *resolved, stru
 }
 
 int fs_node_stat(struct mount *mount, const struct inode *inode, struct node_stat *out) {
+    assert(request_lock_is_held(mount));
     struct resolved_path resolved;
     bool is_gone_directory = inode->is_directory && !inode->parent && inode->role != LIVE_ROOT;
     *out = (struct node_stat){.is_directory = inode->is_directory};
@@ -142,6 +144,7 @@ static int find_inode(struct mount *mount, struct inode *parent, const char *nam
 }
 
 int fs_lookup(struct mount *mount, struct inode *parent, const char *name, struct lookup_result *out) {
+    assert(request_lock_is_held(mount));
     struct resolved_path resolved;
     struct node_stat node_stat;
     out->is_other_name = false;
@@ -243,6 +246,7 @@ static int may_set_owner(const struct mount *mount, const struct doorvervain_att
 }
 
 int fs_setattr(struct request *request, struct inode *inode, const struct setattr *setattr) {
+    assert(request_lock_is_held(request->mount));
     struct mount *mount = request->mount;
     const struct attrs *known;
     struct node_stat node_stat;
@@ -291,6 +295,7 @@ static int cut_open(struct request *request, struct inode *inode, bool drops) {
 }
 
 int fs_open(struct request *request, struct inode *inode, int flags, bool drops) {
+    assert(request_lock_is_held(request->mount));
     bool cuts = flags & O_TRUNC;
     bool changes = cuts || (flags & O_ACCMODE) != O_RDONLY;
     int err = changes ? fs_may_write(inode) : 0;
@@ -300,12 +305,14 @@ int fs_open(struct request *request, struct inode *inode, int flags, bool drops)
 }
 
 int fs_release(struct request *request, struct inode *inode) {
+    assert(request_lock_is_held(request->mount));
     inode->open_count--;
     return orphan_put(request->mount, inode, request->at);
 }
 
 int fs_read(const struct request *request, struct inode *inode, uint64_t offset, char *out, size_t capacity,
             size_t *got) {
+    assert(request_lock_is_held(request->mount));
     struct resolved_path resolved;
     *got = 0;
     int err = inode_path(inode, 0, &resolved);
@@ -338,6 +345,7 @@ int files_find_end(struct mount *mount, const struct inode *inode, uint64_t *off
 
 int fs_write(struct request *request, struct inode *inode, uint64_t offset, const char *bytes, size_t count,
              size_t *done) {
+    assert(request_lock_is_held(request->mount));
     const struct backend *backend = &request->mount->backend;
     struct resolved_path resolved;
     *done = 0;
@@ -380,6 +388,7 @@ static void leave_out(struct bytes *listing, const char *name) {
 }
 
 int fs_readdir(struct mount *mount, struct inode *inode, struct bytes *out) {
+    assert(request_lock_is_held(mount));
     struct resolved_path resolved;
     if (inode->role == SNAPSHOT_FOLDER) return list_snapshots(inode, out);
     int err = inode_path(inode, 0, &resolved);

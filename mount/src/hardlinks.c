@@ -6,6 +6,7 @@
 #include "exit_report.h"
 #include "attrs.h"
 #include "memlimit.h"
+#include <assert.h>
 #include <errno.h>
 #include <stdlib.h>
 #include <string.h>
@@ -40,6 +41,7 @@ static int find_file(struct mount *mount, struct inode *parent, uint64_t number,
 
 int hardlink_find(struct mount *mount, struct inode *parent, const struct resolved_path *resolved, struct attrs *attrs,
                   struct node_stat *node_stat, struct lookup_result *out) {
+    assert(request_lock_is_held(mount));
     struct node_stat file;
     struct inode *inode = 0;
     int err = find_file(mount, parent, attrs->base.link, &file, &inode);
@@ -173,6 +175,7 @@ static int may_link(struct mount *mount, struct inode *inode, struct inode *pare
 
 int hardlink_create(struct request *request, struct inode *inode, struct inode *parent, const char *name,
                     struct lookup_result *out) {
+    assert(request_lock_is_held(request->mount));
     struct mount *mount = request->mount;
     struct link_args args = {.inode = inode, .parent = parent, .number = inode->link ? inode->link : inode->ino};
     int err = parent->role == SNAPSHOT_FOLDER ? EPERM : may_link(mount, inode, parent, name, &args.resolved);
@@ -194,6 +197,7 @@ int hardlink_count_down(struct txn *txn, struct inode *inode, struct attrs *out)
 
 // The last name is gone: so goes the file, or it becomes an orphan.
 void hardlink_follow(struct mount *mount, struct inode *inode, const struct attrs *attrs, uint64_t at) {
+    assert(request_lock_is_held(mount));
     // In the log of several mounts a request's change is whole here: what is held stays in its place.
     inode->is_unlinked = !attrs->base.names && mount->replica && inode_is_held(inode);
     if (!attrs->base.names && !inode->is_unlinked) {
@@ -245,10 +249,12 @@ static int remove_file(struct mount *mount, struct inode *inode, const char *pat
 }
 
 int hardlink_remove_last(struct mount *mount, struct inode *inode, const char *path, uint64_t at) {
+    assert(request_lock_is_held(mount));
     return inode_is_held(inode) ? remove_name(mount, inode, path, at) : remove_file(mount, inode, path, at);
 }
 
 int hardlink_remove(struct mount *mount, struct inode *parent, const char *name, struct inode *inode, uint64_t at) {
+    assert(request_lock_is_held(mount));
     struct resolved_path resolved;
     int err = inode_path(parent, name, &resolved);
     if (err) return err;

@@ -7,6 +7,7 @@
 #include "fs_ops.h"
 #include "replica.h"
 #include "memlimit.h"
+#include <assert.h>
 #include <errno.h>
 #include <fcntl.h>
 #include <unistd.h>
@@ -73,6 +74,7 @@ uint64_t holes_stored(struct mount *mount, struct inode *inode, struct node_stat
 // ---- what is asked for
 
 int holes_seek(struct mount *mount, struct inode *inode, uint64_t offset, int whence, uint64_t *out) {
+    assert(request_lock_is_held(mount));
     struct resolved_path resolved;
     struct node_stat node_stat;
     struct extent extent = {0, 0};
@@ -133,6 +135,7 @@ static int allocate(const struct request *request, struct inode *inode, const st
 }
 
 int holes_allocate(struct request *request, struct inode *inode, int mode, uint64_t offset, uint64_t count) {
+    assert(request_lock_is_held(request->mount));
     const int known = FALLOC_FL_KEEP_SIZE | FALLOC_FL_PUNCH_HOLE | FALLOC_FL_ZERO_RANGE;
     struct resolved_path resolved;
     if (mode & ~known) return EOPNOTSUPP;

@@ -16,7 +16,7 @@
 #include <unistd.h>
 
 // Each block of a write is one.
-enum { BLOCK = 4096, CHANGES_BEFORE_STEPS = 16, MOST_OWED = 1 << 20 };
+enum { BLOCK = 4096, CHANGES_BEFORE_STEPS = 16, MOST_OWED = 1 << 20, PIECE_OF_IMAGE = 1 << 16 };
 
 struct library {
     struct doorvervain volume;
@@ -28,8 +28,6 @@ struct library {
     struct doorvervain_frozen tree;
     char snapshot[LONGEST_SNAPSHOT + 1];
 };
-
-static uint8_t piece[1 << 16]; // of an image: one at a time is read or written
 
 static const uint8_t *text(const char *word) { return (const uint8_t *)word; }
 
@@ -164,6 +162,7 @@ static int put(void *image, const uint8_t *bytes, size_t count) { return image_p
 
 // The image goes out piece by piece: no memory is taken for all of its text.
 static int save(struct library *library, struct image *image) {
+    uint8_t piece[PIECE_OF_IMAGE];
     struct doorvervain_frozen live;
     int failed = 0;
     uint8_t number = doorvervain_freeze(&library->volume, &live);
@@ -241,6 +240,7 @@ static int get(void *from, uint8_t *out, size_t capacity, size_t *got) {
 
 // The image comes in piece by piece, as it goes out.
 static int load(struct library *library, const struct open_options *options) {
+    uint8_t piece[PIECE_OF_IMAGE];
     const char *name = options->image;
     uint64_t line = 0;
     struct source source = {open(name, O_RDONLY | O_CLOEXEC), options->stops};

@@ -9,6 +9,7 @@
 #include "attrs.h"
 #include "memlimit.h"
 #include "snapshots.h"
+#include <assert.h>
 #include <errno.h>
 #include <stdio.h>
 #include <stdlib.h>
@@ -67,6 +68,7 @@ static int may_make(struct mount *mount, const struct inode *parent, const char 
 
 int namei_create(struct request *request, struct inode *parent, const char *name, const struct create_args *args,
                  struct lookup_result *out) {
+    assert(request_lock_is_held(request->mount));
     struct mount *mount = request->mount;
     struct resolved_path resolved;
     struct create_args wanted = *args;
@@ -133,6 +135,7 @@ static int find_known(struct mount *mount, struct inode *parent, const char *nam
 }
 
 int namei_remove(struct request *request, struct inode *parent, const char *name, bool is_directory) {
+    assert(request_lock_is_held(request->mount));
     struct mount *mount = request->mount;
     struct lookup_result result;
     struct resolved_path resolved;
@@ -234,6 +237,7 @@ static int may_move(struct mount *mount, struct move *move, const char *name, co
 
 int namei_rename(struct request *request, struct inode *parent, const char *name, struct inode *new_parent,
                  const char *new_name, unsigned flags) {
+    assert(request_lock_is_held(request->mount));
     struct move move = {.parent = parent, .new_parent = new_parent};
     int err = may_move(request->mount, &move, name, new_name, flags);
     if (err || move.source.inode == move.target.inode) return err;

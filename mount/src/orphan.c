@@ -102,6 +102,7 @@ static int settle(struct mount *mount, struct inode *inode, const char *name, ui
 }
 
 int orphan_flush_deferred(struct mount *mount) {
+    assert(request_lock_is_held(mount));
     struct inode *inode = mount->deferred;
     char *name = mount->deferred_path;
     if (!inode) return 0;
@@ -137,6 +138,7 @@ int orphan_unlink(struct mount *mount, struct inode *inode, uint64_t at) {
 }
 
 int orphan_put(struct mount *mount, struct inode *inode, uint64_t at) {
+    assert(request_lock_is_held(mount));
     if (inode_is_held(inode)) return 0;
     if (inode == mount->deferred) {
         int err = orphan_flush_deferred(mount);

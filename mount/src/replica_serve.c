@@ -198,12 +198,13 @@ static int serve_all(struct replica *replica, struct fuse_buf *buffer) {
 }
 
 int replica_serve(struct fuse_session *used, struct mount *mount) {
-    static struct fuse_buf buffer; // its memory is libfuse's
+    struct fuse_buf buffer = {0}; // its memory is libfuse's
     struct replica *replica = mount->replica;
     session = replica->session = used;
     if (inval_start(replica)) return 1;
     int status = serve_all(replica, &buffer);
     serve_rest(replica, &buffer);
+    free(buffer.mem);
     return status || replica->err || replica->is_behind;
 }
 

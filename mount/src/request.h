@@ -12,4 +12,7 @@ struct request {
     uint64_t at; // the timestamp of all that it changes, in nanoseconds since 1970
     struct mem_budget budget;
 };
+
+// Whether this thread may use the tree: it holds the request lock, or is the one thread of a replica.
+bool request_lock_is_held(const struct mount *mount);
 #endif

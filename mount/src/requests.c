@@ -60,6 +60,8 @@ void requests_unlock(void) { lock_drop(&request_lock); }
 
 bool requests_are_locked(void) { return lock_is_held(&request_lock); }
 
+bool request_lock_is_held(const struct mount *mount) { return mount->replica || requests_are_locked(); }
+
 static bool owes_much(struct mount *mount) {
     const struct backend *backend = &mount->backend;
     lock_take(&request_lock);

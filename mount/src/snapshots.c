@@ -8,6 +8,7 @@
 #include "attrs.h"
 #include "memlimit.h"
 #include "store.h"
+#include <assert.h>
 #include <errno.h>
 #include <stdlib.h>
 #include <string.h>
@@ -30,6 +31,7 @@ static int take_without_orphans(struct mount *mount, const char *name) {
 
 // If only one name is left, orphans are in it.
 int snapshot_take_hidden(struct mount *mount, const char *name) {
+    assert(request_lock_is_held(mount));
     if (!mount->backend.tree || !private_tidy(mount)) return call_snapshot(mount, TAKE_SNAPSHOT, name);
     int err = call_snapshot(mount, TAKE_SNAPSHOT, SNAPSHOT_SAVEPOINT);
     if (!err) {
@@ -59,6 +61,7 @@ static int add_folder(struct mount *mount, const char *name) {
 }
 
 int snapshots_find(struct mount *mount) {
+    assert(request_lock_is_held(mount));
     struct bytes names = {0};
     int err = store_snapshots(mount->store, &names);
     for (size_t at = 0; !err && at < names.length; at += strlen(names.at + at) + 1)
@@ -81,6 +84,7 @@ int snapshot_take(struct request *request, const char *name, struct lookup_resul
 }
 
 int snapshot_drop(struct mount *mount, const char *name) {
+    assert(request_lock_is_held(mount));
     const struct backend *backend = &mount->backend;
     struct inode *inode = inode_find(folder(mount), name);
     int err = inode ? backend->ops->snapshot(backend->self, DROP_SNAPSHOT, name) : ENOENT;
@@ -148,6 +152,7 @@ void snapshot_after_switch(struct mount *mount, int err, struct bytes *out) {
 }
 
 int snapshot_restore(struct mount *mount, const char *name, struct bytes *out) {
+    assert(request_lock_is_held(mount));
     if (!inode_find(folder(mount), name)) return ENOENT;
     snapshot_before_switch(mount, out);
     int err = call_snapshot(mount, RESTORE_SNAPSHOT, name);

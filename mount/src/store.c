@@ -31,6 +31,7 @@ static int may_change(const struct store *store) {
 
 static struct bytes *call_begins(void *self, int *err) {
     struct store *store = self;
+    assert(requests_are_locked());
     *err = may_change(store);
     return &store->batch->calls;
 }
@@ -41,6 +42,7 @@ static int store_snapshot(void *self, enum snapshot_call what, const char *snaps
     const struct backend *inner = &store->layer.inner;
     struct bytes *calls = &store->batch->calls;
     size_t before = calls->length;
+    assert(requests_are_locked());
     int err = what == DROP_SNAPSHOT ? 0 : may_change(store);
     if (!err) err = wal_encode_snapshot(calls, what, snapshot);
     if (!err) err = inner->ops->snapshot(inner->self, what, snapshot);

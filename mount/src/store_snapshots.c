@@ -169,7 +169,7 @@ static int put_difference(struct snapshot_writer *writer, struct doorvervain_fro
 
 // The next bytes of the last file: 0, or why there are none.
 static int copy_piece(struct snapshot_writer *writer, int file, uint64_t from, uint64_t left, size_t *size) {
-    static char piece[PIECE];
+    char piece[PIECE];
     ssize_t got;
     do got = pread(file, piece, left < PIECE ? (size_t)left : PIECE, (off_t)from);
     while (got < 0 && errno == EINTR);

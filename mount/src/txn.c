@@ -6,10 +6,13 @@
 #include "prune.h"
 #include "replica.h"
 #include "memlimit.h"
+#include "request.h"
+#include <assert.h>
 #include <errno.h>
 #include <string.h>
 
 void txn_begin(struct txn *txn, struct mount *mount, uint64_t at) {
+    assert(request_lock_is_held(mount));
     txn->mount = mount;
     txn->at = at;
     txn->count = 0;
