@@ -3,6 +3,7 @@
 // Invariant: the record of the file has the number of its names, and each name is an empty file whose record has the
 // file's number ("Record" in docs/FORMATS.md). A name and the count change in one transaction.
 #include "hardlinks.h"
+#include "entry_count.h"
 #include "exit_report.h"
 #include "attrs.h"
 #include "memlimit.h"
@@ -186,8 +187,10 @@ int hardlink_create(struct request *request, struct inode *inode, struct inode *
         err = make_name(mount, &args, request->at);
     } while (memlimit_retry(&request->budget, &mount->backend, &err));
     out->inode = inode;
-    if (!err) fs_fill_stat(mount, inode, args.file, &out->stat);
-    return err;
+    if (err) return err;
+    entry_count_add(mount, 1);
+    fs_fill_stat(mount, inode, args.file, &out->stat);
+    return 0;
 }
 
 int hardlink_count_down(struct txn *txn, struct inode *inode, struct attrs *out) {

@@ -12,10 +12,11 @@
 #include <stdlib.h>
 #include <string.h>
 
-enum { STEPS_AT_ONCE = 256, MOST_ROUNDS = 64 };
+enum { STEPS_AT_ONCE = 256, MOST_ROUNDS = 64, WORTH_A_TRIM = 16 << 20 };
 
 static _Atomic size_t taken;
 static uint64_t size;
+static size_t most_taken; // since the last trim, as it was asked behind requests
 // Of the call that this thread makes; null: it is not limited. The library hands nothing of its caller to its allocator.
 static _Thread_local struct mem_budget *current;
 
@@ -85,6 +86,19 @@ struct mem_usage memlimit_usage(void) {
     uint64_t all = machine_has("MemTotal"), available = machine_has("MemAvailable");
     return (struct mem_usage){all, all - (available < all ? available : all), 0};
 }
+
+bool memlimit_has_freed(void) {
+    size_t now = atomic_load_explicit(&taken, memory_order_relaxed);
+    if (now > most_taken) most_taken = now;
+    return most_taken - now > WORTH_A_TRIM;
+}
+
+void memlimit_trim(void) {
+    malloc_trim(0);
+    most_taken = 0;
+}
+
+uint64_t memlimit_size(void) { return size; }
 
 uint64_t memlimit_taken(void) { return atomic_load(&taken); }
 

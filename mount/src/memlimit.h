@@ -23,6 +23,12 @@ struct mem_usage {
 
 void memlimit_set(uint64_t size);
 struct mem_usage memlimit_usage(void);
+// The size that is set; 0: none is.
+uint64_t memlimit_size(void);
+// Whether much was given back since the last trim, which is asked behind each request, by the thread that serves them;
+// and that trim: all that malloc does not need goes back to the system.
+bool memlimit_has_freed(void);
+void memlimit_trim(void);
 // What is taken now.
 uint64_t memlimit_taken(void);
 

@@ -28,5 +28,9 @@ struct mount {
     uint64_t deferred_at;     // the moment at which it was unlinked
     char *deferred_path;      // the path of its last name, of a file of several names; null: it is at its own
     struct record_cache last_record;
+    // Of entry_count.c.
+    int64_t entries;
+    uint64_t entry_walks;
+    bool entries_known;
 };
 #endif

@@ -4,6 +4,7 @@
 // it has ended well, so an error leaves the tree and the inodes as they were.
 #define _GNU_SOURCE
 #include "namei.h"
+#include "entry_count.h"
 #include "holes.h"
 #include "hardlinks.h"
 #include "attrs.h"
@@ -84,6 +85,7 @@ int namei_create(struct request *request, struct inode *parent, const char *name
         err = make(mount, parent, name, &resolved, &wanted, request->at, &out->inode);
     } while (memlimit_retry(&request->budget, &mount->backend, &err));
     if (err) return err;
+    entry_count_add(mount, 1);
     size_t length = args->target ? strlen(args->target) : 0;
     holes_dense(mount, out->inode, length);
     fs_fill_stat(mount, out->inode, (struct node_stat){is_directory, length, request->at}, &out->stat);
@@ -122,7 +124,9 @@ static int remove_folder(struct mount *mount, struct inode *parent, const char *
     struct inode *inode = inode_find(parent, name);
     txn_begin(&txn, mount, at);
     int err = txn_end(&txn, take_folder(&txn, parent, resolved));
-    if (err || !inode) return err;
+    if (err) return err;
+    entry_count_add(mount, -1);
+    if (!inode) return 0;
     inode->change = ns_to_timespec(at);
     inode_detach(inode);
     return 0;
@@ -147,8 +151,10 @@ int namei_remove(struct request *request, struct inode *parent, const char *name
     err = find_known(mount, parent, name, &result);
     if (err) return err;
     if (result.inode->is_directory) return EISDIR;
-    if (result.is_other_name) return hardlink_remove(mount, parent, name, result.inode, request->at);
-    return orphan_unlink(mount, result.inode, request->at);
+    if (result.is_other_name) err = hardlink_remove(mount, parent, name, result.inode, request->at);
+    else err = orphan_unlink(mount, result.inode, request->at);
+    if (!err) entry_count_add(mount, -1);
+    return err;
 }
 
 // ---- what moves
@@ -193,6 +199,7 @@ static int move_path(struct request *request, struct move *move) {
 // The entries follow a rename that was done. A file with several names keeps its entry.
 static void follow(struct mount *mount, struct move *move, char *name, uint64_t at) {
     struct inode *source = move->source.inode, *target = move->target.inode;
+    if (target) entry_count_add(mount, -1);
     if (target && target->is_directory) inode_detach(target);
     else if (target && move->target.is_other_name) hardlink_follow(mount, target, &move->counted, at);
     else if (target) orphan_moved(mount, target, &move->orphan, at);

@@ -18,6 +18,8 @@ void replica_change_begins(struct mount *mount) { (void)mount; }
 
 int replica_change_ends(struct mount *mount, int err) { return (void)mount, err; }
 
+void replica_fill_status(const struct mount *mount, struct replica_status *out) { (void)mount, (void)out; }
+
 uint64_t replica_timestamp(const struct mount *mount) { return (void)mount, 0; }
 
 bool replica_may_answer(const struct mount *mount, int *err) { return (void)mount, (void)err, true; }

@@ -23,6 +23,8 @@ static const char help[] =
     "                                        has to be the first of the two. Its snapshots stay\n"
     "  doorvervain-mount --unmount MNT       unmounts it, and waits until its store or image is complete; the status is the\n"
     "                                        mount's\n"
+    "  doorvervain-mount --status MNT [--json]\n"
+    "                                        prints its files, memory, log, snapshots, and members of etcd\n"
     "  doorvervain-mount --dump-log DIR      prints the write-ahead logs of a store as lines of a script\n"
     "\n"
     "  --load FILE     begins with the tree whose image is in FILE\n"
@@ -84,6 +86,8 @@ static const struct option known[] = {
     {"size", required_argument, 0, 'z'},
     {"busy-poll", required_argument, 0, 'w'},
     {"unmount", no_argument, 0, 'u'},
+    {"status", no_argument, 0, 'S'},
+    {"json", no_argument, 0, 'j'},
     {"dump-log", no_argument, 0, 'n'},
     {"allow-other", no_argument, 0, 'a'},
     {"foreground", no_argument, 0, 'f'},
@@ -162,6 +166,8 @@ static int read_option(int letter, struct options *out) {
     case 'x': out->receives = true; return 0;
     case 'z': return read_bytes(optarg, SMALLEST_SIZE, "--size takes 16M or more, not ", &out->size);
     case 'u': out->unmounts = true; return 0;
+    case 'S': out->prints_status = true; return 0;
+    case 'j': out->as_json = true; return 0;
     case 'n': out->dumps_log = true; return 0;
     case 'a': out->allows_other = true; return 0;
     case 't': out->trusts_attributes = true; return 0;
@@ -195,6 +201,7 @@ int read_options(int count, char **words, struct options *out) {
     if (out->open.store && (out->open.image || out->image))
         return refuse("--store does not go with --load or --image", "");
     if (out->open.syncs_each && !out->open.store) return refuse("--sync is for a --store", "");
+    if (out->as_json && !out->prints_status) return refuse("--json is for --status", "");
     if (out->trusts_attributes && geteuid()) return refuse("--trust-attributes is for root", "");
     if (try_replica(out)) return 2;
     if (!out->open.replica.prefix) out->open.replica.prefix = "doorvervain";

@@ -94,6 +94,13 @@ static int change_ends(struct replica *replica, int err) {
     return EINPROGRESS;
 }
 
+void replica_fill_status(const struct mount *mount, struct replica_status *out) {
+    const struct replica *replica = mount->replica;
+    *out = (struct replica_status){.version = replica->done, .is_behind = replica->is_behind || replica->err};
+    for (const struct deferred_request *waits = replica->first; waits; waits = waits->next) out->waiting++;
+    snprintf(out->members, sizeof out->members, "%s", replica->members);
+}
+
 uint64_t replica_timestamp(const struct mount *mount) { return mount->replica ? mount->replica->at : 0; }
 
 // If what an inode is about is gone, the kernel looks for its name anew.
@@ -195,6 +202,7 @@ int replica_open(const struct open_options *options, struct mount *mount) {
     replica->mount = mount;
     replica->log_size = options->log_size;
     replica->steps = options->steps;
+    replica->members = options->replica.members;
     int err = open_log_of(replica, options, &start);
     if (err) {
         fprintf(stderr, "doorvervain-mount: --replica: no mount: %s\n", strerror(err));

@@ -52,6 +52,7 @@ struct replica {
     struct mount *mount;
     struct etcd_log *log;
     uint64_t number;         // of this mount
+    const char *members;     // of etcd, as they were named
     uint64_t done;           // the log's version up to which all is done
     uint64_t revision;       // and what etcd has for it
     int err;                 // why the log cannot be followed any more

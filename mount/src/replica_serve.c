@@ -15,7 +15,7 @@
 #include <time.h>
 #include <unistd.h>
 
-enum { SECONDS_TO_WAIT = 10, SECONDS_TO_END = 3, MILLISECONDS = 100 };
+enum { SECONDS_TO_WAIT = 10, SECONDS_TO_END = 3, SECONDS_IDLE = 5, MILLISECONDS = 100 };
 
 static struct fuse_session *session;
 
@@ -183,10 +183,20 @@ static void serve_rest(struct replica *replica, struct fuse_buf *buffer) {
     refuse_old(replica);
 }
 
+// What a large removal gave back goes to the system once no request has come for some seconds.
+static void trim_when_idle(uint64_t idle_since) {
+    bool is_idle = replica_clock() - idle_since > (uint64_t)SECONDS_IDLE * NANOSECONDS;
+    if (memlimit_has_freed() && is_idle) memlimit_trim();
+}
+
 static int serve_all(struct replica *replica, struct fuse_buf *buffer) {
+    uint64_t idle_since = replica_clock();
     int got = -EINTR;
     while (!fuse_session_exited(session) && (got > 0 || got == -EINTR || got == -EAGAIN)) {
-        if (one_has_come(replica, MILLISECONDS)) got = serve_next(replica, buffer);
+        bool has_come = one_has_come(replica, MILLISECONDS);
+        if (has_come) got = serve_next(replica, buffer);
+        if (has_come) idle_since = replica_clock();
+        trim_when_idle(idle_since);
         replica_apply_log(replica);
         catchup_step(replica);
         refuse_old(replica);

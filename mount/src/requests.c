@@ -10,6 +10,7 @@
 #include "orphan.h"
 #include "busy_poll.h"
 #include "delta_ioctl.h"
+#include "entry_count.h"
 #include "exit_report.h"
 #include "extended.h"
 #include "holes.h"
@@ -19,17 +20,19 @@
 #include "replica.h"
 #include "memlimit.h"
 #include "snapshots.h"
+#include "status.h"
 #include "store.h"
 #include <errno.h>
 #include <fcntl.h>
 #include <linux/capability.h>
+#include <poll.h>
 #include <pthread.h>
 #include <stdio.h>
 #include <stdlib.h>
 #include <string.h>
 #include <unistd.h>
 
-enum { MOST_WAITING_STEPS = 64 };
+enum { MOST_WAITING_STEPS = 64, IDLE_MILLISECONDS = 5000 };
 #define SECONDS_KNOWN 86400.0
 #define SECONDS_SHARED 1.0
 // The number of an entry that is not known, as libfuse has it.
@@ -84,6 +87,12 @@ static bool idle_once(struct mount *mount) {
     return is_due;
 }
 
+// What a large removal gave back goes to the system once no request has come for some seconds.
+static void trim_when_idle(void) {
+    struct pollfd comes = {.fd = fuse_session_fd(session), .events = POLLIN};
+    if (memlimit_has_freed() && !poll(&comes, 1, IDLE_MILLISECONDS)) memlimit_trim();
+}
+
 // One step is done while whoever was answered wakes up. The next request may come before there is time for others.
 void requests_idle(struct mount *mount) {
     if (mount->store) store_idle(mount->store);
@@ -91,6 +100,7 @@ void requests_idle(struct mount *mount) {
     while (owes_much(mount)) idle_once(mount);
     if (busy_poll_wait(fuse_session_fd(session))) return;
     while (!fuse_session_exited(session) && idle_once(mount)) continue;
+    if (!mount->replica) trim_when_idle();
 }
 
 // All that a request of a replica does, and all that it did when it was tried, has one timestamp.
@@ -625,14 +635,19 @@ static void on_readdirplus(fuse_req_t req, fuse_ino_t ino, size_t size, off_t at
 
 static fsblkcnt_t blocks_left(uint64_t size, uint64_t taken) { return taken < size ? (size - taken) / 4096 : 0; }
 
+// Names count as inodes. There is no most of them.
 static void on_statfs(fuse_req_t req, fuse_ino_t ino) {
-    (void)ino;
+    const fsfilcnt_t left = 1u << 30;
     struct mem_usage room = memlimit_usage();
+    (void)ino;
+    requests_lock();
+    uint64_t entries = entry_count(fuse_req_userdata(req));
+    requests_unlock();
     struct statvfs stat = {.f_bsize = 4096,
                            .f_frsize = 4096,
-                           .f_files = 1u << 30,
-                           .f_ffree = 1u << 30,
-                           .f_favail = 1u << 30,
+                           .f_files = left + (entries == ENTRIES_UNKNOWN ? 0 : entries),
+                           .f_ffree = left,
+                           .f_favail = left,
                            .f_blocks = room.size / 4096,
                            .f_bfree = blocks_left(room.size, room.taken),
                            .f_bavail = blocks_left(room.size, room.taken + room.reserve),
@@ -722,6 +737,7 @@ static void *restore(void *argument) {
     struct store *store = request->mount->store;
     err = request_end(request, err);
     if (!err && store && store_syncs_each(store)) err = store_sync(store);
+    if (!err) entry_count_walk(request->mount);
     notify_stale(&stale);
     if (!answer_failed(request, err)) fuse_reply_ioctl(request->req, 0, NULL, 0);
     mem_free(restoring);
@@ -764,6 +780,7 @@ static void *receive(void *argument) {
     if (!err) err = delta_apply(request, &receiving->text, &answer, &stale);
     err = request_end(request, err);
     if (!err && request->mount->store) err = store_sync(request->mount->store);
+    if (!err) entry_count_walk(request->mount);
     notify_stale(&stale);
     if (!answer_failed(request, err)) fuse_reply_ioctl(request->req, 0, &answer, sizeof answer);
     bytes_free(&receiving->text);
@@ -822,6 +839,15 @@ static int answer_sent_piece(const struct request *request, struct handle *handl
     return 0;
 }
 
+static int answer_status(const struct request *request) {
+    struct mount_status status;
+    int err = request_begin(request);
+    if (!err) status_fill(request->mount, &status);
+    err = request_end(request, err);
+    if (!err) fuse_reply_ioctl(request->req, 0, &status, sizeof status);
+    return err;
+}
+
 // What goes in and out has the size that the number of a request tells.
 static int answer_asked(struct request *request, unsigned what, const void *in, struct handle *handle) {
     switch (what) {
@@ -830,6 +856,7 @@ static int answer_asked(struct request *request, unsigned what, const void *in, 
     case SEND_REQUEST: return answer_send(request, in, handle);
     case SENT_PIECE_REQUEST: return answer_sent_piece(request, handle);
     case COMING_PIECE_REQUEST: return take_coming_piece(request, in, handle);
+    case STATUS_REQUEST: return answer_status(request);
     case RECEIVE_REQUEST: return start_receiving(request, handle);
     default: return ENOTTY;
     }

@@ -4,6 +4,7 @@
 // that was to be kept is kept.
 #include "serving.h"
 #include "busy_poll.h"
+#include "entry_count.h"
 #include "exit_report.h"
 #include "image.h"
 #include "readahead.h"
@@ -37,6 +38,7 @@ static int open_volume(const struct options *options, struct mount *mount) {
     if (!err) err = fs_start(mount);
     if (!err && mount->store) err = snapshots_find(mount);
     requests_unlock();
+    if (!err) entry_count_walk(mount);
     if (!err && mount->store) err = store_start_writeback(mount->store, mount);
     if (err) mount->backend.ops->close(mount->backend.self, 0);
     return err;

@@ -213,6 +213,14 @@ bool store_refuses(const struct store *store) { return store->err; }
 
 uint64_t store_sync_errseq(struct store *store) { return store->sync_errseq; }
 
+void store_fill_status(const struct store *store, struct store_status *out) {
+    assert(requests_are_locked());
+    *out = (struct store_status){.log_bytes = store->wal_bytes,
+                                 .pending_bytes = store->pending_bytes + store->batch->calls.length,
+                                 .since_sync = store_clock() - store->synced_at,
+                                 .is_refusing = store->err};
+}
+
 // ---- the sync thread
 
 // Those just answered mostly ask again at once, and are waited for a little: else two halves would take turns.
@@ -300,6 +308,7 @@ static void *run_writeback(void *self) {
 int store_start_writeback(struct store *store, struct mount *mount) {
     pthread_condattr_t how;
     store->mount = mount;
+    store->synced_at = store_clock();
     pool_begin(&store->pool);
     set_next_sync(store);
     pthread_mutex_init(&store->wake_lock, 0);

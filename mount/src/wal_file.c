@@ -167,7 +167,8 @@ int wal_sync_in_flight(struct store *store) {
     fill_ahead(store);
     if (fdatasync(store->log)) return fail(store, errno), EIO;
     store->is_synced = true;
-    store->took = store_clock() - begun;
+    store->synced_at = store_clock();
+    store->took = store->synced_at - begun;
     return 0;
 }
 
