@@ -7,7 +7,7 @@ _doorvervain_mount() {
     *)
         if [[ $word == -* ]]; then
             mapfile -t COMPREPLY < <(compgen -W "--store --sync --log-size --replica --prefix --cacert --cert \
-                --key --user --password-file --load --image --size --trace --steps --busy-poll --trust-attributes \
+                --key --user --password-file --load --image --size --trace --steps --busy-poll --trust-attributes --nosuid --nodev \
                 --allow-other --foreground --restore --diff --send --receive --unmount --status --json --dump-log --version --help" -- "$word")
             return
         fi

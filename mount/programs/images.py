@@ -259,4 +259,35 @@ def an_image_takes_no_memory_for_its_text(folder: Path):
     assert mount.end() == 0, mount.said()
 
 
+def refuses_part(folder: Path) -> bool:
+    mount = Mount(folder, "--image", folder / "image")
+    return mount.process.wait(timeout=60) != 0 and "image.part" in mount.said() and "own" in mount.said()
+
+
+@case
+def a_part_that_somebody_else_made_is_refused_by_its_name(folder: Path):
+    part = folder / "image.part"
+    part.touch()
+    part.chmod(0o622)
+    assert refuses_part(folder)
+    part.chmod(0o600)
+    if os.getuid() == 0:
+        os.chown(part, 65534, 65534)
+        assert refuses_part(folder)
+    part.unlink()
+    (folder / "elsewhere").touch()
+    part.symlink_to(folder / "elsewhere")
+    assert Mount(folder, "--image", folder / "image").process.wait(timeout=60) != 0
+    assert (folder / "elsewhere").read_bytes() == b""
+    part.unlink()
+    mount = Mount(folder, "--image", folder / "image")
+    assert mount.end() == 0, mount.said()
+
+
+@case
+def no_step_at_all_is_refused(folder: Path):
+    mount = Mount(folder, "--steps", "0")
+    assert mount.process.wait(timeout=60) == 2 and "--steps takes 1 to 1000, not 0" in mount.said()
+
+
 run_cases()

@@ -12,6 +12,7 @@
 #include <sys/xattr.h>
 
 enum { BYTES_OF_LENGTH = 4 };
+#define TRUSTED "trusted."
 
 // One of those that are packed. It takes the bytes from `at` to `end`.
 struct packed {
@@ -72,7 +73,7 @@ static int read_all(struct mount *mount, struct inode *inode, struct bytes *out)
 
 // Access control lists, which are names of `system.`, would have to change the mode: there are none.
 static bool is_refused(const char *name) {
-    static const char *const kept[] = {"user.", "trusted.", "security."};
+    static const char *const kept[] = {"user.", TRUSTED, "security."};
     for (size_t i = 0; i < sizeof kept / sizeof *kept; i++)
         if (!strncmp(name, kept[i], strlen(kept[i]))) return false;
     return true;
@@ -89,12 +90,13 @@ int extended_get(struct mount *mount, struct inode *inode, const char *name, str
     return err;
 }
 
-int extended_list(struct mount *mount, struct inode *inode, struct bytes *out) {
+int extended_list(struct mount *mount, struct inode *inode, bool is_root, struct bytes *out) {
     assert(request_lock_is_held(mount));
     struct bytes all = {0};
     int err = read_all(mount, inode, &all);
     for (struct packed one = {0}; !err && one.end < all.length;) {
         one = read_at(&all, one.end);
+        if (!is_root && !strncmp(one.name, TRUSTED, strlen(TRUSTED))) continue;
         err = bytes_append(out, one.name, strlen(one.name) + 1);
     }
     bytes_free(&all);

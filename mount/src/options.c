@@ -45,13 +45,16 @@ static const char help[] =
     "  --size N        lets the tree take N bytes of memory, with K, M or G after N, and at least 16M; an eighth is kept\n"
     "                  for removals\n"
     "  --trace NAME    writes every call to NAME.in, as a script, and every reply to NAME.out, new files, for tests\n"
-    "  --steps N       does N tree steps after every 16 changes, 0 to 1000 (4)\n"
+    "  --steps N       does N tree steps after every 16 changes, 1 to 1000 (4)\n"
     "  --busy-poll N   looks for the next request for N microseconds before it sleeps, if the last ones came that soon,\n"
     "                  0 to 1000 (30); 0 sleeps at once\n"
     "  --trust-attributes\n"
     "                  honours owners, set-user bits and devices of the tree, also those of a FILE that is loaded; for\n"
     "                  root alone\n"
+    "  --nosuid        but not its set-user bits\n"
+    "  --nodev         but not its devices\n"
     "  --allow-other   lets other users in, by the modes of files\n"
+    "  --json          prints the status as one JSON object\n"
     "  --foreground    does not go into the background\n"
     "  --version       prints its release, its commit, and whether its library was proved\n"
     "  --help          prints this\n"
@@ -92,6 +95,8 @@ static const struct option known[] = {
     {"allow-other", no_argument, 0, 'a'},
     {"foreground", no_argument, 0, 'f'},
     {"trust-attributes", no_argument, 0, 't'},
+    {"nosuid", no_argument, 0, 'N'},
+    {"nodev", no_argument, 0, 'D'},
     {"help", no_argument, 0, 'h'},
     {"version", no_argument, 0, 'v'},
     {0},
@@ -103,10 +108,10 @@ static int refuse(const char *text, const char *word) {
 }
 
 // A number of up to 1000.
-static int read_number(const char *word, const char *refusal, unsigned *out) {
+static int read_number(const char *word, unsigned long least, const char *refusal, unsigned *out) {
     char *end;
     unsigned long number = strtoul(word, &end, 10);
-    if (!*word || *end || *word == '-' || number > 1000) return refuse(refusal, word);
+    if (!*word || *end || *word == '-' || number < least || number > 1000) return refuse(refusal, word);
     *out = (unsigned)number;
     return 0;
 }
@@ -158,8 +163,8 @@ static int read_option(int letter, struct options *out) {
     case 'o': return read_bytes(optarg, 1, "--log-size takes 1 or more, not ", &out->open.log_size);
     case 'y': out->open.syncs_each = true; return 0;
     case 'g': out->open.trace = optarg; return 0;
-    case 's': return read_number(optarg, "--steps takes 0 to 1000, not ", &out->open.steps);
-    case 'w': return read_number(optarg, "--busy-poll takes 0 to 1000, not ", &out->busy_poll);
+    case 's': return read_number(optarg, 1, "--steps takes 1 to 1000, not ", &out->open.steps);
+    case 'w': return read_number(optarg, 0, "--busy-poll takes 0 to 1000, not ", &out->busy_poll);
     case 'r': out->restore = optarg; return 0;
     case 'c': out->diff_from = optarg; return 0;
     case 'e': out->send_from = optarg; return 0;
@@ -171,6 +176,8 @@ static int read_option(int letter, struct options *out) {
     case 'n': out->dumps_log = true; return 0;
     case 'a': out->allows_other = true; return 0;
     case 't': out->trusts_attributes = true; return 0;
+    case 'N': out->no_suid = true; return 0;
+    case 'D': out->no_dev = true; return 0;
     case 'f': out->in_foreground = true; return 0;
     case 'h': out->prints_help = true; return 0;
     case 'v': out->prints_version = true; return 0;

@@ -21,6 +21,7 @@ struct options {
     bool in_foreground;     // in the foreground
     bool allows_other;      // users may go in
     bool trusts_attributes; // owners, set-user bits and devices of records hold
+    bool no_suid, no_dev;   // but not its set-user bits, or its devices
     bool prints_help, prints_version;
 };
 

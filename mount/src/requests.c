@@ -691,7 +691,7 @@ static void on_listxattr(fuse_req_t req, fuse_ino_t ino, size_t capacity) {
     struct request request = request_of(req);
     struct bytes names = {0};
     int err = begin_bytes(&request, ino);
-    if (!err) err = extended_list(request.mount, inode_of(&request, ino), &names);
+    if (!err) err = extended_list(request.mount, inode_of(&request, ino), !fuse_req_ctx(req)->uid, &names);
     err = request_end(&request, err);
     answer_sized(&request, err, &names, capacity);
     bytes_free(&names);

@@ -128,12 +128,14 @@ static void name_source(const struct options *options, char out[2 * PATH_MAX]) {
     *out = 0;
 }
 
-// libfuse mounts with `nosuid,nodev` where nothing else is said.
+// libfuse mounts with `nosuid,nodev` if nothing else is said.
 static struct fuse_session *open_session(const struct options *options, struct mount *mount) {
     char source[2 * PATH_MAX], how[sizeof source + 128];
     name_source(options, source);
-    snprintf(how, sizeof how, "default_permissions,fsname=%s,subtype=doorvervain%s%s", source,
-             options->allows_other ? ",allow_other" : "", options->trusts_attributes ? ",suid,dev" : "");
+    bool trusts = options->trusts_attributes;
+    snprintf(how, sizeof how, "default_permissions,fsname=%s,subtype=doorvervain%s%s%s", source,
+             options->allows_other ? ",allow_other" : "", trusts && !options->no_suid ? ",suid" : "",
+             trusts && !options->no_dev ? ",dev" : "");
     char *words[] = {"doorvervain-mount", "-o", how, 0};
     struct fuse_args args = FUSE_ARGS_INIT(3, words);
     struct fuse_session *session = fuse_session_new(&args, &requests, sizeof requests, mount);
@@ -209,6 +211,7 @@ int serve_mount(const struct options *options, void (*stands)(void)) {
     int err = options->open.image ? image_check(options->open.image) : 0;
     if (!err && options->image) err = image_open(&image, options->image);
     if (err || exit_report_open()) return 1;
+    signal(SIGXFSZ, SIG_IGN); // a write beyond the limit of a file's size fails with EFBIG
     keep_memory();
     memlimit_set(options->size);
     busy_poll_set(options->busy_poll);
