@@ -231,7 +231,7 @@ int attrs_of(struct mount *mount, struct inode *inode, const struct attrs **out)
 // ---- writing
 
 static int make_folder_once(struct txn *txn, const char *path) {
-    return txn_create(txn, MAKE_DIRECTORY, path, txn->at, txn->at);
+    return txn_create(txn, CALL_MKDIR, path, txn->at, txn->at);
 }
 
 // What stands at a path goes, and a folder comes.
@@ -285,7 +285,7 @@ static int print(const struct attrs *attrs, const struct bytes *extended, struct
 static int make_text(struct txn *txn, const struct record_path *record_path, const struct bytes *text) {
     const struct backend *backend = &txn->mount->backend;
     size_t done;
-    int err = txn_create(txn, CREATE, record_path->file, txn->at, txn->at);
+    int err = txn_create(txn, CALL_CREATE, record_path->file, txn->at, txn->at);
     return err ? err : backend->ops->write(backend->self, record_path->file, 0, text->at, text->length, txn->at, &done);
 }
 

@@ -16,8 +16,8 @@ enum {
     LONGEST_SNAPSHOT = 64,
 };
 
-// Calls that have a path alone, and are done or refused.
-enum change { MAKE_DIRECTORY, CREATE, UNLINK, REMOVE_DIRECTORY, REMOVE_TREE };
+// Calls that have a path alone, and are done or refused: in the order of PathCall in the library.
+enum path_call { CALL_MKDIR, CALL_CREATE, CALL_UNLINK, CALL_RMDIR, CALL_RMTREE };
 
 // What becomes of the snapshot of a name.
 enum snapshot_call { TAKE_SNAPSHOT, DROP_SNAPSHOT, RESTORE_SNAPSHOT };
@@ -46,7 +46,7 @@ struct extent {
 // backend, which is then the first member of `self`; these six are called by the functions below. What changes the tree
 // is done at the timestamp `at`, in nanoseconds since 1970.
 struct backend_ops {
-    int (*change)(void *self, enum change what, const char *path, uint64_t at);
+    int (*change)(void *self, enum path_call what, const char *path, uint64_t at);
     int (*rename)(void *self, const char *from, const char *to, uint64_t at);
     int (*truncate)(void *self, const char *path, uint64_t length, uint64_t at);
     // All is written, or the first `done` bytes are and the rest was refused.

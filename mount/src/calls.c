@@ -25,9 +25,9 @@ static const char *file(int number) {
 // Each call has a moment of its own, as the mount's have.
 static uint64_t timestamp(int i) { return (uint64_t)i + 1; }
 
-static int create(int i) { return backend.ops->change(backend.self, CREATE, file(i), timestamp(i)); }
+static int create(int i) { return backend.ops->change(backend.self, CALL_CREATE, file(i), timestamp(i)); }
 
-static int take_away(int i) { return backend.ops->change(backend.self, UNLINK, file(i), timestamp(i)); }
+static int take_away(int i) { return backend.ops->change(backend.self, CALL_UNLINK, file(i), timestamp(i)); }
 
 static int look(int i) {
     struct node_stat node_stat;
@@ -71,8 +71,8 @@ int main(void) {
     const struct open_options options = {.steps = 4};
     for (int i = 0; i < LARGE; i++) bytes[i] = (char)(i * 7 + i / 4096);
     if (open_library(&options, &backend)) return 1;
-    if (backend.ops->change(backend.self, MAKE_DIRECTORY, "/folder", 0)) return 1;
-    if (backend.ops->change(backend.self, CREATE, "/large", 0)) return 1;
+    if (backend.ops->change(backend.self, CALL_MKDIR, "/folder", 0)) return 1;
+    if (backend.ops->change(backend.self, CALL_CREATE, "/large", 0)) return 1;
     time_calls("create", create, MANY);
     time_calls("stat", look, MANY);
     time_calls("write 4 KiB", write_small, MANY);

@@ -33,7 +33,7 @@ static size_t count_entries(const struct bytes *list) { return list->length / si
 
 static const char *path_at(const struct delta *delta, size_t at) { return delta->paths.at + at; }
 
-static int change(struct delta_applier *applier, enum change what, const char *path, uint64_t at) {
+static int change(struct delta_applier *applier, enum path_call what, const char *path, uint64_t at) {
     const struct backend *backend = applier->backend;
     return backend->ops->change(backend->self, what, path, at);
 }
@@ -174,9 +174,9 @@ static int set_mtime(struct delta_applier *applier, const char *folder, uint64_t
     strcpy(path + length, "/?");
     for (int byte = 1; byte < 256 && (err == EEXIST || err == EINVAL); byte++) {
         path[length + 1] = (char)byte;
-        err = byte == '/' || byte == '.' ? EEXIST : change(applier, CREATE, path, mtime_ns);
+        err = byte == '/' || byte == '.' ? EEXIST : change(applier, CALL_CREATE, path, mtime_ns);
     }
-    return err ? err : change(applier, UNLINK, path, mtime_ns);
+    return err ? err : change(applier, CALL_UNLINK, path, mtime_ns);
 }
 
 static int set_dir_mtime(struct delta_applier *applier, const struct dir_mtime *dir) {
@@ -308,7 +308,7 @@ static int remove_entries(struct delta_applier *applier) {
     for (size_t i = count_entries(removed); !err && i-- > 0;) {
         const struct delta_entry *entry = &entries(removed)[i];
         if (entry->is_kept) continue;
-        err = change(applier, entry->is_directory ? REMOVE_DIRECTORY : UNLINK, path_at(applier->delta, entry->path), 0);
+        err = change(applier, entry->is_directory ? CALL_RMDIR : CALL_UNLINK, path_at(applier->delta, entry->path), 0);
         compact(applier);
     }
     return err;
@@ -321,7 +321,7 @@ static int insert(struct delta_applier *applier) {
         const struct delta_entry *entry = &entries(added)[i];
         const char *path = path_at(applier->delta, entry->path);
         if (!entry->is_kept)
-            err = change(applier, entry->is_directory ? MAKE_DIRECTORY : CREATE, path, entry->mtime_ns);
+            err = change(applier, entry->is_directory ? CALL_MKDIR : CALL_CREATE, path, entry->mtime_ns);
         if (!err && !entry->is_directory) err = edit(applier, entry);
         compact(applier);
     }

@@ -104,10 +104,10 @@ struct link_args {
 static int place_bytes(struct txn *txn, const struct link_args *args, const struct resolved_path *resolved,
                        const char *path) {
     struct node_stat parent;
-    if (!args->file.length) return txn_create(txn, CREATE, path, args->file.mtime_ns, 0);
+    if (!args->file.length) return txn_create(txn, CALL_CREATE, path, args->file.mtime_ns, 0);
     int err = fs_node_stat(txn->mount, args->inode->parent, &parent);
     if (!err) err = txn_rename(txn, resolved->path, path, parent.mtime_ns, parent.mtime_ns);
-    return err ? err : txn_create(txn, CREATE, resolved->path, parent.mtime_ns, parent.mtime_ns);
+    return err ? err : txn_create(txn, CALL_CREATE, resolved->path, parent.mtime_ns, parent.mtime_ns);
 }
 
 // The file goes to a place of its own.
@@ -125,7 +125,7 @@ static int make_once(struct txn *txn, struct link_args *args) {
     struct node_stat before;
     const char *path = args->resolved.path;
     int err = fs_node_stat(txn->mount, args->parent, &before);
-    if (!err) err = txn_create(txn, CREATE, path, txn->at, before.mtime_ns);
+    if (!err) err = txn_create(txn, CALL_CREATE, path, txn->at, before.mtime_ns);
     if (!err) err = make_name_of(txn, args->parent, path, args->number);
     if (err) return err;
     return args->inode->link ? attrs_rewrite(txn, args->inode, &args->attrs) : give_place(txn, args);
@@ -216,7 +216,7 @@ static int remove_once(struct txn *txn, struct inode *inode, const char *path, s
     const struct backend *backend = &txn->mount->backend;
     int err = hardlink_count_down(txn, inode, out);
     if (!err) err = attrs_drop(txn, 0, path);
-    return err ? err : backend->ops->change(backend->self, UNLINK, path, txn->at);
+    return err ? err : backend->ops->change(backend->self, CALL_UNLINK, path, txn->at);
 }
 
 static int remove_name(struct mount *mount, struct inode *inode, const char *path, uint64_t at) {
@@ -237,7 +237,7 @@ static int remove_file_once(struct txn *txn, const struct inode *inode, const st
     int err = attrs_erase(txn, 0, path, &name);
     if (!err) err = txn_unlink(txn, path, &none);
     if (!err) err = attrs_drop_one(txn, file->path, &inode->attrs);
-    return err ? err : backend->ops->change(backend->self, UNLINK, file->path, txn->at);
+    return err ? err : backend->ops->change(backend->self, CALL_UNLINK, file->path, txn->at);
 }
 
 static int remove_file(struct mount *mount, struct inode *inode, const char *path, uint64_t at) {

@@ -44,9 +44,11 @@ static int done_many(struct library *library, uint8_t number, size_t changes) {
 
 static int done(struct library *library, uint8_t number) { return done_many(library, number, 1); }
 
-static int library_change(void *self, enum change what, const char *path, uint64_t at) {
+static int library_change(void *self, enum path_call what, const char *path, uint64_t at) {
     static uint8_t (*const calls[])(struct doorvervain *, const uint8_t *, size_t, uint64_t) = {
-        doorvervain_mkdir, doorvervain_create, doorvervain_unlink, doorvervain_rmdir, doorvervain_rmtree};
+        [CALL_MKDIR] = doorvervain_mkdir,   [CALL_CREATE] = doorvervain_create, [CALL_UNLINK] = doorvervain_unlink,
+        [CALL_RMDIR] = doorvervain_rmdir,   [CALL_RMTREE] = doorvervain_rmtree,
+    };
     struct library *library = self;
     return done(library, calls[what](&library->volume, text(path), strlen(path), at));
 }
@@ -134,8 +136,11 @@ static int library_readdir(void *self, struct path_ref ref, struct bytes *out) {
 }
 
 static int library_snapshot(void *self, enum snapshot_call what, const char *snapshot) {
-    static uint8_t (*const calls[])(struct doorvervain *, const uint8_t *,
-                                    size_t) = {doorvervain_snapshot, doorvervain_drop_snapshot, doorvervain_restore};
+    static uint8_t (*const calls[])(struct doorvervain *, const uint8_t *, size_t) = {
+        [TAKE_SNAPSHOT] = doorvervain_snapshot,
+        [DROP_SNAPSHOT] = doorvervain_drop_snapshot,
+        [RESTORE_SNAPSHOT] = doorvervain_restore,
+    };
     struct library *library = self;
     if (what == DROP_SNAPSHOT && !strcmp(library->snapshot, snapshot)) forget_tree(library);
     return done(library, calls[what](&library->volume, text(snapshot), strlen(snapshot)));

@@ -37,7 +37,7 @@ static int write_target(struct txn *txn, const char *path, const char *target) {
 static int make_once(struct txn *txn, struct inode *parent, const struct resolved_path *resolved,
                      const struct create_args *args, struct attrs *attrs) {
     struct node_stat before;
-    enum change what = args->base.kind == DOORVERVAIN_DIRECTORY ? MAKE_DIRECTORY : CREATE;
+    enum path_call what = args->base.kind == DOORVERVAIN_DIRECTORY ? CALL_MKDIR : CALL_CREATE;
     int err = fs_node_stat(txn->mount, parent, &before);
     if (!err) err = txn_create(txn, what, resolved->path, txn->at, before.mtime_ns);
     if (!err) err = attrs_create(txn, parent, resolved->path, attrs, 0);
@@ -101,7 +101,7 @@ static void bring_back(struct txn *txn, const char *path, const struct node_stat
     struct private_path parked;
     memlimit_suspend();
     if (private_orphan_path(txn->mount, &parked)) return;
-    backend->ops->change(backend->self, MAKE_DIRECTORY, parked.text, before->mtime_ns);
+    backend->ops->change(backend->self, CALL_MKDIR, parked.text, before->mtime_ns);
     backend->ops->rename(backend->self, parked.text, path, above->mtime_ns);
 }
 
@@ -111,7 +111,7 @@ static int take_folder(struct txn *txn, struct inode *parent, const struct resol
     struct node_stat before, above;
     int err = backend_stat(backend, (struct path_ref){0, resolved->path}, &before);
     if (!err) err = fs_node_stat(txn->mount, parent, &above);
-    if (!err) err = backend->ops->change(backend->self, REMOVE_DIRECTORY, resolved->path, txn->at);
+    if (!err) err = backend->ops->change(backend->self, CALL_RMDIR, resolved->path, txn->at);
     if (err) return err;
     err = attrs_drop(txn, parent, resolved->path);
     if (err) bring_back(txn, resolved->path, &before, &above);

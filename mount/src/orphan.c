@@ -77,7 +77,7 @@ static int take_record(struct txn *txn, struct inode *inode, const struct resolv
 static int take_once(struct txn *txn, struct inode *inode, const struct resolved_path *resolved) {
     const struct backend *backend = &txn->mount->backend;
     int err = take_record(txn, inode, resolved);
-    return err ? err : backend->ops->change(backend->self, UNLINK, resolved->path, txn->at);
+    return err ? err : backend->ops->change(backend->self, CALL_UNLINK, resolved->path, txn->at);
 }
 
 int orphan_delete(struct mount *mount, struct inode *inode, uint64_t at) {

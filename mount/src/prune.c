@@ -104,7 +104,7 @@ void prune_folders(struct mount *mount, char *path, const char *kept, uint64_t a
         if (strlen(path) < top || is_below(kept, path)) return;
         struct inode *directory = directory_of(mount, path + top);
         if (directory && is_seen_full(mount, path, directory)) return;
-        if (mount->backend.ops->change(mount->backend.self, REMOVE_DIRECTORY, path, at)) {
+        if (mount->backend.ops->change(mount->backend.self, CALL_RMDIR, path, at)) {
             if (directory) remember_name(mount, path, directory, at);
             return;
         }

@@ -230,7 +230,7 @@ static void note_orphans(struct replica *replica) {
         char path[LONGEST_PATH + 1];
         bool is_own = strtoull(names.at + at + 1, 0, 10) >> NUMBERS_OF_A_MOUNT == replica->number;
         snprintf(path, sizeof path, UNLINKED_PATH "/%s", names.at + at + 1);
-        if (is_own) backend->ops->change(backend->self, REMOVE_TREE, path, replica->at);
+        if (is_own) backend->ops->change(backend->self, CALL_RMTREE, path, replica->at);
     }
     bytes_free(&names);
     replica_pass_ends(replica);

@@ -16,8 +16,15 @@ static const struct {
 };
 enum { FAULTS = sizeof faults / sizeof *faults };
 
-static const char *const change_words[] = {"mkdir", "create", "unlink", "rmdir", "rmtree"};
-static const char *const snapshot_words[] = {"snapshot", "drop", "restore"};
+static const char *const call_words[] = {
+    [CALL_MKDIR] = "mkdir", [CALL_CREATE] = "create", [CALL_UNLINK] = "unlink",
+    [CALL_RMDIR] = "rmdir", [CALL_RMTREE] = "rmtree",
+};
+static const char *const snapshot_words[] = {
+    [TAKE_SNAPSHOT] = "snapshot",
+    [DROP_SNAPSHOT] = "drop",
+    [RESTORE_SNAPSHOT] = "restore",
+};
 
 // A word, a space, and a path or a name in percent form.
 static int append_call(struct bytes *line, const char *word, const char *path) {
@@ -36,8 +43,8 @@ static int end_line(struct bytes *line, int err) { return err ? err : bytes_appe
 
 int script_timestamp(struct bytes *line, uint64_t at) { return bytes_print(line, "at %" PRIu64 "\n", at); }
 
-int script_change(struct bytes *line, enum change what, const char *path) {
-    return end_line(line, append_call(line, change_words[what], path));
+int script_change(struct bytes *line, enum path_call what, const char *path) {
+    return end_line(line, append_call(line, call_words[what], path));
 }
 
 int script_rename(struct bytes *line, const char *from, const char *to) {

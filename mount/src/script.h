@@ -12,7 +12,7 @@ enum {
 // Each puts one line, with its line feed, behind what `line` has: 0 or ENOMEM.
 // The moment of the lines behind it, which is 0 before the first such line.
 int script_timestamp(struct bytes *line, uint64_t at);
-int script_change(struct bytes *line, enum change what, const char *path);
+int script_change(struct bytes *line, enum path_call what, const char *path);
 int script_rename(struct bytes *line, const char *from, const char *to);
 int script_truncate(struct bytes *line, const char *path, uint64_t length);
 int script_write(struct bytes *line, const char *path, uint64_t offset, const char *bytes, size_t count);

@@ -21,7 +21,7 @@ static int call_snapshot(struct mount *mount, enum snapshot_call what, const cha
 
 // Takes the tree without its orphans, which are in it again then.
 static int take_without_orphans(struct mount *mount, const char *name) {
-    int err = mount->backend.ops->change(mount->backend.self, REMOVE_TREE, UNLINKED_PATH, 0);
+    int err = mount->backend.ops->change(mount->backend.self, CALL_RMTREE, UNLINKED_PATH, 0);
     if (!err) private_tidy(mount);
     if (!err) err = call_snapshot(mount, TAKE_SNAPSHOT, name);
     memlimit_suspend();

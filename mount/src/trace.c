@@ -127,7 +127,7 @@ static void trace_timestamp(struct trace *trace, uint64_t at) {
     trace_done(trace, 0);
 }
 
-static int trace_change(void *self, enum change what, const char *path, uint64_t at) {
+static int trace_change(void *self, enum path_call what, const char *path, uint64_t at) {
     struct trace *trace = self;
     trace_timestamp(trace, at);
     script_change(fresh_line(trace), what, path);
