@@ -6,6 +6,7 @@
 // `attrs_gen` is the mount's `tree_gen`.
 #include "attrs.h"
 #include "exit_report.h"
+#include "text.h"
 #include <errno.h>
 #include <stdio.h>
 #include <string.h>
@@ -390,7 +391,7 @@ static int move_folder(struct txn *txn, const char *from, const char *to) {
     char above[LONGEST_PATH + 1];
     int moved = txn_rename(txn, from, to, txn->at, txn->at);
     if (moved != ENOENT && moved != ENOTDIR) return moved;
-    strcpy(above, to);
+    text_copy(above, sizeof above, to);
     *strrchr(above, '/') = 0;
     int err = make_folders(txn, above);
     return err ? err : txn_rename(txn, from, to, txn->at, txn->at);

@@ -171,7 +171,7 @@ static int set_mtime(struct delta_applier *applier, const char *folder, uint64_t
     int err = EEXIST;
     size_t length = strcmp(folder, "/") ? strlen(folder) : 0;
     memcpy(path, folder, length);
-    strcpy(path + length, "/?");
+    text_copy(path + length, sizeof path - length, "/?");
     for (int byte = 1; byte < 256 && (err == EEXIST || err == EINVAL); byte++) {
         path[length + 1] = (char)byte;
         err = byte == '/' || byte == '.' ? EEXIST : change(applier, CALL_CREATE, path, mtime_ns);

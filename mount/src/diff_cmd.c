@@ -223,7 +223,7 @@ int open_tree(int root, const char *name) {
         errno = EINVAL;
         return -1;
     }
-    sprintf(path, "%s/%s", SNAPSHOTS, name);
+    snprintf(path, sizeof path, "%s/%s", SNAPSHOTS, name);
     return openat(root, path, O_RDONLY | O_DIRECTORY | O_CLOEXEC);
 }
 

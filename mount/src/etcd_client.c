@@ -40,10 +40,11 @@ static int may_speak(const struct etcd_options *options, const char *url) {
 }
 
 static int add_member(struct members *members, const char *name) {
-    char *url = malloc(strlen(name) + sizeof "https://");
+    size_t size = strlen(name) + sizeof "https://";
+    char *url = malloc(size);
     if (!url) return ENOMEM;
     bool is_whole = begins(name, "http://") || begins(name, "https://");
-    sprintf(url, "%s%s", is_whole ? "" : members->options->cacert ? "https://" : "http://", name);
+    snprintf(url, size, "%s%s", is_whole ? "" : members->options->cacert ? "https://" : "http://", name);
     members->urls[members->count++] = url;
     return may_speak(members->options, url);
 }

@@ -45,8 +45,9 @@ struct etcd_log {
 };
 
 static char *name_key(const struct etcd_options *options, const char *name) {
-    char *key = malloc(strlen(options->prefix) + strlen(name) + 2);
-    if (key) sprintf(key, "%s/%s", options->prefix, name);
+    size_t size = strlen(options->prefix) + strlen(name) + 2;
+    char *key = malloc(size);
+    if (key) snprintf(key, size, "%s/%s", options->prefix, name);
     return key;
 }
 

@@ -7,6 +7,7 @@
 #include "library.h"
 #include "backend.h"
 #include "memlimit.h"
+#include "text.h"
 #include <errno.h>
 #include <fcntl.h>
 #include <inttypes.h>
@@ -84,7 +85,7 @@ static int look_into(struct library *library, const char *snapshot) {
     forget_tree(library);
     uint8_t number = doorvervain_open_snapshot(&library->volume, text(snapshot), strlen(snapshot), &library->tree);
     if (number) return doorvervain_errno(number);
-    strcpy(library->snapshot, snapshot);
+    text_copy(library->snapshot, sizeof library->snapshot, snapshot);
     return 0;
 }
 

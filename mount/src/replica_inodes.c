@@ -8,6 +8,7 @@
 #include "requests.h"
 #include "snapshots.h"
 #include "memlimit.h"
+#include "text.h"
 #include <errno.h>
 #include <stdlib.h>
 #include <string.h>
@@ -125,7 +126,7 @@ static struct reach reach_path(struct replica *replica, const char *path, size_t
     while (next_name(&path, end, name)) {
         if (!reach.inode && adds && reach.parent) reach.inode = inode_add(reach.parent, reach.name, true);
         reach.parent = reach.inode;
-        strcpy(reach.name, name);
+        text_copy(reach.name, sizeof reach.name, name);
         reach.inode = reach.parent ? inode_find(reach.parent, name) : 0;
     }
     return reach;

@@ -8,6 +8,7 @@
 #include "requests.h"
 #include "snapshots.h"
 #include "store_inside.h"
+#include "text.h"
 #include <errno.h>
 #include <fcntl.h>
 #include <stdio.h>
@@ -330,7 +331,7 @@ static int apply(struct snapshot_reader *reader) {
 // The live tree becomes that of the next snapshot.
 static int make_next(struct snapshot_reader *reader) {
     uint64_t line = 0;
-    strcpy(reader->name, "?");
+    text_copy(reader->name, sizeof reader->name, "?");
     if (!read_heading(reader) || !read_text(reader)) return refuse(reader, "its text is cut off, or none");
     int err = delta_find_bad_line(&reader->text, &line);
     if (line) err = refuse(reader, "its text is no difference");

@@ -7,6 +7,7 @@
 #include "replica.h"
 #include "memlimit.h"
 #include "request.h"
+#include "text.h"
 #include <assert.h>
 #include <errno.h>
 #include <string.h>
@@ -17,7 +18,7 @@ void txn_begin(struct txn *txn, struct mount *mount, uint64_t at) {
     txn->at = at;
     txn->count = 0;
     txn->read = (struct bytes){0};
-    strcpy(txn->read_path, "");
+    txn->read_path[0] = 0;
     replica_change_begins(mount);
 }
 
@@ -28,8 +29,8 @@ static struct undo_entry *note(struct txn *txn, enum undo_kind how, const char *
     undo->is_removal = false;
     undo->at = at;
     undo->text = (struct bytes){0};
-    strcpy(undo->path, path);
-    strcpy(undo->back, "");
+    text_copy(undo->path, sizeof undo->path, path);
+    undo->back[0] = 0;
     return undo;
 }
 
@@ -54,7 +55,7 @@ int txn_rename(struct txn *txn, const char *from, const char *to, uint64_t at, u
     const struct backend *backend = &txn->mount->backend;
     struct undo_entry *undo = note(txn, BY_RENAME, to, back_at);
     if (!undo || strlen(from) > LONGEST_PATH) return ENAMETOOLONG;
-    strcpy(undo->back, from);
+    text_copy(undo->back, sizeof undo->back, from);
     int err = backend->ops->rename(backend->self, from, to, at);
     if (!err) txn->count++;
     return err;
@@ -72,7 +73,7 @@ static int read_whole(const struct backend *backend, const char *path, struct by
 int txn_read(struct txn *txn, const char *path, const struct bytes **out) {
     int err = read_whole(&txn->mount->backend, path, &txn->read);
     *out = &txn->read;
-    strcpy(txn->read_path, err ? "" : path);
+    text_copy(txn->read_path, sizeof txn->read_path, err ? "" : path);
     return err;
 }
 
@@ -81,7 +82,7 @@ static int take_text(struct txn *txn, const char *path, struct bytes *out) {
     if (strcmp(path, txn->read_path)) return read_whole(&txn->mount->backend, path, out);
     *out = txn->read;
     txn->read = (struct bytes){0};
-    strcpy(txn->read_path, "");
+    txn->read_path[0] = 0;
     return 0;
 }
 
@@ -143,7 +144,7 @@ int txn_remove_record(struct txn *txn, const char *folder, const char *file, str
     const struct backend *backend = &txn->mount->backend;
     int err = note_text(txn, BY_REMAKING, file, text);
     if (!err) err = backend->ops->change(backend->self, CALL_RMTREE, folder, txn->at);
-    if (!err) strcpy(txn->undone[txn->count].back, folder);
+    if (!err) text_copy(txn->undone[txn->count].back, sizeof txn->undone[0].back, folder);
     return end_removal(txn, err);
 }
 
