@@ -17,18 +17,18 @@ void txn_begin(struct txn *txn, struct mount *mount, uint64_t at) {
     txn->mount = mount;
     txn->at = at;
     txn->count = 0;
-    txn->read = (struct bytes){0};
+    txn->read = (struct bytes){NULL};
     txn->read_path[0] = 0;
     replica_change_begins(mount);
 }
 
 static struct undo_entry *note(struct txn *txn, enum undo_kind how, const char *path, uint64_t at) {
     struct undo_entry *undo = &txn->undone[txn->count];
-    if (txn->count == MAX_UNDO || strlen(path) > LONGEST_PATH) return 0;
+    if (txn->count == MAX_UNDO || strlen(path) > LONGEST_PATH) return NULL;
     undo->how = how;
     undo->is_removal = false;
     undo->at = at;
-    undo->text = (struct bytes){0};
+    undo->text = (struct bytes){NULL};
     text_copy(undo->path, sizeof undo->path, path);
     undo->back[0] = 0;
     return undo;
@@ -63,7 +63,7 @@ int txn_rename(struct txn *txn, const char *from, const char *to, uint64_t at, u
 
 static int read_whole(const struct backend *backend, const char *path, struct bytes *out) {
     struct node_stat node_stat;
-    struct path_ref ref = {0, path};
+    struct path_ref ref = {NULL, path};
     int err = backend_stat(backend, ref, &node_stat);
     if (!err && node_stat.length > LARGEST_READ) err = EFBIG;
     if (!err) err = bytes_reserve(out, node_stat.length + 1);
@@ -81,7 +81,7 @@ int txn_read(struct txn *txn, const char *path, const struct bytes **out) {
 static int take_text(struct txn *txn, const char *path, struct bytes *out) {
     if (strcmp(path, txn->read_path)) return read_whole(&txn->mount->backend, path, out);
     *out = txn->read;
-    txn->read = (struct bytes){0};
+    txn->read = (struct bytes){NULL};
     txn->read_path[0] = 0;
     return 0;
 }
@@ -120,7 +120,7 @@ static int note_text(struct txn *txn, enum undo_kind how, const char *file, stru
     if (!undo) return ENOMEM;
     if (!text) return read_whole(&txn->mount->backend, file, &undo->text);
     undo->text = *text;
-    *text = (struct bytes){0};
+    *text = (struct bytes){NULL};
     return 0;
 }
 
