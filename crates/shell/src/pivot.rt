@@ -1,5 +1,5 @@
 //! Keys as text.
-use crate::sketch::DotWriter;
+use crate::dot_writer::DotWriter;
 use pathkey::{Key, NoMemory};
 
 /// How many bytes of a path are told at most.

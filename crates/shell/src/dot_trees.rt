@@ -1,7 +1,7 @@
 //! A whole tree.
+use crate::dot_writer::DotWriter;
 use crate::node_box::{BoxLabel, put_name, put_node};
 use crate::pivot::put_bytes;
-use crate::sketch::DotWriter;
 use message::Update;
 use node::{Body, Node, Tree};
 use pathkey::NoMemory;

@@ -1,6 +1,6 @@
 //! The box of one node.
+use crate::dot_writer::DotWriter;
 use crate::pivot::put_key;
-use crate::sketch::DotWriter;
 use message::Update;
 use node::node::count::pending_len;
 use node::{Body, Node, Shape, Slot};

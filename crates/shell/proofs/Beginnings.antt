@@ -1,7 +1,7 @@
 -- How a drawing goes on, and how it ends.
 use Rattle.std.proofs.Common.{◌≡◌, ℕ, Bool, true, false, cond, List, ◌++◌, length, take, drop, sym, ap, ◌∙◌, subst, append_assoc, take-append-drop}
 use Rattle.std.proofs.Math.Seq.{take-append_seam}
-use Rattle.graphviz.specs.Drawing.{IsBegun, IsDrawing, head, foot}
+use Rattle.shell.specs.Drawing.{IsBegun, IsDrawing, head, foot}
 
 -- what is begun is what it begins with, and more
 splits : (text : List ℕ) → IsBegun text → text ≡ head ++ drop (length head) text

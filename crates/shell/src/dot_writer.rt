@@ -1,6 +1,6 @@
 //! A drawing in the making: its text so far, and the number of the next box.
 ghost use Rattle.std.specs.Prelude.{◌≡◌, IfOk};
-ghost use Rattle.graphviz.specs.Drawing.{IsBegun, IsDrawing};
+ghost use Rattle.shell.specs.Drawing.{IsBegun, IsDrawing};
 
 use itoa::Buffer;
 use pathkey::NoMemory;

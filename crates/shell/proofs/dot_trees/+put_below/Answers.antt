@@ -1,8 +1,8 @@
 use Rattle.std.proofs.Common.{ap, sym, ◌∙◌, ◌≡◌, ◌<◌, arith}
 use Rattle.node.specs.Pure.{inner, depth}
 use Rattle.node.specs.See.{see, seen_slots}
-use Rattle.graphviz.proofs.Depths.{child_falls}
-use Rattle.graphviz.proofs.whole.+put_below.Goals as goal
+use Rattle.shell.proofs.Depths.{child_falls}
+use Rattle.shell.proofs.dot_trees.+put_below.Goals as goal
 
 pub put_below-requires : goal.put_below-requires
 put_below-requires g t c κs within =
