@@ -13,6 +13,6 @@ pub mod limits;
 pub mod plain;
 pub mod reply;
 
-pub use call::Call;
+pub use call::{Call, PathCall};
 pub use limits::{GREATEST_FILE, GREATEST_READ, fits_file};
 pub use reply::{FileBytes, Kind, Listing, Meta, Reply};
