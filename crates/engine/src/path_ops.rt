@@ -17,7 +17,7 @@ pub struct PathOp<'a> {
 }
 
 impl<'a> Operation for PathOp<'a> {
-    ghost use Rattle.reference.specs.Calls.{call_at};
+    ghost use Rattle.reference.specs.PathCalls.{call_at};
     ghost use Rattle.reference.specs.Worlds.{Ask, Replied};
     ghost use Rattle.reference.specs.declared.reply.Reply.TheVariants.{Done};
     ghost use Rattle.volume.specs.Typed.{replied};

@@ -7,8 +7,6 @@ pub use Rattle.pathkey.specs.Outcomes.{when}
 use Rattle.reference.specs.Tree.{Name, Path, Tree, Dir, File, Entries, nothing, entry, At, Found, Missing, Blocked, entry_at, with_entry, without, over, sized, touched}
 use Rattle.reference.specs.declared.call.Call.{Call}
 use Rattle.reference.specs.declared.call.Call.TheVariants.{Mkdir, Create, Write, Truncate, Unlink, Rmdir, Rename, Rmtree, Read, Stat as AskStat, Readdir}
-use Rattle.reference.specs.declared.call.PathCall.{PathCall}
-use Rattle.reference.specs.declared.call.PathCall.TheVariants as on
 use Rattle.reference.specs.declared.reply.Reply.{Reply}
 use Rattle.reference.specs.declared.reply.Reply.TheVariants.{Done, Count, Data, Stat, Names, Fault}
 use Rattle.reference.specs.declared.reply.Kind.{Kind}
@@ -280,11 +278,3 @@ all_touching at (p ∷ ps) o = all_touching at ps (touching at p o)
 -- it puts or takes out an entry
 unfoldable pub does : ℕ → Tree → Call → Outcome
 does at t c = all_touching at (parents_of c) (changed at t c)
-
--- the call that makes or removes what is at a path
-abbrev pub call_at : PathCall → Path → Call
-call_at on.Mkdir p = Mkdir p
-call_at on.Create p = Create p
-call_at on.Unlink p = Unlink p
-call_at on.Rmdir p = Rmdir p
-call_at on.Rmtree p = Rmtree p

@@ -29,18 +29,3 @@ pub enum Call {
     /// Lists a directory (readdir, in byte order of names).
     Readdir(Path),
 }
-
-/// A call that makes or removes what is at one path, and returns nothing.
-#[derive(Clone, Copy, Debug, PartialEq, Eq)]
-pub enum PathCall {
-    /// Makes an empty directory.
-    Mkdir,
-    /// Makes an empty file.
-    Create,
-    /// Takes a file out.
-    Unlink,
-    /// Takes an empty directory out.
-    Rmdir,
-    /// Takes a file out, or a directory with all below it.
-    Rmtree,
-}

@@ -4,7 +4,7 @@
 //! and one that only looks has its answer at every moment. A volume and a frozen tree are asked alike; on a
 //! frozen tree the names begin with `try_`, since `read`, `stat` and `readdir` give the replies themselves there.
 ghost use Rattle.std.specs.Prelude.{◌≡◌, ℕ};
-ghost use Rattle.reference.specs.Calls.{call_at};
+ghost use Rattle.reference.specs.PathCalls.{call_at};
 ghost use Rattle.reference.specs.Pairs.{pairs_of};
 ghost use Rattle.reference.specs.declared.call.Call.{Call as FileCall};
 ghost use Rattle.volume.specs.Changes.{Called};
