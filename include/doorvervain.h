@@ -678,9 +678,11 @@ static inline uint8_t doorvervain_apply_delta(struct doorvervain *fs, const uint
 
 // ---- compaction
 
-// Compacts the trees: does at most `steps` steps, each of which moves pending changes down from the fullest slot. Returns
-// how many steps it tried, fewer than `steps` only if nothing is pending. It changes no result of any call. Call it now
-// and then, or never. Returns 0 for a closed volume or a null pointer.
+// Compacts the trees: does at most `steps` steps, each of which moves pending changes down from the fullest slot, or makes
+// room for that. Returns how many steps it did, fewer than `steps` only if nothing is pending or the next step cannot be
+// done: an allocation failed, or no step was found that has room, which can happen at the smallest shapes, and a later
+// change may end it. It changes no result of any call. Call it now and then, or never. Returns 0 for a closed volume or a
+// null pointer.
 static inline uint32_t doorvervain_compact(struct doorvervain *fs, uint32_t steps) {
     return doorvervain_bad_args(fs, NULL, 0) ? 0 : doorvervain_raw_compact(fs, steps);
 }
