@@ -31,10 +31,10 @@ fn compact_once(alloc: Global, volume: &mut Volume) -> bool
     ensures rest { result ≡ false → IsIdle volume.new ⊎ IsStuck volume.new }
     ensures means { (w : World) → Means volume.old w → Means volume.new w }
 {
-    let Some(turn) = volume.compact_step(alloc) else {
-        return false;
-    };
-    is_done(turn.reply)
+    match volume.compact_step(alloc) {
+        Some(turn) => is_done(turn.reply),
+        None => false,
+    }
 }
 
 /// Whether a step was done.
