@@ -73,11 +73,11 @@ struct backend_ops {
 
 // Where the record of an entry's attributes lies, and its text: functions of the archive, as its header has them.
 struct attr_ops {
-    uint8_t (*record_dir)(const uint8_t *path, size_t length, uint8_t *out, size_t capacity, size_t *size);
-    uint8_t (*record_path)(const uint8_t *path, size_t length, uint8_t *out, size_t capacity, size_t *size);
-    uint8_t (*print)(const struct doorvervain_attributes *attributes, const uint8_t *extended, size_t extended_length,
-                     uint8_t *out, size_t capacity, size_t *size);
-    uint8_t (*parse)(const uint8_t *text, size_t length, struct doorvervain_attributes *out, uint8_t *extended,
+    uint8_t (*record_dir)(const char *path, size_t length, void *out, size_t capacity, size_t *size);
+    uint8_t (*record_path)(const char *path, size_t length, void *out, size_t capacity, size_t *size);
+    uint8_t (*print)(const struct doorvervain_attributes *attributes, const void *extended, size_t extended_length,
+                     void *out, size_t capacity, size_t *size);
+    uint8_t (*parse)(const void *text, size_t length, struct doorvervain_attributes *out, void *extended,
                      size_t capacity, size_t *size);
 };
 
