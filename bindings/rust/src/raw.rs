@@ -3,7 +3,8 @@
 //! The obligations of a caller of the library, and how they are met:
 //! - *No null pointer, and no volume that is closed*: a handle owns a volume from its creation to its drop, and a slice is never
 //!   null.
-//! - *One thread at a time in a volume and in the trees frozen from it*: they share one lock, which each call holds.
+//! - *One thread at a time in a volume and in the trees frozen from it*: they share one lock, which each call holds. A fork has a
+//!   lock of its own: volumes that share nodes may be used by different threads at once.
 //! - *Bytes that a call writes overlap no others*: they are borrowed by `&mut`.
 #![allow(unsafe_code)]
 
@@ -73,6 +74,9 @@ extern "C" {
     fn doorvervain_raw_load_finish(loader: RawHandle, line: *mut u64, out: *mut RawHandle) -> u8;
     fn doorvervain_raw_load_abort(loader: RawHandle);
     fn doorvervain_raw_freeze(fs: *mut RawHandle, out: *mut RawHandle) -> u8;
+    fn doorvervain_raw_fork(fs: *mut RawHandle, out: *mut RawHandle) -> u8;
+    fn doorvervain_raw_frozen_fork(tree: *mut RawHandle, out: *mut RawHandle) -> u8;
+    fn doorvervain_raw_restore_frozen(fs: *mut RawHandle, tree: *mut RawHandle) -> u8;
     fn doorvervain_raw_open_snapshot(fs: *mut RawHandle, name: *const u8, length: usize, out: *mut RawHandle) -> u8;
     fn doorvervain_raw_frozen_read(
         tree: *mut RawHandle, path: *const u8, length: usize, offset: u64, out: *mut u8, capacity: usize, got: *mut usize,
@@ -349,6 +353,21 @@ impl VolumeHandle {
         Ok(FrozenHandle(Held::new(&out, Arc::clone(&held.lock))?))
     }
 
+    pub(crate) fn fork(&self) -> Result<VolumeHandle, Errno> {
+        let held = &self.0;
+        let _lock = held.locked();
+        let mut out = CLOSED;
+        done(unsafe { doorvervain_raw_fork(&mut held.raw(), &mut out) })?;
+        Ok(VolumeHandle(Held::new(&out, Arc::default())?))
+    }
+
+    /// The frozen tree is borrowed, so it is not closed meanwhile. Its own lock is not needed: the call only looks at it.
+    pub(crate) fn restore_frozen(&mut self, tree: &FrozenHandle) -> Result<(), Errno> {
+        let held = &self.0;
+        let _lock = held.locked();
+        done(unsafe { doorvervain_raw_restore_frozen(&mut held.raw(), &mut tree.0.raw()) })
+    }
+
     pub(crate) fn open_snapshot(&self, name: &[u8]) -> Result<FrozenHandle, Errno> {
         let held = &self.0;
         let _lock = held.locked();
@@ -393,6 +412,15 @@ impl VolumeHandle {
 }
 
 impl FrozenHandle {
+    pub(crate) fn fork(&self) -> Result<VolumeHandle, Errno> {
+        let held = &self.0;
+        let _lock = held.locked();
+        let mut out = CLOSED;
+        // SAFETY: the tree is there, under its lock; the out-parameter can be written.
+        done(unsafe { doorvervain_raw_frozen_fork(&mut held.raw(), &mut out) })?;
+        Ok(VolumeHandle(Held::new(&out, Arc::default())?))
+    }
+
     pub(crate) fn image(&self) -> Result<Vec<u8>, Errno> {
         let held = &self.0;
         let _lock = held.locked();

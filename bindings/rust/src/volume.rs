@@ -517,6 +517,45 @@ impl Volume {
         })
     }
 
+    /// Makes a volume of its own with the current tree and the same shape, in constant time, without snapshots. Later changes of one
+    /// do not affect the other, and each may be used by a thread of its own.
+    ///
+    /// ```
+    /// # use doorvervain::{Errno, Volume};
+    /// let mut volume = Volume::new()?;
+    /// volume.create("/x", 0)?;
+    /// let mut fork = volume.fork()?;
+    /// fork.unlink("/x", 0)?;
+    /// assert_eq!((volume.exists("/x"), fork.exists("/x")), (Ok(true), Ok(false)));
+    /// # Ok::<(), Errno>(())
+    /// ```
+    ///
+    /// # Errors
+    /// `ENOMEM`.
+    pub fn fork(&self) -> Result<Volume, Errno> {
+        Ok(Volume {
+            handle: self.handle.fork()?,
+        })
+    }
+
+    /// Restores the volume's tree from a frozen one, also of another volume, whose shape the volume then has. The snapshots stay.
+    ///
+    /// ```
+    /// # use doorvervain::{Errno, Volume};
+    /// let mut volume = Volume::new()?;
+    /// let empty = volume.freeze()?;
+    /// volume.create("/x", 0)?;
+    /// volume.restore_frozen(&empty)?;
+    /// assert!(volume.readdir("/")?.is_empty());
+    /// # Ok::<(), Errno>(())
+    /// ```
+    ///
+    /// # Errors
+    /// `ENOMEM`.
+    pub fn restore_frozen(&mut self, tree: &Frozen) -> Result<(), Errno> {
+        self.handle.restore_frozen(&tree.handle)
+    }
+
     /// Opens a snapshot for reading.
     ///
     /// # Errors
@@ -594,6 +633,17 @@ impl Volume {
 }
 
 impl Frozen {
+    /// Makes a volume of its own with this tree and its shape, in constant time, without snapshots. Later changes of it do not affect
+    /// the tree.
+    ///
+    /// # Errors
+    /// `ENOMEM`.
+    pub fn fork(&self) -> Result<Volume, Errno> {
+        Ok(Volume {
+            handle: self.handle.fork()?,
+        })
+    }
+
     /// The image of the tree: text that [`Volume::load`] accepts.
     ///
     /// # Errors
