@@ -13,10 +13,8 @@
 
 enum { LEAST_ROOM = 1 << 20 };
 
-static const uint8_t *text(const char *word) { return (const uint8_t *)word; }
-
 static uint8_t print_into(struct bytes *out, struct doorvervain *tree, const char *from, const char *to, size_t *size) {
-    return doorvervain_delta(tree, text(from), strlen(from), text(to), strlen(to), (uint8_t *)out->at, out->capacity,
+    return doorvervain_delta(tree, from, strlen(from), to, strlen(to), (uint8_t *)out->at, out->capacity,
                              size);
 }
 

@@ -17,7 +17,7 @@ int text_of(PyObject *given, struct text *text) {
         plain = encoded;
     }
     text->owner = plain;
-    text->at = (const uint8_t *)PyBytes_AsString(plain);
+    text->at = PyBytes_AsString(plain);
     text->length = (size_t)PyBytes_Size(plain);
     return 0;
 }

@@ -81,7 +81,7 @@ static PyObject *volume_load(PyObject *self, PyObject *words) {
     Py_RETURN_NONE;
 }
 
-typedef uint8_t (*path_fn)(struct doorvervain *fs, const uint8_t *path, size_t length, uint64_t at);
+typedef uint8_t (*path_fn)(struct doorvervain *fs, const char *path, size_t length, uint64_t at);
 
 // Makes a call that changes the entry at one path.
 static PyObject *path_call(
@@ -124,7 +124,7 @@ static PyObject *volume_rmtree(PyObject *self, PyObject *const *words, Py_ssize_
 }
 
 // Creates an empty file, or truncates the one that exists.
-static uint8_t emptied(struct doorvervain *fs, const uint8_t *path, size_t length, uint64_t at) {
+static uint8_t emptied(struct doorvervain *fs, const char *path, size_t length, uint64_t at) {
     uint8_t number = doorvervain_create(fs, path, length, at);
     return number == DOORVERVAIN_EEXIST ? doorvervain_truncate(fs, path, length, 0, at) : number;
 }
@@ -262,7 +262,7 @@ static PyObject *volume_write_bytes(PyObject *self, PyObject *const *words, Py_s
 
 // ---- snapshots
 
-typedef uint8_t (*snapshot_fn)(struct doorvervain *fs, const uint8_t *name, size_t length);
+typedef uint8_t (*snapshot_fn)(struct doorvervain *fs, const char *name, size_t length);
 
 // Makes a call that takes the name of a snapshot, without the interpreter's lock if it may free a tree.
 static PyObject *snapshot_call(PyObject *self, PyObject *name, snapshot_fn call, int is_long) {
