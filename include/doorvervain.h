@@ -508,30 +508,35 @@ static inline uint8_t doorvervain_open_snapshot(
     return doorvervain_raw_open_snapshot(&same, doorvervain_in(name), length, out);
 }
 
-// Forks a volume, in constant time: `out` gets a volume of its own with the current tree and the same shape, without
-// snapshots. Later changes of one do not affect the other. What `out` held before is not freed. ENOMEM. If it fails, `out`
-// is closed.
-static inline uint8_t doorvervain_fork(struct doorvervain *fs, struct doorvervain *out) {
+// Forks a volume, in constant time: `out` gets a volume of its own with the current tree and the same shape, without snapshots. Later
+// changes of one do not affect the other. What `out` held before is not freed. Fails with ENOMEM, and `out` is closed then.
+static inline uint8_t doorvervain_fork(const struct doorvervain *fs, struct doorvervain *out) {
     if (!out) return DOORVERVAIN_NULL;
     out->ptr = NULL;
     uint8_t err = doorvervain_bad_args(fs, NULL, 0);
-    return err ? err : doorvervain_raw_fork(fs, out);
+    if (err) return err;
+    struct doorvervain same = *fs;
+    return doorvervain_raw_fork(&same, out);
 }
 
 // Forks a frozen tree, as doorvervain_fork does for a volume. The tree stays as it is.
-static inline uint8_t doorvervain_frozen_fork(struct doorvervain_frozen *tree, struct doorvervain *out) {
+static inline uint8_t doorvervain_frozen_fork(const struct doorvervain_frozen *tree, struct doorvervain *out) {
     if (!out) return DOORVERVAIN_NULL;
     out->ptr = NULL;
     uint8_t err = doorvervain_frozen_bad_args(tree, NULL, 0);
-    return err ? err : doorvervain_raw_frozen_fork(tree, out);
+    if (err) return err;
+    struct doorvervain_frozen same = *tree;
+    return doorvervain_raw_frozen_fork(&same, out);
 }
 
-// Restores the volume's tree from a frozen one, also of another volume, whose shape the volume then has. The frozen tree stays
-// as it is, and so do the volume's snapshots. ENOMEM.
-static inline uint8_t doorvervain_restore_frozen(struct doorvervain *fs, struct doorvervain_frozen *tree) {
+// Restores the volume's tree from a frozen one, also of another volume, whose shape the volume then has. The frozen tree stays as it is,
+// and so do the volume's snapshots. Fails with ENOMEM.
+static inline uint8_t doorvervain_restore_frozen(struct doorvervain *fs, const struct doorvervain_frozen *tree) {
     uint8_t err = doorvervain_bad_args(fs, NULL, 0);
     if (!err) err = doorvervain_frozen_bad_args(tree, NULL, 0);
-    return err ? err : doorvervain_raw_restore_frozen(fs, tree);
+    if (err) return err;
+    struct doorvervain_frozen same = *tree;
+    return doorvervain_raw_restore_frozen(fs, &same);
 }
 
 // Reads a file of a frozen tree, as doorvervain_read does for a volume.

@@ -362,7 +362,7 @@ impl VolumeHandle {
     }
 
     /// The frozen tree is borrowed, so it is not closed meanwhile. Its own lock is not needed: the call only looks at it.
-    pub(crate) fn restore_frozen(&mut self, tree: &FrozenHandle) -> Result<(), Errno> {
+    pub(crate) fn restore_frozen(&self, tree: &FrozenHandle) -> Result<(), Errno> {
         let held = &self.0;
         let _lock = held.locked();
         done(unsafe { doorvervain_raw_restore_frozen(&mut held.raw(), &mut tree.0.raw()) })

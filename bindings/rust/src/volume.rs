@@ -4,6 +4,7 @@ use crate::listing::{Listing, Lists, Stat, Walk};
 use crate::raw::{FrozenHandle, LoaderHandle, PathCall, Printer, Reads, SnapshotCall, VolumeHandle};
 use std::os::unix::ffi::OsStrExt;
 use std::path::Path;
+use std::sync::Arc;
 use std::time::{SystemTime, UNIX_EPOCH};
 use std::{fmt, io};
 
@@ -44,7 +45,7 @@ impl Default for Shape {
 const PIECE: usize = 1 << 16;
 
 /// What returns the timestamp of a change.
-type Clock = Box<dyn Fn() -> u64 + Send>;
+type Clock = Arc<dyn Fn() -> u64 + Send + Sync>;
 
 /// The time of the system in nanoseconds since 1970; 0 before that.
 fn system_time() -> u64 {
@@ -380,7 +381,7 @@ impl Volume {
 
     /// A volume over a handle, with the clock of the system.
     fn over(handle: VolumeHandle) -> Volume {
-        let clock = Box::new(system_time);
+        let clock = Arc::new(system_time);
         Volume { handle, clock }
     }
 
@@ -447,8 +448,8 @@ impl Volume {
     /// assert_eq!(volume.stat("/a")?.modified, 7);
     /// # Ok::<(), Errno>(())
     /// ```
-    pub fn set_clock<C: Fn() -> u64 + Send + 'static>(&mut self, clock: C) {
-        self.clock = Box::new(clock);
+    pub fn set_clock<C: Fn() -> u64 + Send + Sync + 'static>(&mut self, clock: C) {
+        self.clock = Arc::new(clock);
     }
 
     /// The volume with changes at this timestamp, a number that need not increase, in place of the time of its clock.
@@ -518,14 +519,14 @@ impl Volume {
     }
 
     /// Makes a volume of its own with the current tree and the same shape, in constant time, without snapshots. Later changes of one
-    /// do not affect the other, and each may be used by a thread of its own.
+    /// do not affect the other, and each may be used by a thread of its own. They have one clock.
     ///
     /// ```
     /// # use doorvervain::{Errno, Volume};
-    /// let mut volume = Volume::new()?;
-    /// volume.create("/x", 0)?;
-    /// let mut fork = volume.fork()?;
-    /// fork.unlink("/x", 0)?;
+    /// let volume = Volume::new()?;
+    /// volume.create("/x")?;
+    /// let fork = volume.fork()?;
+    /// fork.unlink("/x")?;
     /// assert_eq!((volume.exists("/x"), fork.exists("/x")), (Ok(true), Ok(false)));
     /// # Ok::<(), Errno>(())
     /// ```
@@ -535,6 +536,7 @@ impl Volume {
     pub fn fork(&self) -> Result<Volume, Errno> {
         Ok(Volume {
             handle: self.handle.fork()?,
+            clock: Arc::clone(&self.clock),
         })
     }
 
@@ -542,9 +544,9 @@ impl Volume {
     ///
     /// ```
     /// # use doorvervain::{Errno, Volume};
-    /// let mut volume = Volume::new()?;
+    /// let volume = Volume::new()?;
     /// let empty = volume.freeze()?;
-    /// volume.create("/x", 0)?;
+    /// volume.create("/x")?;
     /// volume.restore_frozen(&empty)?;
     /// assert!(volume.readdir("/")?.is_empty());
     /// # Ok::<(), Errno>(())
@@ -552,7 +554,7 @@ impl Volume {
     ///
     /// # Errors
     /// `ENOMEM`.
-    pub fn restore_frozen(&mut self, tree: &Frozen) -> Result<(), Errno> {
+    pub fn restore_frozen(&self, tree: &Frozen) -> Result<(), Errno> {
         self.handle.restore_frozen(&tree.handle)
     }
 
@@ -639,9 +641,7 @@ impl Frozen {
     /// # Errors
     /// `ENOMEM`.
     pub fn fork(&self) -> Result<Volume, Errno> {
-        Ok(Volume {
-            handle: self.handle.fork()?,
-        })
+        self.handle.fork().map(Volume::over)
     }
 
     /// The image of the tree: text that [`Volume::load`] accepts.

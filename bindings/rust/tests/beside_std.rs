@@ -389,3 +389,23 @@ fn a_hole() -> Result<(), Errno> {
     assert_eq!(volume.punch("/", 0, 1), Err(Errno::EISDIR));
     Ok(())
 }
+
+#[test]
+fn forks_are_apart() -> Result<(), Errno> {
+    let mut volume = Volume::default();
+    volume.set_clock(|| 9);
+    volume.write("/f", "one")?;
+    let tree = volume.freeze()?;
+    let (fork, of_tree) = (volume.fork()?, tree.fork()?);
+    fork.write("/f", "two")?;
+    of_tree.unlink("/f")?;
+    assert_eq!(fork.stat("/f")?.modified, 9);
+    assert_eq!(
+        (volume.read("/f")?, fork.read("/f")?),
+        (b"one".to_vec(), b"two".to_vec())
+    );
+    assert_eq!(of_tree.exists("/f"), Ok(false));
+    fork.restore_frozen(&tree)?;
+    assert_eq!(tree_of(&fork), tree_of(&volume));
+    Ok(())
+}
