@@ -145,6 +145,9 @@ uint8_t doorvervain_raw_restore(struct doorvervain *fs, const uint8_t *name, siz
 uint8_t doorvervain_raw_snapshot_name(
     struct doorvervain *fs, size_t index, uint8_t *out, size_t capacity, size_t *size);
 uint8_t doorvervain_raw_freeze(struct doorvervain *fs, struct doorvervain_frozen *out);
+uint8_t doorvervain_raw_fork(struct doorvervain *fs, struct doorvervain *out);
+uint8_t doorvervain_raw_frozen_fork(struct doorvervain_frozen *tree, struct doorvervain *out);
+uint8_t doorvervain_raw_restore_frozen(struct doorvervain *fs, struct doorvervain_frozen *tree);
 uint8_t doorvervain_raw_open_snapshot(
     struct doorvervain *fs, const uint8_t *name, size_t length, struct doorvervain_frozen *out);
 uint8_t doorvervain_raw_frozen_read(struct doorvervain_frozen *tree, const uint8_t *path, size_t length,
@@ -449,6 +452,32 @@ static inline uint8_t doorvervain_open_snapshot(
     out->ptr = NULL;
     uint8_t err = doorvervain_bad_args(fs, name, length);
     return err ? err : doorvervain_raw_open_snapshot(fs, doorvervain_in(name), length, out);
+}
+
+// Forks a volume, in constant time: `out` gets a volume of its own with the current tree and the same shape, without
+// snapshots. Later changes of one do not affect the other. What `out` held before is not freed. ENOMEM. If it fails, `out`
+// is closed.
+static inline uint8_t doorvervain_fork(struct doorvervain *fs, struct doorvervain *out) {
+    if (!out) return DOORVERVAIN_NULL;
+    out->ptr = NULL;
+    uint8_t err = doorvervain_bad_args(fs, NULL, 0);
+    return err ? err : doorvervain_raw_fork(fs, out);
+}
+
+// Forks a frozen tree, as doorvervain_fork does for a volume. The tree stays as it is.
+static inline uint8_t doorvervain_frozen_fork(struct doorvervain_frozen *tree, struct doorvervain *out) {
+    if (!out) return DOORVERVAIN_NULL;
+    out->ptr = NULL;
+    uint8_t err = doorvervain_frozen_bad_args(tree, NULL, 0);
+    return err ? err : doorvervain_raw_frozen_fork(tree, out);
+}
+
+// Restores the volume's tree from a frozen one, also of another volume, whose shape the volume then has. The frozen tree stays
+// as it is, and so do the volume's snapshots. ENOMEM.
+static inline uint8_t doorvervain_restore_frozen(struct doorvervain *fs, struct doorvervain_frozen *tree) {
+    uint8_t err = doorvervain_bad_args(fs, NULL, 0);
+    if (!err) err = doorvervain_frozen_bad_args(tree, NULL, 0);
+    return err ? err : doorvervain_raw_restore_frozen(fs, tree);
 }
 
 // Reads a file of a frozen tree, as doorvervain_read does for a volume.
