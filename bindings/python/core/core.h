@@ -31,7 +31,7 @@ enum { MORE = Py_TPFLAGS_DEFAULT | Py_TPFLAGS_BASETYPE, COMMON = MORE | Py_TPFLA
 // module, which is never unloaded.
 struct known {
     PyObject *stat, *entry, *bad_image, *bad_delta, *time_ns;
-    PyTypeObject *lock, *volume;
+    PyTypeObject *lock, *tree, *volume, *frozen;
 };
 extern struct known known;
 
@@ -59,6 +59,11 @@ typedef struct {
 // Takes the lock of a tree. -1 with an exception if it was never begun.
 int enter(Tree *tree);
 void leave(Tree *tree);
+
+// Takes the locks of two trees, which may be one: that with the lower address first, so that two threads that take the same
+// two never wait for each other. -1 with an exception if one was never begun.
+int enter_both(Tree *one, Tree *other);
+void leave_both(Tree *one, Tree *other);
 int is_open(const Tree *tree);
 
 // Initialises a tree: it gets a lock, which is `lock` if that is not null. -1 with an exception.

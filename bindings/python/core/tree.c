@@ -18,6 +18,19 @@ int enter(Tree *tree) {
 
 void leave(Tree *tree) { lock_give(tree->lock); }
 
+int enter_both(Tree *one, Tree *other) {
+    Tree *first = (uintptr_t)one->lock < (uintptr_t)other->lock ? one : other;
+    if (enter(first)) return -1;
+    if (!enter(first == one ? other : one)) return 0;
+    leave(first);
+    return -1;
+}
+
+void leave_both(Tree *one, Tree *other) {
+    leave(one);
+    leave(other);
+}
+
 int is_open(const Tree *tree) { return tree->volume.ptr || tree->frozen.ptr; }
 
 static uint8_t look_read(

@@ -283,7 +283,37 @@ static PyObject *snapshot_call(PyObject *self, PyObject *name, snapshot_fn call,
 
 static PyObject *volume_snapshot(PyObject *self, PyObject *name) { return snapshot_call(self, name, doorvervain_snapshot, 0); }
 static PyObject *volume_drop_snapshot(PyObject *self, PyObject *name) { return snapshot_call(self, name, doorvervain_drop_snapshot, 1); }
-static PyObject *volume_restore(PyObject *self, PyObject *name) { return snapshot_call(self, name, doorvervain_restore, 1); }
+
+// Restores a frozen tree, which may be one of another volume. The tree that was there may be freed.
+static PyObject *restore_frozen(Tree *tree, Tree *frozen) {
+    uint8_t number;
+    if (enter_both(tree, frozen)) return NULL;
+    Py_BEGIN_ALLOW_THREADS
+    number = doorvervain_restore_frozen(&tree->volume, &frozen->frozen);
+    Py_END_ALLOW_THREADS
+    leave_both(tree, frozen);
+    return answer(number, NULL);
+}
+
+static PyObject *volume_restore(PyObject *self, PyObject *from) {
+    if (PyObject_TypeCheck(from, known.frozen)) return restore_frozen((Tree *)self, (Tree *)from);
+    return snapshot_call(self, from, doorvervain_restore, 1);
+}
+
+// Initialises a volume as the fork of a volume or a frozen tree.
+static PyObject *volume_fork_of(PyObject *self, PyObject *words) {
+    PyObject *given, *clock;
+    struct doorvervain made = {NULL};
+    if (!PyArg_ParseTuple(words, "O!O:fork", known.tree, &given, &clock)) return NULL;
+    Tree *from = (Tree *)given;
+    if (begin((Tree *)self, NULL) || enter(from)) return NULL;
+    uint8_t number =
+        from->frozen.ptr ? doorvervain_frozen_fork(&from->frozen, &made) : doorvervain_fork(&from->volume, &made);
+    leave(from);
+    if (number) return refuse(number, NULL, NULL);
+    volume_begins((Tree *)self, made, clock == Py_None && from->clock ? from->clock : clock);
+    Py_RETURN_NONE;
+}
 
 // The list of the names of all snapshots, under the lock.
 static PyObject *names_of(struct doorvervain *fs) {
@@ -387,6 +417,7 @@ static PyObject *volume_compact(PyObject *self, PyObject *const *words, Py_ssize
 
 static PyMethodDef volume_methods[] = {
     {"_load", volume_load, METH_VARARGS, "Initialises the volume from an image."},
+    {"_fork_of", volume_fork_of, METH_VARARGS, "Initialises the volume as the fork of a volume or a frozen tree."},
     {"mkdir", FAST(volume_mkdir), "mkdir($self, /, path, *, at=None)\n--\n\nCreates an empty directory."},
     {"create", FAST(volume_create),
         "create($self, /, path, *, at=None)\n--\n\nCreates an empty file."},
@@ -422,7 +453,15 @@ static PyMethodDef volume_methods[] = {
         "([], ['empty'])\n"},
     {"drop_snapshot", volume_drop_snapshot, METH_O, "drop_snapshot($self, name, /)\n--\n\nDrops a snapshot."},
     {"restore", volume_restore, METH_O,
-        "restore($self, name, /)\n--\n\nRestores the volume's tree from a snapshot, which is kept."},
+        "restore($self, source, /)\n--\n\n"
+        "Restores the volume's tree from the snapshot of that name, or from a frozen tree, also one of another volume. Either is\n"
+        "kept.\n\n"
+        ">>> volume = Volume()\n"
+        ">>> empty = volume.freeze()\n"
+        ">>> volume.create(\"/x\")\n"
+        ">>> volume.restore(empty)\n"
+        ">>> volume.listdir()\n"
+        "[]\n"},
     {"snapshots", volume_snapshots, METH_NOARGS, "snapshots($self, /)\n--\n\nThe names of the snapshots, in order."},
     {"delta", FAST(volume_delta),
         "delta($self, /, old, new='')\n--\n\n"

@@ -1,7 +1,7 @@
 """Volumes and frozen trees.
 
 A volume and the trees that were frozen from it share nodes, so each call into any of them holds one lock. The lock is
-reentrant: a method that makes two calls, as an append, holds it throughout.
+reentrant: a method that makes two calls, as an append, holds it throughout. A fork has a lock of its own.
 """
 from __future__ import annotations
 
@@ -138,6 +138,18 @@ class Volume(Tree, _core.Volume):
         """Freezes the current tree, which later changes do not affect."""
         return Frozen(self)
 
+    def fork(self, *, clock: Optional[Callable[[], int]] = None) -> "Volume":
+        """A volume of its own with the current tree, the same shape and the same clock if none is given, in constant time and
+        without snapshots. Later changes of one do not affect the other, and other threads may use it at the same time.
+
+        >>> volume = Volume()
+        >>> fork = volume.fork()
+        >>> fork.create("/x")
+        >>> fork.listdir(), volume.listdir()
+        (['x'], [])
+        """
+        return _forked(self, clock)
+
     def open_snapshot(self, name: Union[str, bytes]) -> "Frozen":
         """Opens a snapshot for reading."""
         return Frozen(self, name)
@@ -165,6 +177,17 @@ class Frozen(Tree, _core.Frozen):
     ...     tree.listdir(), volume.listdir()
     (['x'], [])
     """
+
+    def fork(self, *, clock: Optional[Callable[[], int]] = None) -> Volume:
+        """A volume of its own with this tree and its shape, in constant time and without snapshots. Later changes of it do not
+        affect the tree. Its clock is the system's if none is given."""
+        return _forked(self, clock)
+
+
+def _forked(tree: Tree, clock: Optional[Callable[[], int]]) -> Volume:
+    volume = Volume.__new__(Volume)
+    volume._fork_of(tree, clock)
+    return volume
 
 
 def _text(path: StrPath) -> str:
