@@ -455,13 +455,7 @@ static PyMethodDef volume_methods[] = {
     {"restore", volume_restore, METH_O,
         "restore($self, source, /)\n--\n\n"
         "Restores the volume's tree from the snapshot of that name, or from a frozen tree, also one of another volume. Either is\n"
-        "kept.\n\n"
-        ">>> volume = Volume()\n"
-        ">>> empty = volume.freeze()\n"
-        ">>> volume.create(\"/x\")\n"
-        ">>> volume.restore(empty)\n"
-        ">>> volume.listdir()\n"
-        "[]\n"},
+        "kept."},
     {"snapshots", volume_snapshots, METH_NOARGS, "snapshots($self, /)\n--\n\nThe names of the snapshots, in order."},
     {"delta", FAST(volume_delta),
         "delta($self, /, old, new='')\n--\n\n"
