@@ -208,7 +208,7 @@ class Files(unittest.TestCase):
         refused(self, FileExistsError, errno.EEXIST, self.volume.makedirs, "/a/b/c")
         self.volume.create("/a/f")
         refused(self, FileExistsError, errno.EEXIST, self.volume.makedirs, "/a/f", exist_ok=True)
-        refused(self, FileExistsError, errno.EEXIST, self.volume.makedirs, "/a/f/x/y")
+        refused(self, NotADirectoryError, errno.ENOTDIR, self.volume.makedirs, "/a/f/x/y")
 
     def test_walks(self):
         for path in ["/b/x", "/a/y", "/a-"]:
