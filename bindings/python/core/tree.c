@@ -126,6 +126,29 @@ static PyObject *tree_read(PyObject *self, PyObject *const *words, Py_ssize_t co
     return bytes;
 }
 
+static uint8_t look_extent(Tree *tree, const struct text *path, uint64_t offset, uint64_t *from, uint64_t *to) {
+    return tree->frozen.ptr ? doorvervain_frozen_next_extent(&tree->frozen, path->at, path->length, offset, from, to)
+                            : doorvervain_next_extent(&tree->volume, path->at, path->length, offset, from, to);
+}
+
+static const struct signature extent_signature = {"_next_extent", 2, 2, {"path", "offset"}};
+
+static PyObject *tree_next_extent(PyObject *self, PyObject *const *words, Py_ssize_t count, PyObject *named) {
+    Tree *tree = (Tree *)self;
+    PyObject *args[4], *done = NULL;
+    struct text path;
+    uint64_t offset, from, to;
+    if (words_of(&extent_signature, words, count, named, args) || place_of_bytes(args[1], args[0], &offset)) return NULL;
+    if (text_of(args[0], &path)) return NULL;
+    if (!enter(tree)) {
+        uint8_t number = look_extent(tree, &path, offset, &from, &to);
+        leave(tree);
+        done = number ? refuse(number, args[0], NULL) : Py_BuildValue("KK", (unsigned long long)from, (unsigned long long)to);
+    }
+    Py_DECREF(path.owner);
+    return done;
+}
+
 // ---- looking
 
 // Calls stat: -1 with an exception, or the number of the call.
@@ -421,6 +444,10 @@ static PyMethodDef tree_methods[] = {
         ">>> _ = volume.write_bytes(\"/greeting\", b\"hello, world\")\n"
         ">>> volume.read(\"/greeting\"), volume.read(\"/greeting\", 5, 7)\n"
         "(b'hello, world', b'world')\n"},
+    {"_next_extent", FAST(tree_next_extent),
+        "_next_extent($self, /, path, offset)\n--\n\n"
+        "The bytes of a file that are stored from the offset on, up to the next hole: the first, and that after the last. Both are\n"
+        "the file's size if there are none."},
     {"stat", tree_stat, METH_O,
         "stat($self, path, /)\n--\n\n"
         "The kind, size and mtime of the entry at a path.\n\n"

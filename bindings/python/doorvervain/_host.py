@@ -26,21 +26,14 @@ _KINDS = {
 }
 
 
-def is_zeros(piece: bytes) -> bool:
-    """Whether all bytes are zeros."""
-    return piece.count(0) == len(piece)
-
-
 def pieces(tree: "Tree", path: StrPath) -> Iterator[Tuple[int, bytes]]:
-    """The bytes of a file in pieces with their offsets, without those that are all zeros."""
-    offset = 0
-    while True:
-        piece = tree.read(path, _PIECE, offset)
-        if not is_zeros(piece):
-            yield offset, piece
-        offset += len(piece)
-        if len(piece) < _PIECE:
-            return
+    """The bytes of a file that are stored, in pieces with their offsets; all others are zeros."""
+    offset, size = 0, tree.stat(path).size
+    while offset < size:
+        start, end = tree._next_extent(path, offset)
+        for offset in range(start, end, _PIECE):
+            yield offset, tree.read(path, min(_PIECE, end - offset), offset)
+        offset = end
 
 
 # ---- into a volume
@@ -100,7 +93,7 @@ def _import_file(volume: "Volume", path: str, folder: _Folder, name: bytes) -> N
             piece = file.read(_PIECE)
             if not piece:
                 break
-            if not is_zeros(piece):
+            if piece.count(0) < len(piece):
                 volume.write(path, piece, offset)
             offset += len(piece)
         volume.truncate(path, offset, at=_mtime(state))

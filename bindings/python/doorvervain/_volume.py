@@ -94,7 +94,7 @@ class Tree(_core.Tree):
     def export_tree(self, host_path: HostPath, path: StrPath = "/") -> None:
         """Copies what is in the directory `path` into a directory of the system, which is created, or is there and empty:
         else an `OSError` with ENOTEMPTY. Entries keep their mtime, as far as the system's files have it, and get the
-        permissions of new ones. Blocks of zeros become holes. What was copied before an error stays."""
+        permissions of new ones; holes stay holes. What was copied before an error stays."""
         _host.export_tree(self, host_path, path)
 
     def walk(self, top: StrPath = "/") -> Iterator[Tuple[str, List[str], List[str]]]:

@@ -194,6 +194,26 @@ class Copies(unittest.TestCase):
         volume.copy("/empty", "/a/g")
         self.assertEqual(volume.stat("/a/g").size, 0)
 
+    def test_holes_are_copied_as_holes(self):
+        # (a terabyte, which nobody copies byte by byte)
+        size, at = 1 << 40, 7 << 33
+        volume = Volume()
+        volume.create("/f")
+        volume.truncate("/f", size)
+        volume.write("/f", b"here", at)
+        volume.copy("/f", "/g")
+        self.assertEqual((volume.stat("/g").size, volume.read("/g", 6, at - 1)), (size, b"\0here\0"))
+        self.assertEqual([(start <= at, end >= at + 4) for start, end in [volume._next_extent("/g", 0)]], [(True, True)])
+        self.assertEqual(volume._next_extent("/g", at + (1 << 20)), (size, size))
+        with tempfile.TemporaryDirectory() as folder:
+            volume.export_tree(folder + "/out")
+            told = os.stat(folder + "/out/g")
+            self.assertEqual(told.st_size, size)
+            self.assertLess(told.st_blocks * 512, 1 << 20)
+            with open(folder + "/out/g", "rb") as file:
+                file.seek(at)
+                self.assertEqual(file.read(6), b"here\0\0")
+
     def test_refusals(self):
         volume = Volume()
         volume.makedirs("/a/b")
