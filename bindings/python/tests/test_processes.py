@@ -4,6 +4,8 @@ import multiprocessing
 import os
 import pickle
 import signal
+import subprocess
+import sys
 import threading
 import time
 import unittest
@@ -135,6 +137,44 @@ class Forks(unittest.TestCase):
         for thread in [hammers, holds, lambda stops: stops.wait()]:
             self.beside_a_thread(many, thread)
         self.assertEqual(self.in_child(tree.listdir), "['d', 'f']")
+
+
+# A hook of an earlier one than the package's, so that its thread begins after the package has looked for threads.
+LATE_THREAD = """
+import os, signal, threading
+
+held, stops, volumes = threading.Event(), threading.Event(), []
+
+def holds():
+    with volumes[0]._lock:
+        held.set()
+        stops.wait()
+
+def begins():
+    threading.Thread(target=holds).start()
+    held.wait()
+
+os.register_at_fork(before=begins)
+from doorvervain import Volume
+volumes.append(Volume())
+child = os.fork()
+if child == 0:
+    signal.alarm(10)
+    try:
+        volumes[0].listdir()
+    except RuntimeError:
+        os._exit(7)
+    os._exit(0)
+status = os.waitpid(child, 0)[1]
+stops.set()
+print(os.WIFEXITED(status) and os.WEXITSTATUS(status))
+"""
+
+
+class LateThreads(unittest.TestCase):
+    def test_a_lock_that_is_held_as_the_process_forks(self):
+        said = subprocess.run([sys.executable, "-c", LATE_THREAD], check=True, stdout=subprocess.PIPE, text=True, timeout=60).stdout
+        self.assertEqual(said, "7\n")
 
 
 if __name__ == "__main__":
