@@ -173,7 +173,8 @@ class Volume(Tree, _core.Volume):
 
     A path begins with a slash, and has no empty name, `.` or `..`. A change has the timestamp `at`; if none is
     given, that of the clock, in nanoseconds since 1970. An error is an `OSError` of the subclass that Python has for its
-    number, and then nothing has changed; only what `makedirs`, `copy` and `import_tree` did before it stays.
+    number, and then nothing has changed. `makedirs`, `copy` and `import_tree` make many changes, and leave those before the one
+    that failed.
 
     A pickle of a volume has its tree as an image, its shape and its clock, and no snapshots. `copy.copy` and `copy.deepcopy`
     give a fork.
