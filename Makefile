@@ -154,10 +154,10 @@ $(OUT)/rust.built: $(OUT)/lib/libdoorvervain.a $(wildcard bindings/rust/src/*) b
 	    $(CARGO) build --release --offline --quiet --manifest-path bindings/rust/Cargo.toml
 	@touch $@
 
-mount: $(ARCHIVE) $(HEAP)
+mount: $(ARCHIVE)
 	+@packaging/part mount compiles $(MAKE) -C mount $(TO_MOUNT)
 
-TO_MOUNT = OUT='$(OUT)' LIBRARY='$(abspath $(ARCHIVE))' HEAP='$(abspath $(HEAP))' PREFIX='$(PREFIX)' DESTDIR='$(DESTDIR)'
+TO_MOUNT = OUT='$(OUT)' LIBRARY='$(abspath $(ARCHIVE))' PREFIX='$(PREFIX)' DESTDIR='$(DESTDIR)'
 
 # ---- pages of the manual
 

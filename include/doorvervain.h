@@ -25,7 +25,8 @@
 //   - Set `ptr` to null before the first use (`struct doorvervain fs = {0};`), and do not change it.
 //   - A copy of a struct is the same volume. Do not use a copy after a close: that is a use of freed memory.
 //   - A volume and the trees frozen from it share nodes, so only one thread at a time may call any of them: put one
-//     lock around them, or keep them on one thread. Two volumes that were opened separately share nothing.
+//     lock around them, or keep them on one thread. Any two volumes may be called by two threads at once, also a volume
+//     and a fork of it: a node that both have is never changed, but copied.
 //   - A pointer with a length points to at least that many bytes. Bytes that a call writes overlap no bytes that it
 //     reads, and no other result.
 //   - Make no call from a signal handler, nor in the forked child of a process with threads.
@@ -812,9 +813,11 @@ static inline uint8_t doorvervain_apply_delta(struct doorvervain *fs, const void
 
 // ---- compaction
 
-// Compacts the trees: does at most `steps` steps, each of which moves pending changes down from the fullest slot. Returns the number of
-// steps that it tried, less than `steps` only if nothing is pending. It changes no result of any call. Call it now and then, or never.
-// Returns 0 for a closed volume or a null pointer.
+// Compacts the trees: does at most `steps` steps, each of which moves pending changes down from the fullest slot, or makes
+// room for that. Returns how many steps it did, fewer than `steps` only if nothing is pending or the next step cannot be
+// done: an allocation failed, or no step was found that has room, which can happen at the smallest shapes, and a later
+// change may end it. It changes no result of any call. Call it now and then, or never. Returns 0 for a closed volume or a
+// null pointer.
 static inline uint32_t doorvervain_compact(struct doorvervain *fs, uint32_t steps) {
     return doorvervain_bad_args(fs, NULL, 0) ? 0 : doorvervain_raw_compact(fs, steps);
 }

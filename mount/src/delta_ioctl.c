@@ -7,6 +7,7 @@
 #include "delta_parse.h"
 #include "memlimit.h"
 #include "snapshots.h"
+#include <assert.h>
 #include <errno.h>
 #include <string.h>
 
@@ -41,6 +42,7 @@ static int print_to_live(struct mount *mount, const char *from, struct bytes *ou
 }
 
 int delta_print(struct mount *mount, const struct send_request *wanted, struct bytes *out) {
+    assert(request_lock_is_held(mount));
     bool has_ends = memchr(wanted->from, 0, sizeof wanted->from) && memchr(wanted->to, 0, sizeof wanted->to);
     if (!mount->backend.tree) return EOPNOTSUPP;
     if (!has_ends || !wanted->from[0]) return EINVAL;
@@ -75,25 +77,27 @@ static int apply_once(struct mount *mount, const struct bytes *given) {
     return err;
 }
 
-static int apply(struct mount *mount, const struct bytes *given, struct bytes *stale) {
+static int apply(struct request *request, const struct bytes *given, struct bytes *stale) {
+    struct mount *mount = request->mount;
     int err;
     snapshot_before_switch(mount, stale);
     do {
-        memlimit_begin();
+        memlimit_begin(&request->budget);
         err = apply_once(mount, given);
-    } while (memlimit_retry(&mount->backend, &err));
+    } while (memlimit_retry(&request->budget, &mount->backend, &err));
     if (!err) inodes_renumber(mount->root);
     snapshot_after_switch(mount, err, stale);
     return err;
 }
 
-int delta_apply(struct mount *mount, const struct bytes *given, struct delta_answer *answer, struct bytes *stale) {
+int delta_apply(struct request *request, const struct bytes *given, struct delta_answer *answer, struct bytes *stale) {
+    assert(request_lock_is_held(request->mount));
     *answer = (struct delta_answer){DELTA_IS_DONE, 0};
-    if (!mount->backend.tree) return EOPNOTSUPP;
+    if (!request->mount->backend.tree) return EOPNOTSUPP;
     int err = delta_find_bad_line(given, &answer->line);
     if (!err && answer->line) answer->outcome = DELTA_IS_NONE;
     if (err || answer->line) return err;
-    err = apply(mount, given, stale);
+    err = apply(request, given, stale);
     if (err == ENOENT) answer->outcome = DELTA_IS_OF_OTHER;
     if (err == EINVAL) answer->outcome = DELTA_MAKES_NO_TREE;
     return answer->outcome ? 0 : err;

@@ -4,7 +4,7 @@
 // opened: so it is gone with whoever asked.
 #ifndef DELTA_IOCTL_H
 #define DELTA_IOCTL_H
-#include "mount.h"
+#include "request.h"
 #include <sys/ioctl.h>
 
 enum { DELTA_PIECE = 16000 };
@@ -39,5 +39,5 @@ struct delta_answer {
 int delta_print(struct mount *mount, const struct send_request *wanted, struct bytes *out);
 // The live tree becomes what a text makes of it, and snapshots stay. With a fault, and with another outcome, it is as
 // it was. What the kernel has to forget goes to `stale`, as with snapshot_restore.
-int delta_apply(struct mount *mount, const struct bytes *text, struct delta_answer *answer, struct bytes *stale);
+int delta_apply(struct request *request, const struct bytes *text, struct delta_answer *answer, struct bytes *stale);
 #endif

@@ -5,6 +5,7 @@
 #include "delta_print.h"
 #include "bytes.h"
 #include "text.h"
+#include "memlimit.h"
 #include <errno.h>
 #include <inttypes.h>
 #include <stdbool.h>
@@ -182,7 +183,7 @@ static int print_all(struct delta_printer *printer, const char *digits) {
 int delta_print_images(const struct delta_io *io, struct doorvervain_printer *old, struct doorvervain_printer *new,
                        char digits[SHA256_DIGITS + 1]) {
     struct sha256 sum;
-    struct delta_printer *printer = calloc(1, sizeof *printer);
+    struct delta_printer *printer = mem_calloc(1, sizeof *printer);
     if (!printer) return ENOMEM;
     printer->io = io;
     printer->old.image = old;
@@ -192,6 +193,6 @@ int delta_print_images(const struct delta_io *io, struct doorvervain_printer *ol
     if (!err) err = print_all(printer, digits);
     int other = sha256_end(&sum, digits);
     bytes_free(&printer->text);
-    free(printer);
+    mem_free(printer);
     return err ? err : other;
 }

@@ -6,6 +6,7 @@
 #include "image.h"
 #include "library.h"
 #include "backend.h"
+#include "memlimit.h"
 #include <errno.h>
 #include <fcntl.h>
 #include <inttypes.h>
@@ -15,7 +16,7 @@
 #include <unistd.h>
 
 // Each block of a write is one.
-enum { BLOCK = 4096, CHANGES_BEFORE_STEPS = 16, MOST_OWED = 1 << 20 };
+enum { BLOCK = 4096, CHANGES_BEFORE_STEPS = 16, MOST_OWED = 1 << 20, PIECE_OF_IMAGE = 1 << 16 };
 
 struct library {
     struct doorvervain volume;
@@ -28,7 +29,6 @@ struct library {
     char snapshot[LONGEST_SNAPSHOT + 1];
 };
 
-static uint8_t piece[1 << 16]; // of an image: one at a time is read or written
 
 // What a call's number says in <errno.h>. Behind some changes steps of the tree are due: a step that moves one change
 // down takes about as long as one that moves many.
@@ -43,9 +43,11 @@ static int done_many(struct library *library, uint8_t number, size_t changes) {
 
 static int done(struct library *library, uint8_t number) { return done_many(library, number, 1); }
 
-static int library_change(void *self, enum change what, const char *path, uint64_t at) {
+static int library_change(void *self, enum path_call what, const char *path, uint64_t at) {
     static uint8_t (*const calls[])(struct doorvervain *, const char *, size_t, uint64_t) = {
-        doorvervain_mkdir, doorvervain_create, doorvervain_unlink, doorvervain_rmdir, doorvervain_rmtree};
+        [CALL_MKDIR] = doorvervain_mkdir,   [CALL_CREATE] = doorvervain_create, [CALL_UNLINK] = doorvervain_unlink,
+        [CALL_RMDIR] = doorvervain_rmdir,   [CALL_RMTREE] = doorvervain_rmtree,
+    };
     struct library *library = self;
     return done(library, calls[what](&library->volume, path, strlen(path), at));
 }
@@ -133,8 +135,11 @@ static int library_readdir(void *self, struct path_ref ref, struct bytes *out) {
 }
 
 static int library_snapshot(void *self, enum snapshot_call what, const char *snapshot) {
-    static uint8_t (*const calls[])(struct doorvervain *, const char *,
-                                    size_t) = {doorvervain_snapshot, doorvervain_drop_snapshot, doorvervain_restore};
+    static uint8_t (*const calls[])(struct doorvervain *, const char *, size_t) = {
+        [TAKE_SNAPSHOT] = doorvervain_snapshot,
+        [DROP_SNAPSHOT] = doorvervain_drop_snapshot,
+        [RESTORE_SNAPSHOT] = doorvervain_restore,
+    };
     struct library *library = self;
     if (what == DROP_SNAPSHOT && !strcmp(library->snapshot, snapshot)) forget_tree(library);
     return done(library, calls[what](&library->volume, snapshot, strlen(snapshot)));
@@ -161,6 +166,7 @@ static int put(void *image, const uint8_t *bytes, size_t count) { return image_p
 
 // The image goes out piece by piece: no memory is taken for all of its text.
 static int save(struct library *library, struct image *image) {
+    uint8_t piece[PIECE_OF_IMAGE];
     struct doorvervain_frozen live;
     int failed = 0;
     uint8_t number = doorvervain_freeze(&library->volume, &live);
@@ -187,7 +193,7 @@ static int library_close(void *self, struct image *image) {
     int err = image ? save(library, image) : 0;
     forget_tree(library);
     doorvervain_close(&library->volume);
-    free(library);
+    mem_free(library);
     return err;
 }
 
@@ -205,13 +211,6 @@ static const struct backend_ops library_ops = {
     .compact = library_compact,
     .compaction_debt = library_compaction_debt,
     .close = library_close,
-};
-
-static const struct attr_ops library_attr_ops = {
-    .record_dir = doorvervain_attr_dir,
-    .record_path = doorvervain_attr_path,
-    .print = doorvervain_attr_encode,
-    .parse = doorvervain_attr_decode,
 };
 
 struct doorvervain *library_volume(void *self) {
@@ -245,6 +244,7 @@ static int get(void *from, uint8_t *out, size_t capacity, size_t *got) {
 
 // The image comes in piece by piece, as it goes out.
 static int load(struct library *library, const struct open_options *options) {
+    uint8_t piece[PIECE_OF_IMAGE];
     const char *name = options->image;
     uint64_t line = 0;
     struct source source = {open(name, O_RDONLY | O_CLOEXEC), options->stops};
@@ -261,13 +261,12 @@ static int load(struct library *library, const struct open_options *options) {
 }
 
 int open_library(const struct open_options *options, struct backend *out) {
-    struct library *library = calloc(1, sizeof *library);
+    struct library *library = mem_calloc(1, sizeof *library);
     if (!library) return ENOMEM;
     library->steps = options->steps;
     library->has_backlog = options->steps;
-    *out =
-        (struct backend){.ops = &library_ops, .self = library, .attr_ops = &library_attr_ops, .tree = &library->volume};
+    *out = (struct backend){.ops = &library_ops, .self = library, .tree = &library->volume};
     int err = options->image ? load(library, options) : open_empty(library);
-    if (err) free(library);
+    if (err) mem_free(library);
     return err;
 }

@@ -21,10 +21,12 @@ static int put(struct bytes *out, uint8_t number, const size_t *size) {
     return doorvervain_errno(number);
 }
 
-int wal_encode_change(struct bytes *out, enum change what, const char *path, uint64_t at) {
-    static uint8_t (*const calls[])(const char *, size_t, uint64_t, void *, size_t,
-                                    size_t *) = {doorvervain_wal_mkdir, doorvervain_wal_create, doorvervain_wal_unlink,
-                                                 doorvervain_wal_rmdir, doorvervain_wal_rmtree};
+int wal_encode_change(struct bytes *out, enum path_call what, const char *path, uint64_t at) {
+    static uint8_t (*const calls[])(const char *, size_t, uint64_t, void *, size_t, size_t *) = {
+        [CALL_MKDIR] = doorvervain_wal_mkdir,   [CALL_CREATE] = doorvervain_wal_create,
+        [CALL_UNLINK] = doorvervain_wal_unlink, [CALL_RMDIR] = doorvervain_wal_rmdir,
+        [CALL_RMTREE] = doorvervain_wal_rmtree,
+    };
     size_t length = strlen(path), size = 0;
     if (reserve(out, length)) return ENOMEM;
     return put(out, calls[what](path, length, at, end_of(out), ENTRY + length, &size), &size);
@@ -62,7 +64,10 @@ int wal_encode_punch(struct bytes *out, const char *path, uint64_t offset, uint6
 
 int wal_encode_snapshot(struct bytes *out, enum snapshot_call what, const char *snapshot) {
     static uint8_t (*const calls[])(const char *, size_t, void *, size_t, size_t *) = {
-        doorvervain_wal_snapshot, doorvervain_wal_drop, doorvervain_wal_restore};
+        [TAKE_SNAPSHOT] = doorvervain_wal_snapshot,
+        [DROP_SNAPSHOT] = doorvervain_wal_drop,
+        [RESTORE_SNAPSHOT] = doorvervain_wal_restore,
+    };
     size_t length = strlen(snapshot), size = 0;
     if (reserve(out, length)) return ENOMEM;
     return put(out, calls[what](snapshot, length, end_of(out), ENTRY + length, &size), &size);

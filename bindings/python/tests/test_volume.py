@@ -5,6 +5,7 @@ import gc
 import os
 import pathlib
 import re
+import signal
 import threading
 import time
 import unittest
@@ -115,14 +116,15 @@ class Refusals(unittest.TestCase):
             (volume.rmtree, "/d"), (volume.rename, "/d", "/e"), (volume.truncate, "/d/f", 1),
             (volume.write, "/d/f", b"x"), (volume.write_bytes, "/d/f", b"x"), (volume.read, "/d/f"),
             (volume.stat, "/d"), (volume.listdir, "/"), (volume.snapshot, "t"), (volume.drop_snapshot, "s"),
-            (volume.restore, "s"), (volume.freeze,), (volume.open_snapshot, "s"), (volume.image,), (volume.compact, 1),
+            (volume.restore, "s"), (volume.restore, tree), (volume.freeze,), (volume.fork,), (volume.open_snapshot, "s"), (volume.image,),
+            (volume.compact, 1),
             (volume.makedirs, "/e/f"), (volume.open, "/d/f"), (file.read, 1), (file.readall,),
         ]:
             with self.subTest(call=call.__name__):
                 refused(self, OSError, errno.EBADF, call, *words)
         self.assertEqual(tree.listdir("/d"), ["f"])
         tree.close()
-        for call, *words in [(tree.read, "/d/f"), (tree.stat, "/d"), (tree.listdir, "/"), (tree.image,)]:
+        for call, *words in [(tree.read, "/d/f"), (tree.stat, "/d"), (tree.listdir, "/"), (tree.image,), (tree.fork,), (Volume().restore, tree)]:
             refused(self, OSError, errno.EBADF, call, *words)
 
     def test_shapes(self):
@@ -266,6 +268,39 @@ class Snapshots(unittest.TestCase):
             self.assertEqual(volume.listdir(), names)
             volume.create("/z")
 
+    def test_a_fork_is_a_volume_of_its_own(self):
+        volume = Volume(clock=lambda: 7)
+        volume.create("/a")
+        volume.snapshot("s")
+        tree = volume.freeze()
+        fork, other = volume.fork(), tree.fork(clock=lambda: 9)
+        fork.create("/b")
+        other.create("/c")
+        volume.unlink("/a")
+        self.assertEqual([it.listdir() for it in (volume, fork, other, tree)], [[], ["a", "b"], ["a", "c"], ["a"]])
+        self.assertEqual([it.snapshots() for it in (volume, fork, other)], [["s"], [], []])
+        self.assertEqual([it.stat("/").modified for it in (volume, fork, other)], [7, 7, 9])
+        volume.close()
+        tree.close()
+        self.assertEqual([it.fork().listdir() for it in (fork, other)], [["a", "b"], ["a", "c"]])
+
+    def test_a_frozen_tree_is_restored(self):
+        volume, other = Volume(clock=lambda: 0), Volume(shape=(4, 4, 4), clock=lambda: 0)
+        volume.create("/mine")
+        volume.snapshot("s")
+        for number in range(300):
+            other.create(f"/f{number}")
+        for of in [other, volume]:
+            with of.freeze() as tree:
+                image = tree.image()
+                of.create("/more")
+                volume.create("/z")
+                volume.restore(tree)
+                self.assertEqual((volume.image(), tree.image()), (image, image))
+        self.assertEqual((volume.snapshots(), other.exists("/more")), (["s"], True))
+        volume.restore("s")
+        self.assertEqual(volume.listdir(), ["mine"])
+
     def test_images(self):
         volume = Volume(clock=lambda: 9)
         volume.makedirs("/a/ b")
@@ -333,6 +368,25 @@ class Snapshots(unittest.TestCase):
         self.assertEqual(volume.image(), before)
 
 
+    def test_a_signal_ends_a_compaction(self):
+        volume = Volume(clock=lambda: 0)
+        for number in range(100_000):
+            volume.create(f"/f{number}")
+
+        def interrupt(number, frame):
+            raise InterruptedError
+
+        before = signal.signal(signal.SIGALRM, interrupt)
+        try:
+            with self.assertRaises(InterruptedError):
+                signal.setitimer(signal.ITIMER_REAL, 0.001)
+                volume.compact()
+                time.sleep(1)
+        finally:
+            signal.signal(signal.SIGALRM, before)
+        self.assertGreater(volume.compact(), 0)
+
+
 class Words(unittest.TestCase):
     """How calls take their words."""
 
@@ -389,6 +443,29 @@ class Words(unittest.TestCase):
 
 
 class Threads(unittest.TestCase):
+    def test_threads_change_forks(self):
+        first, faults = Volume(clock=lambda: 0), []
+        for number in range(200):
+            first.write_bytes(f"/f{number}", b"x")
+
+        def work(number):
+            try:
+                with first.fork() as volume:
+                    for turn in range(200):
+                        volume.write_bytes(f"/f{turn}", b"%d" % number)
+                        first.freeze().fork().close()
+                    assert {volume.read(f"/f{turn}") for turn in range(200)} == {b"%d" % number}
+            except Exception as fault:
+                faults.append(fault)
+
+        workers = [threading.Thread(target=work, args=(number,)) for number in range(8)]
+        for worker in workers:
+            worker.start()
+        for worker in workers:
+            worker.join()
+        self.assertEqual(faults, [])
+        self.assertEqual({first.read(f"/f{number}") for number in range(200)}, {b"x"})
+
     def test_threads_share_a_volume(self):
         volume, faults = Volume(), []
 

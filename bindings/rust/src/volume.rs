@@ -627,8 +627,8 @@ impl Volume {
         })
     }
 
-    /// Compacts the trees: does at most `steps` steps, each of which moves pending changes down. Returns how many steps it tried,
-    /// fewer only if nothing is pending. It changes no result of any call.
+    /// Compacts the trees: does at most `steps` steps, each of which moves pending changes down. Returns how many steps it did,
+    /// fewer only if nothing is pending or the next step cannot be done. It changes no result of any call.
     pub fn compact(&self, steps: u32) -> u32 {
         self.handle.compact(steps)
     }

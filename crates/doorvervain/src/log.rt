@@ -8,7 +8,7 @@ ghost use Rattle.wal.specs.Encode.{Encodes, EncodesBytes, asked, moved};
 ghost use Rattle.wal.specs.Records.{digest, front};
 ghost use Rattle.wal.specs.declared.wal_entry.WalEntry.TheVariants as change;
 ghost use Rattle.wal.specs.declared.wal_entry.SnapshotCall.TheVariants as keeping;
-ghost use Rattle.wal.specs.declared.wal_entry.PathCall.TheVariants as on;
+ghost use Rattle.reference.specs.declared.path_call.PathCall.TheVariants as on;
 ghost use Rattle.wal.specs.Dump.{EncodesLines};
 ghost use Rattle.wal.specs.Runs.{RunsBody};
 ghost use Rattle.doorvervain.specs.Log.{FindsRecord, ReplaysReported, stopped_of, stopped_reported};

@@ -11,8 +11,8 @@ use Rattle.wal.specs.declared.wal_entry.WalEntry.{WalEntry}
 use Rattle.wal.specs.declared.wal_entry.WalEntry.TheVariants.{OnPath, Rename, Truncate, Write, Punch, Keep}
 use Rattle.wal.specs.declared.wal_entry.SnapshotCall.{SnapshotCall}
 use Rattle.wal.specs.declared.wal_entry.SnapshotCall.TheVariants.{Snapshot, Remove, Restore}
-use Rattle.wal.specs.declared.wal_entry.PathCall.{PathCall}
-use Rattle.wal.specs.declared.wal_entry.PathCall.TheVariants.{Mkdir, Create, Unlink, Rmdir, Rmtree}
+use Rattle.reference.specs.declared.path_call.PathCall.{PathCall}
+use Rattle.reference.specs.declared.path_call.PathCall.TheVariants.{Mkdir, Create, Unlink, Rmdir, Rmtree}
 use Rattle.wal.specs.declared.entry.EntryHeader.{EntryHeader}
 use Rattle.wal.specs.Entries.{IsChange, IsEntryOf, IsHead, IsNoBody, IsNoEntry, IsWord, LacksEntry, Refuses, body_of, entry, first_of, head_of, keeping_kind, path_kind, printed, second_of}
 use Rattle.wal.proofs.Changes.{fit}

@@ -15,7 +15,7 @@ use Rattle.pathkey.proofs.TextFacts.{only_texts, read_back}
 use Rattle.wal.specs.declared.wal_entry.WalEntry.{WalEntry}
 use Rattle.wal.specs.declared.wal_entry.WalEntry.TheVariants.{OnPath, Rename, Truncate, Write, Punch, Keep}
 use Rattle.wal.specs.declared.wal_entry.SnapshotCall.TheVariants.{Snapshot, Remove, Restore}
-use Rattle.wal.specs.declared.wal_entry.PathCall.TheVariants.{Mkdir, Create, Unlink, Rmdir, Rmtree}
+use Rattle.reference.specs.declared.path_call.PathCall.TheVariants.{Mkdir, Create, Unlink, Rmdir, Rmtree}
 use Rattle.wal.specs.Entries.{IsChange, IsHead, IsNoText, IsWord, first_of, head_of, second_of}
 
 -- ---- texts of paths

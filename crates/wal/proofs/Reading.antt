@@ -19,8 +19,8 @@ use Rattle.wal.specs.Entries.{IsWord}
 use Rattle.wal.specs.declared.wal_entry.WalEntry.TheVariants.{OnPath, Rename, Truncate, Write, Punch, Keep}
 use Rattle.wal.specs.declared.wal_entry.SnapshotCall.{SnapshotCall}
 use Rattle.wal.specs.declared.wal_entry.SnapshotCall.TheVariants.{Snapshot, Remove, Restore}
-use Rattle.wal.specs.declared.wal_entry.PathCall.{PathCall}
-use Rattle.wal.specs.declared.wal_entry.PathCall.TheVariants.{Mkdir, Create, Unlink, Rmdir, Rmtree}
+use Rattle.reference.specs.declared.path_call.PathCall.{PathCall}
+use Rattle.reference.specs.declared.path_call.PathCall.TheVariants.{Mkdir, Create, Unlink, Rmdir, Rmtree}
 use Rattle.wal.specs.Added.{Fits, script}
 use Rattle.wal.specs.Lines.{DumpLine, At, Makes, call_word, keeping_word, path_word, spelled}
 use Rattle.wal.specs.Dump.{AreRead, IsRead}

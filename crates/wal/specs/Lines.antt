@@ -7,8 +7,8 @@ use Rattle.wal.specs.declared.wal_entry.WalEntry.{WalEntry}
 use Rattle.wal.specs.declared.wal_entry.WalEntry.TheVariants.{OnPath, Rename, Truncate, Write, Punch, Keep}
 use Rattle.wal.specs.declared.wal_entry.SnapshotCall.{SnapshotCall}
 use Rattle.wal.specs.declared.wal_entry.SnapshotCall.TheVariants.{Snapshot, Remove, Restore}
-use Rattle.wal.specs.declared.wal_entry.PathCall.{PathCall}
-use Rattle.wal.specs.declared.wal_entry.PathCall.TheVariants.{Mkdir, Create, Unlink, Rmdir, Rmtree}
+use Rattle.reference.specs.declared.path_call.PathCall.{PathCall}
+use Rattle.reference.specs.declared.path_call.PathCall.TheVariants.{Mkdir, Create, Unlink, Rmdir, Rmtree}
 
 -- what a line tells: the moment of the changes behind it, or a change but for its moment
 pub data DumpLine : Type 0 where

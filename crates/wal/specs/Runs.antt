@@ -1,28 +1,17 @@
 -- What the changes of a log make of a world.
 use Rattle.std.specs.Prelude.{◌≡◌, ◌⊎◌, ℕ, List, [], ◌∷◌, ◌++◌, length, Option, Some, None, Result, Ok, Err, MatchResult, ⊤}
-use Rattle.pathkey.specs.Names.{Path}
 use Rattle.pathkey.specs.declared.errno.Errno.{Errno}
+use Rattle.reference.specs.PathCalls.{call_at}
 use Rattle.reference.specs.Worlds.{World, Event, Ask, TakeSnapshot, DropSnapshot, RestoreSnapshot, Answer, Replied, Settled, Fits, outcome}
-use Rattle.reference.specs.declared.call.Call.{Call}
 use Rattle.reference.specs.declared.call.Call.TheVariants as ask
 use Rattle.reference.specs.declared.reply.Reply.TheVariants.{Fault}
 use Rattle.wal.specs.Entries.{RefusesBody, body_of}
 use Rattle.wal.specs.declared.wal_entry.WalEntry.{WalEntry}
 use Rattle.wal.specs.declared.wal_entry.WalEntry.TheVariants.{OnPath, Rename, Truncate, Write, Punch, Keep}
 use Rattle.wal.specs.declared.wal_entry.SnapshotCall.TheVariants.{Snapshot, Remove, Restore}
-use Rattle.wal.specs.declared.wal_entry.PathCall.{PathCall}
-use Rattle.wal.specs.declared.wal_entry.PathCall.TheVariants.{Mkdir, Create, Unlink, Rmdir, Rmtree}
 use Rattle.volume.specs.Holes.{hole_in}
 use Rattle.volume.specs.Volumes.{PVolume, Means}
 use Rattle.wal.specs.declared.replay_error.ReplayError.{ReplayError}
-
--- the file call of a change that asks for a path alone
-abbrev pub call_at : PathCall → Path → Call
-call_at Mkdir p = ask.Mkdir p
-call_at Create p = ask.Create p
-call_at Unlink p = ask.Unlink p
-call_at Rmdir p = ask.Rmdir p
-call_at Rmtree p = ask.Rmtree p
 
 -- what a change asks of a world
 abbrev pub event_in : World → WalEntry → Event

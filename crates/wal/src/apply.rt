@@ -1,12 +1,9 @@
 //! Does one change of a log.
-ghost use Rattle.volume.specs.Typed.{replied};
-ghost use Rattle.reference.specs.declared.reply.Reply.TheVariants.{Done};
-ghost use Rattle.volume.specs.Changes.{Called};
 ghost use Rattle.std.specs.Prelude.{◌≡◌, Err, MatchResult, Ok};
-ghost use Rattle.wal.specs.Runs.{Makes, call_at};
+ghost use Rattle.wal.specs.Runs.{Makes};
 
-use crate::wal_entry::{PathCall, SnapshotCall, WalEntry};
-use pathkey::{Errno, Path, SnapName};
+use crate::wal_entry::{SnapshotCall, WalEntry};
+use pathkey::{Errno, SnapName};
 use std::alloc::Global;
 use volume::Volume;
 
@@ -19,7 +16,7 @@ pub(crate) fn apply_entry(
     ensures { Makes change.now result volume.old volume.new }
 {
     match change {
-        WalEntry::OnPath(what, path, at) => make_on_path(alloc, volume, *what, path, *at),
+        WalEntry::OnPath(what, path, at) => volume.path_call(alloc, *what, path, *at),
         WalEntry::Rename(old, new, at) => volume.rename(alloc, old, new, *at),
         WalEntry::Truncate(path, length, at) => volume.truncate(alloc, path, *length, *at),
         WalEntry::Write(path, offset, bytes, at) => {
@@ -39,25 +36,6 @@ fn settled(counted: Result<u64, Errno>) -> Result<(), Errno>
     match counted {
         Ok(_) => Ok(()),
         Err(fault) => Err(fault),
-    }
-}
-
-// Makes or takes out what stands at a path.
-fn make_on_path(
-    alloc: Global,
-    volume: &mut Volume,
-    what: PathCall,
-    path: &Path,
-    at: u64,
-) -> Result<(), Errno>
-    ensures { Called (call_at what path.now) at (replied (λ _. Done) result) volume.old volume.new }
-{
-    match what {
-        PathCall::Mkdir => volume.mkdir(alloc, path, at),
-        PathCall::Create => volume.create(alloc, path, at),
-        PathCall::Unlink => volume.unlink(alloc, path, at),
-        PathCall::Rmdir => volume.rmdir(alloc, path, at),
-        PathCall::Rmtree => volume.rmtree(alloc, path, at),
     }
 }
 

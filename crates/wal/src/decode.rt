@@ -5,9 +5,10 @@ ghost use Rattle.wal.specs.Entries.{IsNoName, IsNoText, ReadsEntry, RefusesBody,
 ghost use Rattle.pathkey.specs.Texts.{text_of};
 
 use crate::entry::{EntryHeader, split_entry};
-use crate::wal_entry::{PathCall, SnapshotCall, WalEntry};
+use crate::wal_entry::{SnapshotCall, WalEntry};
 use bytes::Bytes;
 use pathkey::{Errno, NoMemory, Path, SnapName};
+use reference::PathCall;
 use std::alloc::Global;
 
 /// The changes that the body of a record is. `EINVAL`: it is no list of changes. `ENOMEM`.

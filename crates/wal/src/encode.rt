@@ -11,8 +11,9 @@ ghost use Rattle.wal.specs.Encode.{Checks, Encodes, EncodesBytes, asked, encoded
 use crate::entry::EntryHeader;
 use crate::record::record_frame;
 use crate::u64_le::push_u64;
-use crate::wal_entry::{PathCall, SnapshotCall, WalEntry};
+use crate::wal_entry::{SnapshotCall, WalEntry};
 use pathkey::{Errno, NoMemory, Path, SnapName};
+use reference::PathCall;
 use std::alloc::Global;
 
 /// What makes or takes out what stands at a path.

@@ -6,8 +6,9 @@ ghost use Rattle.wal.specs.Added.{AddsLine};
 ghost use Rattle.wal.specs.Lines.{At, Makes, call_word, keeping_word, path_word};
 ghost use Rattle.pathkey.specs.Names.{IsPath};
 
-use crate::wal_entry::{PathCall, SnapshotCall};
+use crate::wal_entry::SnapshotCall;
 use pathkey::{Path, SnapName};
+use reference::PathCall;
 use textio::output::{WriteFailed, put};
 use textio::text::{put_hex, put_number, put_number_line, put_path};
 

@@ -2,21 +2,7 @@
 
 use bytes::Bytes;
 use pathkey::{Path, SnapName};
-
-/// A change that asks for a path alone.
-#[derive(Clone, Copy, Debug, PartialEq, Eq)]
-pub enum PathCall {
-    /// Makes an empty directory.
-    Mkdir,
-    /// Makes an empty file.
-    Create,
-    /// Takes a file out.
-    Unlink,
-    /// Takes an empty directory out.
-    Rmdir,
-    /// Takes a file out, or a directory with all below it.
-    Rmtree,
-}
+use reference::PathCall;
 
 /// What becomes of the snapshot of a name.
 #[derive(Clone, Copy, Debug, PartialEq, Eq)]

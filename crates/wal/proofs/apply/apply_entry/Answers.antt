@@ -11,9 +11,9 @@ use Rattle.wal.proofs.apply.apply_entry.Goals as goal
 pub returns-in-OnPath : goal.returns-in-OnPath
 returns-in-OnPath c =
     let this : WalEntry = OnPath c.in-OnPath.what c.in-OnPath.path c.in-OnPath.at in
-    subst (λ (x : WalEntry). Makes x c.make_on_path.result c.args.volume.now c.make_on_path.new.volume) (sym c.in-OnPath.is)
-    (called_makes this c.make_on_path.result c.args.volume.now c.make_on_path.new.volume
-    (answers_from this (Replied (replied (λ _. Done) c.make_on_path.result)) c.args.volume.now c.make_on_path.new.volume c.make_on_path.ensures.leads) c.make_on_path.ensures.refused)
+    subst (λ (x : WalEntry). Makes x c.path_call.result c.args.volume.now c.path_call.new.self) (sym c.in-OnPath.is)
+    (called_makes this c.path_call.result c.args.volume.now c.path_call.new.self
+    (answers_from this (Replied (replied (λ _. Done) c.path_call.result)) c.args.volume.now c.path_call.new.self c.path_call.ensures.leads) c.path_call.ensures.refused)
 
 pub returns-in-Rename : goal.returns-in-Rename
 returns-in-Rename c =
