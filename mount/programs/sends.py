@@ -331,5 +331,24 @@ def killed_and_new(folder: Path, mount: Mount) -> Mount:
     return again
 
 
+@case
+def requests_go_on_beside_a_send(folder: Path):
+    mount = Mount(folder)
+    (mount.point / "folder").mkdir()
+    for i in range(3000):
+        (mount.point / f"folder/{i}").write_bytes(WORKS.randbytes(4096))
+    (mount.point / ".snapshots/one").mkdir()
+    longest, began = 0.0, time.monotonic()
+    with subprocess.Popen([MOUNT, "--send", "one", mount.point], stdout=subprocess.DEVNULL) as sends:
+        while sends.poll() is None:
+            asked = time.monotonic()
+            assert not (mount.point / f"none{asked}").exists()
+            longest = max(longest, time.monotonic() - asked)
+    took = time.monotonic() - began
+    print(f"a send took {took:.2f} s, the longest look-up beside it {longest * 1e3:.1f} ms")
+    assert sends.returncode == 0 and longest < took / 4
+    assert mount.end() == 0, mount.said()
+
+
 if __name__ == "__main__":
     run_cases()

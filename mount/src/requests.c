@@ -1,6 +1,6 @@
 // The requests of the kernel. Each takes the request lock, does what fs_ops.h has for it, drops the lock, and replies.
 // One thread serves all of them, since most take less time than waking another would; a snapshot is restored, and a
-// delta applied, by a thread of its own.
+// delta printed or applied, by a thread of its own.
 //
 // Invariant: all changes of the tree come through the kernel, so what it caches of names and attributes stays right;
 // when the tree is replaced, the kernel is told what is stale. The bytes of a file are read again whenever it is
@@ -357,6 +357,7 @@ struct handle {
     struct bytes names;           // of a directory, as they were when it was read from its beginning
     struct bytes text;            // of a difference, by the root
     size_t sent;                  // bytes of it
+    _Atomic bool is_printing;     // a thread puts it together
     _Atomic uint64_t errseq_seen; // how many failed syncs of the store it was told
     struct handle *before, *after;
 };
@@ -819,12 +820,40 @@ static int answer_exit_report(const struct request *request) {
     return 0;
 }
 
-static int answer_send(const struct request *request, const struct send_request *wanted, struct handle *handle) {
-    handle->text.length = handle->sent = 0;
+struct sending {
+    struct request request;
+    struct send_request wanted;
+    struct handle *handle; // the kernel keeps it open until the request is answered
+};
+
+// Runs in a thread of its own: the other requests are served while the text is printed.
+static void *print_text(void *argument) {
+    struct sending *sending = argument;
+    struct request *request = &sending->request;
+    struct delta_trees trees = {{0}, {0}};
     int err = request_begin(request);
-    if (!err) err = delta_print(request->mount, wanted, &handle->text);
+    if (!err) err = delta_open_trees(request->mount, &sending->wanted, &trees);
     err = request_end(request, err);
-    if (!err) fuse_reply_ioctl(request->req, 0, NULL, 0);
+    if (!err) err = delta_print(&trees, &sending->handle->text);
+    delta_close_trees(&trees);
+    sending->handle->is_printing = false;
+    if (!answer_failed(request, err)) fuse_reply_ioctl(request->req, 0, NULL, 0);
+    mem_free(sending);
+    threads--;
+    return NULL;
+}
+
+static int start_sending(const struct request *request, const struct send_request *wanted, struct handle *handle) {
+    if (!request->mount->backend.tree) return EOPNOTSUPP;
+    struct sending *sending = mem_alloc(sizeof *sending);
+    if (!sending) return ENOMEM;
+    *sending = (struct sending){*request, *wanted, handle};
+    handle->text.length = handle->sent = 0;
+    handle->is_printing = true;
+    int err = start_thread(print_text, sending);
+    if (!err) return 0;
+    handle->is_printing = false;
+    mem_free(sending);
     return err;
 }
 
@@ -850,10 +879,11 @@ static int answer_status(const struct request *request) {
 
 // What goes in and out has the size that the number of a request tells.
 static int answer_asked(struct request *request, unsigned what, const void *in, struct handle *handle) {
+    if (handle->is_printing) return EBUSY;
     switch (what) {
     case RESTORE_REQUEST: return start_restoring(request, in);
     case EXIT_REPORT_REQUEST: return answer_exit_report(request);
-    case SEND_REQUEST: return answer_send(request, in, handle);
+    case SEND_REQUEST: return start_sending(request, in, handle);
     case SENT_PIECE_REQUEST: return answer_sent_piece(request, handle);
     case COMING_PIECE_REQUEST: return take_coming_piece(request, in, handle);
     case STATUS_REQUEST: return answer_status(request);

@@ -159,9 +159,12 @@ static int put_difference(struct snapshot_writer *writer, struct doorvervain_fro
                           struct doorvervain_frozen *new) {
     struct delta_io io = {.next = next_piece, .put = put_text, .self = writer};
     struct doorvervain_printer from = {0}, to = {0};
+    struct delta_sums sums;
+    memcpy(sums.old, writer->sum, sizeof sums.old);
     int err = begin_printing(&from, old);
     if (!err) err = begin_printing(&to, new);
-    if (!err) err = delta_print_images(&io, &from, &to, writer->sum);
+    if (!err) err = delta_print_images(&io, &from, &to, &sums);
+    if (!err) memcpy(writer->sum, sums.new, sizeof writer->sum);
     end_printing(&from);
     end_printing(&to);
     return err;

@@ -1,6 +1,8 @@
 // Volumes: calls that change them, snapshots and compaction.
 #include "core.h"
 
+#include <string.h>
+
 // The most bytes that the name of a snapshot has.
 enum { NAME = 64 };
 
@@ -29,9 +31,10 @@ static void refuse_shape(uint8_t number, PyObject *shape) {
     Py_XDECREF(value);
 }
 
-// Takes ownership of a clock and an opened volume.
-static void volume_begins(Tree *tree, struct doorvervain opened, PyObject *clock) {
+// Takes ownership of an opened volume, and keeps its shape and its clock.
+static void volume_begins(Tree *tree, struct doorvervain opened, const uint16_t *shape, PyObject *clock) {
     tree->volume = opened;
+    memcpy(tree->shape, shape, sizeof tree->shape);
     if (clock == known.time_ns || clock == Py_None) return;
     Py_INCREF(clock);
     tree->clock = clock;
@@ -49,7 +52,7 @@ static int volume_init(PyObject *self, PyObject *words, PyObject *named) {
         refuse_shape(number, shape);
         return -1;
     }
-    volume_begins((Tree *)self, opened, clock);
+    volume_begins((Tree *)self, opened, numbers, clock);
     return 0;
 }
 
@@ -77,8 +80,16 @@ static PyObject *volume_load(PyObject *self, PyObject *words) {
     if (number && line) refuse_text(known.bad_image, line);
     else if (number) refuse_shape(number, shape);
     if (number) return NULL;
-    volume_begins((Tree *)self, opened, clock);
+    volume_begins((Tree *)self, opened, numbers, clock);
     Py_RETURN_NONE;
+}
+
+static PyObject *volume_clock(PyObject *self, void *unused) {
+    (void)unused;
+    PyObject *clock = ((Tree *)self)->clock;
+    if (!clock) clock = known.time_ns;
+    Py_INCREF(clock);
+    return clock;
 }
 
 typedef uint8_t (*path_fn)(struct doorvervain *fs, const char *path, size_t length, uint64_t at);
@@ -275,7 +286,7 @@ static PyObject *snapshot_call(PyObject *self, PyObject *name, snapshot_fn call,
         uint8_t number = call(&tree->volume, text.at, text.length);
         if (state) PyEval_RestoreThread(state);
         leave(tree);
-        done = answer(number, name);
+        done = number ? refuse_name(number, name, NULL) : answer(0, NULL);
     }
     Py_DECREF(text.owner);
     return done;
@@ -311,7 +322,7 @@ static PyObject *volume_fork_of(PyObject *self, PyObject *words) {
         from->frozen.ptr ? doorvervain_frozen_fork(&from->frozen, &made) : doorvervain_fork(&from->volume, &made);
     leave(from);
     if (number) return refuse(number, NULL, NULL);
-    volume_begins((Tree *)self, made, clock == Py_None && from->clock ? from->clock : clock);
+    volume_begins((Tree *)self, made, from->shape, clock == Py_None && from->clock ? from->clock : clock);
     Py_RETURN_NONE;
 }
 
@@ -358,7 +369,7 @@ static PyObject *delta_of(Tree *tree, const struct text *names) {
     number = filled(tree, names, look_delta, &it);
     Py_END_ALLOW_THREADS
     leave(tree);
-    if (number) refuse(number, names[0].owner, names[1].owner);
+    if (number) refuse_name(number, names[0].owner, names[1].owner);
     else text = PyBytes_FromStringAndSize((const char *)it.at, (Py_ssize_t)it.size);
     listing_free(&it);
     return text;
@@ -387,6 +398,7 @@ static PyObject *volume_apply_delta(PyObject *self, PyObject *given) {
     number = doorvervain_apply_delta(&tree->volume, (const uint8_t *)text, (size_t)length, &line);
     Py_END_ALLOW_THREADS
     leave(tree);
+    if (number == DOORVERVAIN_ENOENT) return refuse_as(number, "the delta begins with another tree", NULL, NULL);
     if (number != DOORVERVAIN_EINVAL) return answer(number, NULL);
     refuse_text(known.bad_delta, line);
     return NULL;
@@ -459,7 +471,8 @@ static PyMethodDef volume_methods[] = {
         "_empty($self, /, path, *, at=None)\n--\n\nCreates an empty file, or truncates the one that exists."},
     {"snapshot", volume_snapshot, METH_O,
         "snapshot($self, name, /)\n--\n\n"
-        "Takes a snapshot under a name: 1 to 64 letters, digits, `.`, `_` and `-`. A volume has at most 64.\n\n"
+        "Takes a snapshot under a name: 1 to 64 letters, digits, `.`, `_` and `-`. A volume has at most 64, and one more is an\n"
+        "OSError with ENOSPC. Frozen trees and forks have no such limit.\n\n"
         ">>> volume = Volume()\n"
         ">>> volume.snapshot(\"empty\")\n"
         ">>> volume.create(\"/x\")\n"
@@ -493,10 +506,16 @@ static PyMethodDef volume_methods[] = {
     {NULL, NULL, 0, NULL},
 };
 
+static PyGetSetDef volume_properties[] = {
+    {"_clock", volume_clock, NULL, "Its clock.", NULL},
+    {NULL, NULL, NULL, NULL, NULL},
+};
+
 static PyType_Slot volume_slots[] = {
     {Py_tp_doc, "A tree of directories and files in memory, with snapshots."},
     {Py_tp_init, volume_init},
     {Py_tp_methods, volume_methods},
+    {Py_tp_getset, volume_properties},
     {0, NULL},
 };
 

@@ -23,6 +23,12 @@ use Rattle.volume.proofs.Pairs.{alike_empty}
 root_means : (r : FsRoot) (i : Indexes) (t : Tree) → i ≡ r.indexes → MeanRooted r t → MeanRooted (record { indexes = i; modified = r.modified }) t
 root_means r i t same is = record { indexes = subst (λ (x : Indexes). MeanTree x t) (sym same) is.indexes; root = is.root }
 
+-- a root that was put together of the parts of another
+pub same_root : (r root : FsRoot) (i : Indexes) (n : ℕ) → root ≡ record { indexes = i; modified = n } → i ≡ r.indexes → n ≡ r.modified → root ≡ r
+same_root r root i n is same moment =
+    let parts : r ≡ record { indexes = i; modified = n } = λ k. record { indexes = sym same k; modified = sym moment k } in
+    is ∙ sym parts
+
 -- ---- forks
 
 fork_means : (r : FsRoot) (l : PLive) (m : Kept) (t : Tree) → l.indexes ≡ r.indexes → m ≡ finite.empty → MeanRooted r t → Means (volume l r.modified m) (world_of t)
@@ -47,9 +53,12 @@ fork_lasts r l m same none some assert_invariant =
 restored_means : (v : PVolume) (r : FsRoot) (l : PLive) → l.indexes ≡ r.indexes → (w : World) (t : Tree) → Means v w → MeanRooted r t → Means (volume l r.modified v.snapshots) (record w { live = t })
 restored_means v r l same w t m is = record { live = root_means r l.indexes t same is; snapshots = m.snapshots }
 
+live_restored : (v : PVolume) (r : FsRoot) (l : PLive) → l.indexes ≡ r.indexes → l.marks ≡ no_marks v.marks.given → volume l r.modified v.snapshots ≡ with_live r v
+live_restored v r l same marks = λ k. record { live = record { indexes = same k; modified = r.modified }; snapshots = v.snapshots; marks = marks k }
+
 pub tree_restored : {E : Type 0} (v : PVolume) (r : FsRoot) (l : PLive) → l.indexes ≡ r.indexes → l.marks ≡ no_marks v.marks.given → KeepsMarks (live_of v) l → RestoresTree {E = E} r (Ok tt) v (volume l r.modified v.snapshots)
 tree_restored v r l same marks kept = record {
-  done = λ k. record { live = record { indexes = same k; modified = r.modified }; snapshots = v.snapshots; marks = marks k };
+  done = live_restored v r l same marks;
   means = restored_means v r l same;
   refused = tt;
   kept = kept;
@@ -77,6 +86,9 @@ fork_is_independent v v' f f' w es fs rs qs m fork a b = (run_follows w es rs v 
 
 pub restore_frozen_is_restore : (s : List ℕ) (r : FsRoot) (v new named : PVolume) → finite.get v.snapshots s ≡ Some r → RestoresTree {E = Errno} r (Ok tt) v new → Settles (RestoreSnapshot s) (Restored s) (Ok tt) v named → new ≡ named
 restore_frozen_is_restore s r v new named there a b =
-    let same : Some r ≡ Some named.live = sym there ∙ b.done.0 in
+    let is : new ≡ with_live r v = a.done in
+    let h : (finite.get v.snapshots s ≡ Some named.live) × (named.snapshots ≡ v.snapshots) × (named.marks ≡ no_marks v.marks.given) = b.done in
+    let same : Some r ≡ Some named.live = sym there ∙ h.0 in
     let live : r ≡ named.live = cc in
-    a.done ∙ (λ k. record { live = live k; snapshots = sym b.done.1.0 k; marks = sym b.done.1.1 k })
+    let last : with_live r v ≡ named = λ k. record { live = live k; snapshots = sym h.1.0 k; marks = sym h.1.1 k } in
+    is ∙ last

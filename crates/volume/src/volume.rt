@@ -272,10 +272,11 @@ impl Volume {
         let FsRoot { indexes, modified } = root;
         let live = LiveIndexes::new(alloc, indexes);
         live.assert_invariant();
+        let snapshots = Snapshots::new(alloc);
         Volume {
             live,
             modified,
-            snapshots: Snapshots::new(alloc),
+            snapshots,
         }
     }
 
