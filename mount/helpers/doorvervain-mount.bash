@@ -3,12 +3,12 @@ _doorvervain_mount() {
     local word=${COMP_WORDS[COMP_CWORD]} before=${COMP_WORDS[COMP_CWORD - 1]}
     case $before in
     --size | --log-size | --steps | --busy-poll | --restore | --diff | --send | --replica | --prefix | --user) return ;;
-    --load | --image | --trace | --pipe | --cacert | --cert | --key | --password-file) mapfile -t COMPREPLY < <(compgen -f -- "$word") ;;
+    --load | --image | --trace | --cacert | --cert | --key | --password-file) mapfile -t COMPREPLY < <(compgen -f -- "$word") ;;
     *)
         if [[ $word == -* ]]; then
             mapfile -t COMPREPLY < <(compgen -W "--store --sync --log-size --replica --prefix --cacert --cert \
-                --key --user --password-file --pipe --load --image --size --trace --steps --busy-poll --trust-attributes \
-                --allow-other --foreground --restore --diff --send --receive --unmount --dump-log --version --help" -- "$word")
+                --key --user --password-file --load --image --size --trace --steps --busy-poll --trust-attributes --nosuid --nodev \
+                --allow-other --foreground --restore --diff --send --receive --unmount --status --json --dump-log --version --help" -- "$word")
             return
         fi
         mapfile -t COMPREPLY < <(compgen -d -- "$word")

@@ -139,12 +139,41 @@ def the_reserved_name_is_nobodys(folder: Path):
     assert mount.end() == 0, mount.said()
 
 
+def options_of(mount: Mount) -> set[str]:
+    lines = Path("/proc/self/mountinfo").read_text().splitlines()
+    return set(next(line.split()[5] for line in lines if line.split()[4] == str(mount.point)).split(","))
+
+
 @case
 def a_mount_keeps_set_user_bits_and_devices_from_working(folder: Path):
-    mount = Mount(folder)
-    lines = Path("/proc/self/mountinfo").read_text().splitlines()
-    options = next(line.split()[5] for line in lines if line.split()[4] == str(mount.point))
-    assert {"nosuid", "nodev"} <= set(options.split(",")), options
+    wanted = {(): {"nosuid", "nodev"}}
+    if os.getuid() == 0:
+        wanted |= {("--trust-attributes",): set(), ("--trust-attributes", "--nosuid"): {"nosuid"},
+                   ("--trust-attributes", "--nodev"): {"nodev"},
+                   ("--nodev", "--trust-attributes", "--nosuid"): {"nosuid", "nodev"}}
+    for words, keeps in wanted.items():
+        mount = Mount(folder, *words)
+        assert options_of(mount) & {"nosuid", "nodev"} == keeps, (words, options_of(mount))
+        assert mount.end() == 0, mount.said()
+
+
+@case
+def names_of_trusted_attributes_are_told_to_root_alone(folder: Path):
+    if os.getuid() != 0:
+        return
+    folder.chmod(0o755)
+    mount = Mount(folder, "--allow-other")
+    (mount.point / "file").touch()
+    for name in ("trusted.a", "trusted.", "user.a", "trustees.b"):
+        try:
+            os.setxattr(mount.point / "file", name, b"1")
+        except OSError as fault:
+            assert name in ("trustees.b", "trusted."), fault
+    assert sorted(os.listxattr(mount.point / "file"))[-2:] == ["trusted.a", "user.a"]
+    shell = ["setpriv", "--reuid=65534", "--regid=65534", "--clear-groups", "python3", "-c",
+             "import os; print(sorted(os.listxattr('file')))"]
+    told = subprocess.run(shell, cwd=mount.point, stdout=subprocess.PIPE, text=True, check=True).stdout
+    assert told == "['user.a']\n", told
     assert mount.end() == 0, mount.said()
 
 

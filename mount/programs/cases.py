@@ -7,7 +7,6 @@ import traceback
 from collections.abc import Callable
 
 MNT = os.environ.get("MNT", "")
-OVER_PROGRAM = "--pipe" in os.environ.get("OPTIONS", "").split()
 CASES: list[Callable[[], None]] = []
 
 
@@ -19,11 +18,6 @@ def case(run: Callable[[], None]) -> Callable[[], None]:
 def mount_case(run: Callable[[], None]) -> Callable[[], None]:
     """A case of what the mount alone does, and no other file system."""
     return case(run) if MNT else run
-
-
-def record_case(run: Callable[[], None]) -> Callable[[], None]:
-    """A case that needs records beside entries: there are none over the program."""
-    return run if OVER_PROGRAM else case(run)
 
 
 def root_case(run: Callable[[], None]) -> Callable[[], None]:

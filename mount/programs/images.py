@@ -7,7 +7,7 @@ import subprocess
 import time
 from pathlib import Path
 
-from own_mount import MOUNT, OPTIONS, Mount, case, record_case, run_cases
+from own_mount import MOUNT, Mount, case, run_cases
 
 LARGE = os.urandom(1 << 20) * 48
 
@@ -45,7 +45,7 @@ def a_tree_is_kept(folder: Path):
 def a_mount_that_fails_leaves_the_file(folder: Path):
     file = keep_tree(folder)
     before = file.read_bytes()
-    failed = subprocess.run([MOUNT, *OPTIONS, "--image", file, folder / "none"], stderr=subprocess.DEVNULL)
+    failed = subprocess.run([MOUNT, "--image", file, folder / "none"], stderr=subprocess.DEVNULL)
     assert failed.returncode == 1
     assert file.read_bytes() == before
     assert is_whole(file)
@@ -120,7 +120,7 @@ def a_program_that_dies_leaves_the_old_image(folder: Path):
         os.kill(program, signal.SIGKILL)
         assert mount.end() == 1 and str(file) in mount.said()
         assert file.read_bytes() == before and is_whole(file)
-    assert OPTIONS or mount.end() == 0
+    assert mount.end() == 0
 
 
 @case
@@ -184,7 +184,7 @@ def mount_in_background(folder: Path, file: Path) -> Path:
     point = folder / "mnt"
     point.mkdir(exist_ok=True)
     with (folder / "said").open("w") as said:
-        subprocess.run([MOUNT, *OPTIONS, "--image", file, point], stderr=said, check=True)
+        subprocess.run([MOUNT, "--image", file, point], stderr=said, check=True)
     return point
 
 
@@ -244,7 +244,7 @@ def most_at_its_end(mount: Mount) -> int:
     return most
 
 
-@record_case
+@case
 def an_image_takes_no_memory_for_its_text(folder: Path):
     if "sanitized" in MOUNT:
         return
@@ -257,6 +257,37 @@ def an_image_takes_no_memory_for_its_text(folder: Path):
     assert most_memory(mount) < most
     assert (mount.point / "large").read_bytes() == LARGE
     assert mount.end() == 0, mount.said()
+
+
+def refuses_part(folder: Path) -> bool:
+    mount = Mount(folder, "--image", folder / "image")
+    return mount.process.wait(timeout=60) != 0 and "image.part" in mount.said() and "own" in mount.said()
+
+
+@case
+def a_part_that_somebody_else_made_is_refused_by_its_name(folder: Path):
+    part = folder / "image.part"
+    part.touch()
+    part.chmod(0o622)
+    assert refuses_part(folder)
+    part.chmod(0o600)
+    if os.getuid() == 0:
+        os.chown(part, 65534, 65534)
+        assert refuses_part(folder)
+    part.unlink()
+    (folder / "elsewhere").touch()
+    part.symlink_to(folder / "elsewhere")
+    assert Mount(folder, "--image", folder / "image").process.wait(timeout=60) != 0
+    assert (folder / "elsewhere").read_bytes() == b""
+    part.unlink()
+    mount = Mount(folder, "--image", folder / "image")
+    assert mount.end() == 0, mount.said()
+
+
+@case
+def no_step_at_all_is_refused(folder: Path):
+    mount = Mount(folder, "--steps", "0")
+    assert mount.process.wait(timeout=60) == 2 and "--steps takes 1 to 1000, not 0" in mount.said()
 
 
 run_cases()

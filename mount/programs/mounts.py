@@ -8,7 +8,7 @@ import time
 from pathlib import Path
 
 from cases import refused
-from own_mount import MOUNT, Mount, case, record_case, run_cases
+from own_mount import MOUNT, Mount, case, run_cases
 
 
 @case
@@ -25,7 +25,7 @@ def a_name_that_is_none_takes_no_snapshot_and_nothing_else(folder: Path):
     assert mount.end() == 0, mount.said()
 
 
-@record_case
+@case
 def a_mode_that_is_later_than_the_snapshot_goes_by_its_restore(folder: Path):
     (folder / "image").write_text("D / 5\nD /folder 5\nF /folder/file 0 5\nF /other 0 5\n")
     mount = Mount(folder, "--load", folder / "image")

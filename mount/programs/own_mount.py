@@ -10,18 +10,13 @@ import traceback
 from collections.abc import Callable
 from pathlib import Path
 
-MOUNT, OPTIONS = os.environ["MOUNT"], os.environ.get("OPTIONS", "").split()
+MOUNT = os.environ["MOUNT"]
 CASES: list[Callable[[Path], None]] = []
 
 
 def case(run: Callable[[Path], None]) -> Callable[[Path], None]:
     CASES.append(run)
     return run
-
-
-def record_case(run: Callable[[Path], None]) -> Callable[[Path], None]:
-    """A case that needs records beside entries: there are none over the program."""
-    return run if "--pipe" in OPTIONS else case(run)
 
 
 class Mount:
@@ -31,7 +26,7 @@ class Mount:
         self.point, self.words = folder / name, folder / "said"
         self.point.mkdir(exist_ok=True)
         with self.words.open("w") as said:
-            command = [MOUNT, "--foreground", *OPTIONS, *map(str, options), self.point]
+            command = [MOUNT, "--foreground", *map(str, options), self.point]
             self.process = subprocess.Popen(command, stdin=subprocess.DEVNULL, stderr=said, start_new_session=True,
                                             env=os.environ | (environment or {}))
         while not os.path.ismount(self.point) and self.process.poll() is None:

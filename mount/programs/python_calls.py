@@ -13,7 +13,7 @@ import tempfile
 import threading
 import traceback
 
-from cases import case, get, put, record_case, refused, run_cases
+from cases import case, get, put, refused, run_cases
 
 
 @case
@@ -155,7 +155,7 @@ def a_file_that_is_opened_to_be_read_is_cut():
     assert (get("file"), os.stat("file").st_size) == (b"", 0)
 
 
-@record_case
+@case
 def a_folder_hands_its_group_on():
     os.mkdir("folder")
     if os.getuid() == 0:
@@ -171,7 +171,7 @@ def a_folder_hands_its_group_on():
     assert os.stat("folder/below/file").st_gid == group
 
 
-@record_case
+@case
 def attributes_are_kept():
     put("file", b"")
     os.chmod("file", 0o640)
@@ -198,7 +198,7 @@ def a_folder_changes_with_its_names():
     assert os.stat("folder").st_mtime > 1e9
 
 
-@record_case
+@case
 def extended_attributes():
     put("file", b"")
     os.setxattr("file", "user.one", b"1")

@@ -9,7 +9,7 @@ from pathlib import Path
 
 from kept import TRUST, restore
 from mixed_trees import PIPE_BUFFER, change, change_at_random, make, same
-from own_mount import MOUNT, Mount, record_case, run_cases
+from own_mount import MOUNT, Mount, case, run_cases
 from own_store import WORKS, end_well, fill, kill, snapshot, store_mount, sync
 from seen import alike, seen
 
@@ -48,7 +48,7 @@ def blocks_of(path: Path) -> int:
 # ---- what comes is what was sent
 
 
-@record_case
+@case
 def a_chain_of_three(folder: Path):
     one, other = two_mounts(folder, "--image", folder / "other")
     first = snapshot(other, "first")
@@ -74,7 +74,7 @@ def a_chain_of_three(folder: Path):
     assert (folder / "one").read_bytes() == (folder / "other").read_bytes()
 
 
-@record_case
+@case
 def by_a_pipe_and_back_to_an_older_tree(folder: Path):
     one, other = two_mounts(folder)
     make(one.point)
@@ -90,7 +90,7 @@ def by_a_pipe_and_back_to_an_older_tree(folder: Path):
     end_well(other)
 
 
-@record_case
+@case
 def many_small_changes(folder: Path):
     works = random.Random(64)
     one, other = two_mounts(folder, "--image", folder / "other")
@@ -108,7 +108,7 @@ def many_small_changes(folder: Path):
     assert (folder / "one").read_bytes() == (folder / "other").read_bytes()
 
 
-@record_case
+@case
 def what_is_unlinked_and_open_is_not_sent(folder: Path):
     one, other = two_mounts(folder, "--image", folder / "other")
     (one.point / "stays").write_text("stays")
@@ -135,7 +135,7 @@ def what_is_unlinked_and_open_is_not_sent(folder: Path):
 # ---- what the kernel and open files know
 
 
-@record_case
+@case
 def the_kernel_is_told(folder: Path):
     one, other = two_mounts(folder)
     make(one.point)
@@ -156,7 +156,7 @@ def the_kernel_is_told(folder: Path):
     end_well(other)
 
 
-@record_case
+@case
 def numbers_of_files_do_not_meet(folder: Path):
     """A file that the mount knew has not the number of one with several names that comes."""
     one, other = two_mounts(folder)
@@ -187,7 +187,7 @@ def heading(image: bytes) -> bytes:
     return b"delta 1 " + hashlib.sha256(image).hexdigest().encode() + b"\n"
 
 
-@record_case
+@case
 def texts_that_are_refused(folder: Path):
     one, other = two_mounts(folder)
     make(one.point)
@@ -211,7 +211,7 @@ def texts_that_are_refused(folder: Path):
     end_well(other)
 
 
-@record_case
+@case
 def what_makes_no_tree(folder: Path):
     image = folder / "image"
     end_well(Mount(folder, "--image", image))
@@ -231,7 +231,7 @@ def what_makes_no_tree(folder: Path):
     end_well(mount)
 
 
-@record_case
+@case
 def snapshots_that_are_not_there(folder: Path):
     mount = Mount(folder)
     snapshot(mount, "one")
@@ -253,7 +253,7 @@ def snapshots_that_are_not_there(folder: Path):
     end_well(mount)
 
 
-@record_case
+@case
 def what_has_no_room(folder: Path):
     one, other = two_mounts(folder, "--size", "16M")
     (one.point / "some").write_bytes(random.Random(5).randbytes(3 << 20))
@@ -275,7 +275,7 @@ def what_has_no_room(folder: Path):
 # ---- stores
 
 
-@record_case
+@case
 def what_was_received_outlives_a_kill(folder: Path):
     """Behind a receive nothing syncs: it is on the disk when it is answered. The snapshots of both sides stay."""
     one, other = two_mounts(folder, "--store", folder / "store")
@@ -299,7 +299,7 @@ def what_was_received_outlives_a_kill(folder: Path):
     end_well(one)
 
 
-@record_case
+@case
 def a_kill_within_a_receive(folder: Path):
     """The tree is the old one or the new one then."""
     one, other = two_mounts(folder, "--store", folder / "store")
@@ -329,6 +329,25 @@ def killed_and_new(folder: Path, mount: Mount) -> Mount:
     again = store_mount(folder, *TRUST, name="to")
     assert again.stands, again.said()
     return again
+
+
+@case
+def requests_go_on_beside_a_send(folder: Path):
+    mount = Mount(folder)
+    (mount.point / "folder").mkdir()
+    for i in range(3000):
+        (mount.point / f"folder/{i}").write_bytes(WORKS.randbytes(4096))
+    (mount.point / ".snapshots/one").mkdir()
+    longest, began = 0.0, time.monotonic()
+    with subprocess.Popen([MOUNT, "--send", "one", mount.point], stdout=subprocess.DEVNULL) as sends:
+        while sends.poll() is None:
+            asked = time.monotonic()
+            assert not (mount.point / f"none{asked}").exists()
+            longest = max(longest, time.monotonic() - asked)
+    took = time.monotonic() - began
+    print(f"a send took {took:.2f} s, the longest look-up beside it {longest * 1e3:.1f} ms")
+    assert sends.returncode == 0 and longest < took / 4
+    assert mount.end() == 0, mount.said()
 
 
 if __name__ == "__main__":

@@ -177,6 +177,19 @@ def another_users_folder_is_no_store(folder: Path):
 
 
 @case
+def a_log_that_others_may_write_to_is_refused_by_its_name(folder: Path):
+    mount = store_mount(folder)
+    (mount.point / "file").write_text("kept")
+    end_well(mount)
+    log = logs(folder)[-1]
+    for mode, stands in ((0o620, False), (0o602, False), (0o640, True)):
+        log.chmod(mode)
+        mount = store_mount(folder)
+        assert mount.stands == stands and (stands or f"{log.name}: it is no file of this" in mount.said()), mount.said()
+        assert mount.end() == 0 if stands else mount.process.wait(timeout=60)
+
+
+@case
 def signals_end_it_as_an_unmount_does(folder: Path):
     mount = store_mount(folder)
     fill(mount, 200)

@@ -1,6 +1,7 @@
 """What a store keeps where the disk below it loses power, fails, or is full."""
 import errno
 import os
+import resource
 import shutil
 import socket
 import subprocess
@@ -260,6 +261,31 @@ def a_disk_that_is_full_at_the_end_is_told(folder: Path):
         end_well(again)
 
     on_small_disk(folder, work)
+
+
+@case
+def a_limit_of_the_size_of_files_is_an_error_and_no_end(folder: Path):
+    mount = store_mount(folder)
+    (mount.point / "file").write_bytes(WORKS.randbytes(1 << 20))
+    sync(mount.point / "file")
+    resource.prlimit(mount.process.pid, resource.RLIMIT_FSIZE, (1200 << 10, resource.RLIM_INFINITY))
+    (mount.point / "large").write_bytes(WORKS.randbytes(500_000))
+    refused(errno.EIO, sync, mount.point / "large")
+    assert len((mount.point / "file").read_bytes()) == 1 << 20 and mount.process.poll() is None
+    resource.prlimit(mount.process.pid, resource.RLIMIT_FSIZE, (resource.RLIM_INFINITY, resource.RLIM_INFINITY))
+    end = time.monotonic() + 60
+    while time.monotonic() < end:
+        try:
+            (mount.point / "later").write_text("later")
+            break
+        except OSError as fault:
+            assert fault.errno == errno.EIO, fault
+            time.sleep(0.5)
+    sync(mount.point / "later")
+    end_well(mount)
+    mount = store_mount(folder)
+    assert (mount.point / "later").read_text() == "later" and (mount.point / "large").stat().st_size == 500_000
+    end_well(mount)
 
 
 run_cases()

@@ -498,6 +498,9 @@ def and_so_it_is_where_the_checksum_is_right(folder: Path):
     told_sum.unlink()
     refused(folder, "snapshots.1.sum is missing")
     told_sum.write_bytes(sum_of_whole)
+    file.unlink()
+    refused(folder, "snapshots.1 is missing")
+    file.write_bytes(whole)
     has(folder, wanted)
 
 

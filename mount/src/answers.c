@@ -4,34 +4,45 @@
 // has come; then `waiting` counts it until it is sent. A failed sync is reported once to each open file
 // (`errseq_seen`), as Linux does.
 #include "answers.h"
+#include "replica.h"
+#include "memlimit.h"
 #include <errno.h>
 #include <stdatomic.h>
 #include <stdlib.h>
 
 static _Atomic unsigned waiting;
 
+bool answer_failed(const struct request *request, int err) {
+    if (!replica_may_answer(request->mount, &err)) {
+        fuse_reply_none(request->req);
+        return true;
+    }
+    if (err) fuse_reply_err(request->req, err);
+    return err;
+}
+
+void answer_done(const struct request *request, int err) {
+    if (!answer_failed(request, err)) fuse_reply_err(request->req, 0);
+}
+
 // A failure that the open file was not told is told once. It may be one of the timer's.
 static int err_of_sync(const struct answer *answer) {
-    struct mount *mount = fuse_req_userdata(answer->req);
-    uint64_t errseq = store_sync_errseq(mount->store);
+    uint64_t errseq = store_sync_errseq(answer->request.mount->store);
     if (answer->errseq_seen && atomic_exchange(answer->errseq_seen, errseq) != errseq) return EIO;
     return answer->err;
 }
 
 static void send(const struct answer *answer) {
-    int err = answer->kind == ANSWER_SYNCED ? err_of_sync(answer) : answer->err;
-    if (err) {
-        fuse_reply_err(answer->req, err);
-        return;
-    }
+    fuse_req_t req = answer->request.req;
+    if (answer_failed(&answer->request, answer->kind == ANSWER_SYNCED ? err_of_sync(answer) : answer->err)) return;
     switch (answer->kind) {
     case ANSWER_DONE:
-    case ANSWER_SYNCED: fuse_reply_err(answer->req, 0); break;
-    case ANSWER_ENTRY: fuse_reply_entry(answer->req, &answer->entry); break;
-    case ANSWER_CREATED: fuse_reply_create(answer->req, &answer->entry, &answer->info); break;
-    case ANSWER_OPENED: fuse_reply_open(answer->req, &answer->info); break;
-    case ANSWER_ATTRIBUTES: fuse_reply_attr(answer->req, &answer->stat, answer->seconds); break;
-    case ANSWER_WRITTEN: fuse_reply_write(answer->req, answer->written); break;
+    case ANSWER_SYNCED: fuse_reply_err(req, 0); break;
+    case ANSWER_ENTRY: fuse_reply_entry(req, &answer->entry); break;
+    case ANSWER_CREATED: fuse_reply_create(req, &answer->entry, &answer->info); break;
+    case ANSWER_OPENED: fuse_reply_open(req, &answer->info); break;
+    case ANSWER_ATTRIBUTES: fuse_reply_attr(req, &answer->stat, answer->seconds); break;
+    case ANSWER_WRITTEN: fuse_reply_write(req, answer->written); break;
     }
 }
 
@@ -40,7 +51,7 @@ static void note_err(struct answer *answer, int err) {
 }
 
 static void free_copy(struct answer *copy) {
-    free(copy);
+    mem_free(copy);
     waiting--;
 }
 
@@ -53,7 +64,7 @@ static void send_late(struct waiter *waiter, int err) {
 
 // The same answer, for another thread; null where memory is wanting.
 static struct answer *copy_answer(const struct answer *answer) {
-    struct answer *copy = malloc(sizeof *copy);
+    struct answer *copy = mem_alloc(sizeof *copy);
     if (!copy) return 0;
     *copy = *answer;
     copy->waiter = (struct waiter){.answer = send_late};
@@ -62,7 +73,8 @@ static struct answer *copy_answer(const struct answer *answer) {
 }
 
 // Whether another thread answers. Without memory for that this one waits for the disk.
-static bool waits_for_sync(struct store *store, struct answer *answer) {
+static bool waits_for_sync(struct answer *answer) {
+    struct store *store = answer->request.mount->store;
     int err = 0;
     bool is_synced = store_try_sync(store, &err);
     struct answer *copy = is_synced ? 0 : copy_answer(answer);
@@ -79,15 +91,16 @@ static bool waits_for_space(struct store *store, const struct answer *answer) {
     return false;
 }
 
-void answer_change(struct store *store, struct answer *answer, bool has_changed) {
+void answer_change(struct answer *answer, bool has_changed) {
+    struct store *store = answer->request.mount->store;
     bool waits = false;
-    if (store && has_changed && store_syncs_each(store)) waits = waits_for_sync(store, answer);
+    if (store && has_changed && store_syncs_each(store)) waits = waits_for_sync(answer);
     else if (store && has_changed) waits = waits_for_space(store, answer);
     if (!waits) send(answer);
 }
 
-void answer_sync(struct store *store, struct answer *answer) {
-    if (!waits_for_sync(store, answer)) send(answer);
+void answer_sync(struct answer *answer) {
+    if (!waits_for_sync(answer)) send(answer);
 }
 
 bool answers_wait(void) { return waiting > 0; }

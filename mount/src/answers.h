@@ -5,6 +5,7 @@
 #ifndef ANSWERS_H
 #define ANSWERS_H
 #define FUSE_USE_VERSION 35
+#include "request.h"
 #include "store.h"
 #include <fuse3/fuse_lowlevel.h>
 
@@ -21,7 +22,7 @@ enum answer_kind {
 struct answer {
     struct waiter waiter; // the first: it is all that a store knows
     enum answer_kind kind;
-    fuse_req_t req;
+    struct request request;
     int err; // 0: the request was done
     struct fuse_entry_param entry;
     struct fuse_file_info info;
@@ -32,10 +33,16 @@ struct answer {
     _Atomic uint64_t *errseq_seen;
 };
 
+// All answers but that to a forget go by these, since a replica does not answer a request that waits for the log.
+
+// Answers a request that failed: false if it did not, and is to be answered with what it found.
+bool answer_failed(const struct request *request, int err);
+// Answers one that has nothing to tell.
+void answer_done(const struct request *request, int err);
 // Answers a request that may have changed something. Called with no lock.
-void answer_change(struct store *store, struct answer *answer, bool has_changed);
+void answer_change(struct answer *answer, bool has_changed);
 // Answers once all that was answered before is on the disk.
-void answer_sync(struct store *store, struct answer *answer);
+void answer_sync(struct answer *answer);
 // Whether some are not sent yet.
 bool answers_wait(void);
 #endif

@@ -7,6 +7,7 @@
 #include "attrs.h"
 #include "exit_report.h"
 #include <errno.h>
+#include <stdio.h>
 #include <string.h>
 #include <unistd.h>
 
@@ -23,46 +24,44 @@ static bool is_private(const char *path) {
     return !strncmp(path, PRIVATE_PATH, length) && path[length] == '/';
 }
 
-static int form_path(uint8_t (*form)(const uint8_t *, size_t, uint8_t *, size_t, size_t *), const char *path,
+static int form_path(uint8_t (*form)(const char *, size_t, void *, size_t, size_t *), const char *path,
                      char out[LONGEST_PATH + 1]) {
     size_t size = 0;
-    uint8_t number = form((const uint8_t *)path, strlen(path), (uint8_t *)out, LONGEST_PATH, &size);
+    uint8_t number = form(path, strlen(path), out, LONGEST_PATH, &size);
     out[size < LONGEST_PATH ? size : LONGEST_PATH] = 0;
     return doorvervain_errno(number);
 }
 
-// A request asks for the place of a path more than once: the last one is remembered.
-static int form_record_path(const struct mount *mount, const char *path, char out[LONGEST_PATH + 1]) {
-    static char last[LONGEST_PATH + 1], place[LONGEST_PATH + 1];
-    if (strcmp(path, last)) {
-        int err = form_path(mount->backend.attr_ops->record_path, path, place);
-        strcpy(last, err ? "" : path);
+// A request asks for the record of a path more than once: the last one is remembered. A path is not empty.
+static int form_record_path(struct record_cache *last, const char *path, char out[LONGEST_PATH + 1]) {
+    if (strcmp(path, last->path)) {
+        last->path[0] = 0;
+        int err = form_path(doorvervain_attr_path, path, last->record);
         if (err) return err;
+        snprintf(last->path, sizeof last->path, "%s", path);
     }
-    strcpy(out, place);
+    memcpy(out, last->record, sizeof last->record);
     return 0;
 }
 
 // The path of a record names the folder that it lies in.
-static int find_record(const struct mount *mount, const char *path, struct record_path *out) {
+static int find_record(struct mount *mount, const char *path, struct record_path *out) {
     out->folder[0] = 0;
-    if (!is_private(path)) {
-        int err = form_record_path(mount, path, out->file);
-        if (err) return err;
-        size_t length = (size_t)(strrchr(out->file, '/') - out->file);
-        memcpy(out->folder, out->file, length);
-        out->folder[length] = 0;
-        return 0;
+    if (is_private(path)) {
+        int length = snprintf(out->file, sizeof out->file, "%s.record", path);
+        return (size_t)length < sizeof out->file ? 0 : ENAMETOOLONG;
     }
-    if (strlen(path) + sizeof ".record" > sizeof out->file) return ENAMETOOLONG;
-    strcpy(out->file, path);
-    strcat(out->file, ".record");
+    int err = form_record_path(&mount->last_record, path, out->file);
+    if (err) return err;
+    size_t length = (size_t)(strrchr(out->file, '/') - out->file);
+    memcpy(out->folder, out->file, length);
+    out->folder[length] = 0;
     return 0;
 }
 
-int attrs_can_store(const struct mount *mount, const char *path) {
+int attrs_can_store(struct mount *mount, const char *path) {
     struct record_path record_path;
-    return mount_keeps_records(mount) ? find_record(mount, path, &record_path) : 0;
+    return find_record(mount, path, &record_path);
 }
 
 struct attrs attrs_default(const struct mount *mount, bool is_directory) {
@@ -95,12 +94,12 @@ static bool fits(const struct doorvervain_attributes *base, bool is_directory, b
     return base->names && is_directory == (base->kind == DOORVERVAIN_DIRECTORY);
 }
 
-static int parse(struct mount *mount, const struct bytes *text, struct attrs *out, struct bytes *extended) {
+static int parse(const struct bytes *text, struct attrs *out, struct bytes *extended) {
     struct bytes unasked = {0}, *packed = extended ? extended : &unasked;
     int err = bytes_reserve(packed, text->length + 1);
     if (!err)
-        err = doorvervain_errno(mount->backend.attr_ops->parse((const uint8_t *)text->at, text->length, &out->base,
-                                                               (uint8_t *)packed->at, text->length, &packed->length));
+        err = doorvervain_errno(doorvervain_attr_decode((const uint8_t *)text->at, text->length, &out->base,
+                                                        (uint8_t *)packed->at, text->length, &packed->length));
     out->has_extended = packed->length;
     bytes_free(&unasked);
     return err;
@@ -117,7 +116,7 @@ static int read_record(struct mount *mount, const struct resolved_path *resolved
                        bool is_directory, struct attrs *out, struct bytes *extended) {
     struct bytes text = {0};
     int err = read_text(mount, ref, length, &text);
-    if (!err) err = parse(mount, &text, out, extended);
+    if (!err) err = parse(&text, out, extended);
     bytes_free(&text);
     if (err == ENOMEM) return err;
     if (!err && fits(&out->base, is_directory, is_private(resolved->path))) {
@@ -137,7 +136,7 @@ int attrs_read(struct mount *mount, const struct resolved_path *resolved, bool i
     struct record_path of;
     struct node_stat node_stat = {0};
     *out = attrs_default(mount, is_directory);
-    if (!mount_keeps_records(mount) || find_record(mount, resolved->path, &of)) return 0;
+    if (find_record(mount, resolved->path, &of)) return 0;
     struct path_ref ref = {resolved->snapshot, of.file};
     int err = backend_stat(&mount->backend, ref, &node_stat);
     if (!err && !node_stat.is_directory)
@@ -153,14 +152,13 @@ static bool look_for_records(struct mount *mount, const struct inode *directory)
     struct resolved_path resolved;
     struct node_stat node_stat;
     char folder[LONGEST_PATH + 1];
-    if (inode_path(directory, 0, &resolved) || form_path(mount->backend.attr_ops->record_dir, resolved.path, folder))
+    if (inode_path(directory, 0, &resolved) || form_path(doorvervain_attr_dir, resolved.path, folder))
         return true;
     return backend_stat(&mount->backend, (struct path_ref){resolved.snapshot, folder}, &node_stat) != ENOENT;
 }
 
 // Whether nothing below a directory has a record. That is remembered until a folder for records comes or goes.
 static bool no_records_below(struct mount *mount, struct inode *directory) {
-    if (!mount_keeps_records(mount)) return true;
     if (!directory || directory->role == PRIVATE_DIR) return false;
     if (directory->records_gen != mount->record_dirs_gen)
         directory->no_records_below = !look_for_records(mount, directory);
@@ -181,13 +179,12 @@ int attrs_read_extended(struct txn *txn, const char *path, struct bytes *out) {
     const struct bytes *text;
     int err = find_record(txn->mount, path, &record_path);
     if (!err) err = txn_read(txn, record_path.file, &text);
-    return err ? err : parse(txn->mount, text, &read, out);
+    return err ? err : parse(text, &read, out);
 }
 
 void attrs_remember(struct mount *mount, struct inode *inode, const struct attrs *attrs) {
     inode->attrs = *attrs;
     inode->attrs_gen = mount->tree_gen;
-    inode->in_memory_only = !mount_keeps_records(mount) && !is_default(mount, attrs);
 }
 
 // Of a listing of a mirrored folder, in which names that begin with byte 1 have one more, and byte 1 alone is a record.
@@ -209,7 +206,7 @@ int attrs_list(struct mount *mount, struct inode *directory, struct bytes *out) 
     char folder[LONGEST_PATH + 1];
     if (no_records_below(mount, directory)) return 0;
     int err = inode_path(directory, 0, &resolved);
-    if (!err) err = form_path(mount->backend.attr_ops->record_dir, resolved.path, folder);
+    if (!err) err = form_path(doorvervain_attr_dir, resolved.path, folder);
     if (!err) err = backend_readdir(&mount->backend, (struct path_ref){resolved.snapshot, folder}, out);
     if (!err) unmirror(out);
     return err;
@@ -234,7 +231,7 @@ int attrs_of(struct mount *mount, struct inode *inode, const struct attrs **out)
 // ---- writing
 
 static int make_folder_once(struct txn *txn, const char *path) {
-    return txn_create(txn, MAKE_DIRECTORY, path, txn->at, txn->at);
+    return txn_create(txn, CALL_MKDIR, path, txn->at, txn->at);
 }
 
 // What stands at a path goes, and a folder comes.
@@ -274,14 +271,13 @@ static int make_folders(struct txn *txn, const char *path) {
     return err;
 }
 
-static int print(const struct mount *mount, const struct attrs *attrs, const struct bytes *extended,
-                 struct bytes *out) {
+static int print(const struct attrs *attrs, const struct bytes *extended, struct bytes *out) {
     const uint8_t *packed = (const uint8_t *)(extended && extended->length ? extended->at : "");
     size_t packed_length = extended ? extended->length : 0, size = 4 * packed_length + 512;
     int err = bytes_reserve(out, size);
     if (!err)
-        err = doorvervain_errno(mount->backend.attr_ops->print(&attrs->base, packed, packed_length, (uint8_t *)out->at,
-                                                               out->capacity, &size));
+        err = doorvervain_errno(
+            doorvervain_attr_encode(&attrs->base, packed, packed_length, (uint8_t *)out->at, out->capacity, &size));
     out->length = size;
     return !err && size > LARGEST_READ ? ENOSPC : err;
 }
@@ -289,7 +285,7 @@ static int print(const struct mount *mount, const struct attrs *attrs, const str
 static int make_text(struct txn *txn, const struct record_path *record_path, const struct bytes *text) {
     const struct backend *backend = &txn->mount->backend;
     size_t done;
-    int err = txn_create(txn, CREATE, record_path->file, txn->at, txn->at);
+    int err = txn_create(txn, CALL_CREATE, record_path->file, txn->at, txn->at);
     return err ? err : backend->ops->write(backend->self, record_path->file, 0, text->at, text->length, txn->at, &done);
 }
 
@@ -323,7 +319,7 @@ static int print_and_put(struct txn *txn, const char *path, const struct attrs *
     struct record_path record_path;
     struct bytes text = {0};
     int err = find_record(txn->mount, path, &record_path);
-    if (!err) err = print(txn->mount, attrs, extended, &text);
+    if (!err) err = print(attrs, extended, &text);
     if (!err) err = put(txn, &record_path, &text);
     bytes_free(&text);
     return err;
@@ -332,7 +328,6 @@ static int print_and_put(struct txn *txn, const char *path, const struct attrs *
 // Notes what the attributes have, and whether there is a record of them from now on: false where there is none.
 static bool note_record(const struct txn *txn, struct attrs *attrs, const struct bytes *extended) {
     attrs->has_extended = extended && extended->length;
-    if (!mount_keeps_records(txn->mount)) return false;
     attrs->has_record = !is_default(txn->mount, attrs);
     attrs->changed = attrs->has_record ? txn->at : 0;
     return attrs->has_record;
@@ -366,7 +361,7 @@ int attrs_drop(struct txn *txn, struct inode *parent, const char *path) {
     struct node_stat node_stat;
     char folder[LONGEST_PATH + 1];
     if (no_records_below(txn->mount, parent)) return 0;
-    int err = form_path(backend->attr_ops->record_dir, path, folder);
+    int err = form_path(doorvervain_attr_dir, path, folder);
     if (err) return err == ENAMETOOLONG ? 0 : err;
     err = backend_stat(backend, (struct path_ref){0, folder}, &node_stat);
     return err == ENOENT ? 0 : txn_remove(txn, folder);
@@ -375,7 +370,7 @@ int attrs_drop(struct txn *txn, struct inode *parent, const char *path) {
 // The text of the record of attributes, where they are all that it has.
 static bool knows_text(const struct txn *txn, const struct attrs *known, struct bytes *out) {
     if (!known || known->has_extended || !txn->mount->trusts_attributes) return false;
-    if (!print(txn->mount, known, 0, out)) return true;
+    if (!print(known, 0, out)) return true;
     bytes_free(out);
     return false;
 }
@@ -407,11 +402,11 @@ int attrs_move(struct txn *txn, struct inode *parent, const char *from, struct i
     char old_folder[LONGEST_PATH + 1], new_folder[LONGEST_PATH + 1];
     int err = attrs_drop(txn, new_parent, to);
     if (err || no_records_below(txn->mount, parent)) return err;
-    err = form_path(backend->attr_ops->record_dir, from, old_folder);
+    err = form_path(doorvervain_attr_dir, from, old_folder);
     if (err) return err == ENAMETOOLONG ? 0 : err;
     err = backend_stat(backend, (struct path_ref){0, old_folder}, &node_stat);
     if (err) return err == ENOENT ? 0 : err;
-    err = form_path(backend->attr_ops->record_dir, to, new_folder);
+    err = form_path(doorvervain_attr_dir, to, new_folder);
     return err ? err : move_folder(txn, old_folder, new_folder);
 }
 
@@ -426,7 +421,6 @@ int attrs_move_one(struct txn *txn, const char *from, const char *to) {
 int attrs_drop_one(struct txn *txn, const char *path, const struct attrs *known) {
     struct record_path record_path;
     struct bytes text = {0};
-    if (!mount_keeps_records(txn->mount)) return 0;
     bool is_known = knows_text(txn, known, &text);
     int err = find_record(txn->mount, path, &record_path);
     if (!err) err = txn_unlink(txn, record_path.file, is_known ? &text : 0);

@@ -1,17 +1,15 @@
 // The attributes of entries, as records in the volume. An entry whose attributes are the usual ones has none: those are
 // mode 644 or, of a folder, 755, the owner of the mount, one name and the tree's own time.
 //
-// Where a record lies and what its text is are proved functions of the archive (`struct attr_ops`). The record of
+// Where a record lies and what its text is are proved functions of the library. The record of
 // /a/b is a file in the mirrored folder /.doorvervain/tree/a/b, so that a folder's rename moves the records below it at
 // once. A file of the mount's own has its record beside it.
-//
-// Without records, as over the pipe, the attributes of an entry stand in it alone.
 #ifndef ATTRS_H
 #define ATTRS_H
 #include "txn.h"
 
 // Whether what is at a path can have a record: 0 or ENAMETOOLONG.
-int attrs_can_store(const struct mount *mount, const char *path);
+int attrs_can_store(struct mount *mount, const char *path);
 // The attributes of an inode that has no record.
 struct attrs attrs_default(const struct mount *mount, bool is_directory);
 // In a tree that was loaded and is not trusted, all is the mount's owner's, and no set-user bit holds.

@@ -1,4 +1,4 @@
-// A backend of the file system: the library in this very process, or the program `betr` in a process of its own.
+// A backend of the file system: the library, or a layer over another backend.
 //
 // Every function answers 0 or a number of <errno.h>, and a call that is refused changes nothing. One call is under way
 // at a time: who calls holds a lock.
@@ -16,8 +16,8 @@ enum {
     LONGEST_SNAPSHOT = 64,
 };
 
-// Calls that have a path alone, and are done or refused.
-enum change { MAKE_DIRECTORY, CREATE, UNLINK, REMOVE_DIRECTORY, REMOVE_TREE };
+// Calls that have a path alone, and are done or refused: in the order of PathCall in the library.
+enum path_call { CALL_MKDIR, CALL_CREATE, CALL_UNLINK, CALL_RMDIR, CALL_RMTREE };
 
 // What becomes of the snapshot of a name.
 enum snapshot_call { TAKE_SNAPSHOT, DROP_SNAPSHOT, RESTORE_SNAPSHOT };
@@ -46,7 +46,7 @@ struct extent {
 // backend, which is then the first member of `self`; these six are called by the functions below. What changes the tree
 // is done at the timestamp `at`, in nanoseconds since 1970.
 struct backend_ops {
-    int (*change)(void *self, enum change what, const char *path, uint64_t at);
+    int (*change)(void *self, enum path_call what, const char *path, uint64_t at);
     int (*rename)(void *self, const char *from, const char *to, uint64_t at);
     int (*truncate)(void *self, const char *path, uint64_t length, uint64_t at);
     // All is written, or the first `done` bytes are and the rest was refused.
@@ -62,7 +62,7 @@ struct backend_ops {
     int (*punch)(void *self, const char *path, uint64_t offset, uint64_t count, uint64_t at);
     // The next run of bytes that are stored, at or behind `offset`. Those before it read as zeros.
     int (*next_extent)(void *self, struct path_ref ref, uint64_t offset, struct extent *out);
-    // Does at most so many steps that move waiting changes down: how many, and 0 where the file system sees to them.
+    // Does at most so many steps that move pending changes down: how many.
     unsigned (*compact)(void *self, unsigned steps);
     // How many such steps are due behind the changes that were made.
     unsigned (*compaction_debt)(void *self);
@@ -71,22 +71,11 @@ struct backend_ops {
     int (*close)(void *self, struct image *image);
 };
 
-// Where the record of an entry's attributes lies, and its text: functions of the archive, as its header has them.
-struct attr_ops {
-    uint8_t (*record_dir)(const uint8_t *path, size_t length, uint8_t *out, size_t capacity, size_t *size);
-    uint8_t (*record_path)(const uint8_t *path, size_t length, uint8_t *out, size_t capacity, size_t *size);
-    uint8_t (*print)(const struct doorvervain_attributes *attributes, const uint8_t *extended, size_t extended_length,
-                     uint8_t *out, size_t capacity, size_t *size);
-    uint8_t (*parse)(const uint8_t *text, size_t length, struct doorvervain_attributes *out, uint8_t *extended,
-                     size_t capacity, size_t *size);
-};
-
 // A file system that stands.
 struct backend {
     const struct backend_ops *ops;
     void *self;
-    const struct attr_ops *attr_ops; // null: attributes stand beside the tree, and there are no links
-    struct doorvervain *tree;        // that of the library, to look at; null: over the program, and with --replica
+    struct doorvervain *tree; // that of the library, to look at; null: with --replica
 };
 
 static inline int backend_read(const struct backend *backend, struct path_ref ref, uint64_t offset, char *out,
@@ -131,10 +120,8 @@ struct etcd_options {
 
 // What a file system is made with.
 struct open_options {
-    const char *betr;          // the program to speak to; null: the library
     const char *image;         // a file with the tree to begin with; null: the empty tree
     const _Atomic bool *stops; // where it becomes true, that is not read on: ECANCELED; null: nothing stops it
-    bool prints_image;         // the image is asked for at the end
     const char *store;         // the folder that keeps it; null: none does
     bool syncs_each;           // a store is synced at each change
     uint64_t log_size;         // bytes of its log that make another image worth its while
@@ -145,7 +132,6 @@ struct open_options {
 
 // Each says on standard error what failed.
 int open_library(const struct open_options *options, struct backend *out);
-int open_pipe(const struct open_options *options, struct backend *out);
 // Puts a log between a backend and its caller.
 int open_trace(const struct open_options *options, struct backend *backend);
 #endif

@@ -2,6 +2,7 @@
 //
 // Invariant: `length` is at most `capacity`, and a function that fails leaves the bytes as they were.
 #include "bytes.h"
+#include "memlimit.h"
 #include <errno.h>
 #include <stdarg.h>
 #include <stdio.h>
@@ -12,7 +13,7 @@
 int bytes_reserve(struct bytes *bytes, size_t more) {
     if (bytes->capacity - bytes->length >= more) return 0;
     size_t capacity = bytes->capacity * 2 > bytes->length + more ? bytes->capacity * 2 : bytes->length + more;
-    char *at = realloc(bytes->at, capacity);
+    char *at = mem_realloc(bytes->at, capacity);
     if (!at) return ENOMEM;
     bytes->at = at;
     bytes->capacity = capacity;
@@ -47,13 +48,13 @@ int bytes_read_all(struct bytes *bytes, int file) {
 }
 
 void bytes_fit(struct bytes *bytes) {
-    char *at = realloc(bytes->at, bytes->length ? bytes->length : 1);
+    char *at = mem_realloc(bytes->at, bytes->length ? bytes->length : 1);
     if (!at) return;
     bytes->at = at;
     bytes->capacity = bytes->length ? bytes->length : 1;
 }
 
 void bytes_free(struct bytes *bytes) {
-    free(bytes->at);
+    mem_free(bytes->at);
     *bytes = (struct bytes){0};
 }

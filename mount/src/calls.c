@@ -1,4 +1,4 @@
-// Times the calls of a backend without FUSE: out/calls [BETR]. A row has the name of a call and its microseconds.
+// Times the calls of the library's backend without FUSE: out/calls. A row has the name of a call and its microseconds.
 #include "backend.h"
 #include <stdio.h>
 #include <stdlib.h>
@@ -25,9 +25,9 @@ static const char *file(int number) {
 // Each call has a moment of its own, as the mount's have.
 static uint64_t timestamp(int i) { return (uint64_t)i + 1; }
 
-static int create(int i) { return backend.ops->change(backend.self, CREATE, file(i), timestamp(i)); }
+static int create(int i) { return backend.ops->change(backend.self, CALL_CREATE, file(i), timestamp(i)); }
 
-static int take_away(int i) { return backend.ops->change(backend.self, UNLINK, file(i), timestamp(i)); }
+static int take_away(int i) { return backend.ops->change(backend.self, CALL_UNLINK, file(i), timestamp(i)); }
 
 static int look(int i) {
     struct node_stat node_stat;
@@ -67,12 +67,12 @@ static void time_calls(const char *name, int (*call)(int), int count) {
     printf("%-16s %10.2f\n", name, (seconds() - began) * 1e6 / count);
 }
 
-int main(int count, char **words) {
-    struct open_options options = {.betr = count > 1 ? words[1] : 0, .steps = 4};
+int main(void) {
+    const struct open_options options = {.steps = 4};
     for (int i = 0; i < LARGE; i++) bytes[i] = (char)(i * 7 + i / 4096);
-    if (options.betr ? open_pipe(&options, &backend) : open_library(&options, &backend)) return 1;
-    if (backend.ops->change(backend.self, MAKE_DIRECTORY, "/folder", 0)) return 1;
-    if (backend.ops->change(backend.self, CREATE, "/large", 0)) return 1;
+    if (open_library(&options, &backend)) return 1;
+    if (backend.ops->change(backend.self, CALL_MKDIR, "/folder", 0)) return 1;
+    if (backend.ops->change(backend.self, CALL_CREATE, "/large", 0)) return 1;
     time_calls("create", create, MANY);
     time_calls("stat", look, MANY);
     time_calls("write 4 KiB", write_small, MANY);

@@ -6,6 +6,7 @@
 #define _GNU_SOURCE
 #include "delta_parse.h"
 #include "text.h"
+#include "memlimit.h"
 #include <errno.h>
 #include <stdlib.h>
 #include <string.h>
@@ -32,7 +33,7 @@ static size_t count_entries(const struct bytes *list) { return list->length / si
 
 static const char *path_at(const struct delta *delta, size_t at) { return delta->paths.at + at; }
 
-static int change(struct delta_applier *applier, enum change what, const char *path, uint64_t at) {
+static int change(struct delta_applier *applier, enum path_call what, const char *path, uint64_t at) {
     const struct backend *backend = applier->backend;
     return backend->ops->change(backend->self, what, path, at);
 }
@@ -54,7 +55,7 @@ static int by_entry_path(const void *a, const void *b, void *patch) {
 // Null where memory is wanting.
 static struct delta_entry **sort_entries(struct delta *delta, const struct bytes *list) {
     size_t count = count_entries(list);
-    struct delta_entry **out = malloc((count + 1) * sizeof *out);
+    struct delta_entry **out = mem_alloc((count + 1) * sizeof *out);
     if (!out) return 0;
     for (size_t i = 0; i < count; i++) out[i] = &entries(list)[i];
     qsort_r(out, count, sizeof *out, by_entry_path, delta);
@@ -173,9 +174,9 @@ static int set_mtime(struct delta_applier *applier, const char *folder, uint64_t
     strcpy(path + length, "/?");
     for (int byte = 1; byte < 256 && (err == EEXIST || err == EINVAL); byte++) {
         path[length + 1] = (char)byte;
-        err = byte == '/' || byte == '.' ? EEXIST : change(applier, CREATE, path, mtime_ns);
+        err = byte == '/' || byte == '.' ? EEXIST : change(applier, CALL_CREATE, path, mtime_ns);
     }
-    return err ? err : change(applier, UNLINK, path, mtime_ns);
+    return err ? err : change(applier, CALL_UNLINK, path, mtime_ns);
 }
 
 static int set_dir_mtime(struct delta_applier *applier, const struct dir_mtime *dir) {
@@ -278,12 +279,14 @@ static int gather(struct delta_applier *applier, const struct delta_entry *file,
 }
 
 static int write_all(struct delta_applier *applier, const struct delta_entry *file, struct block_range blocks) {
-    static struct gathered gathered;
-    int err = 0;
-    gathered.length = 0;
+    struct gathered *gathered = mem_alloc(sizeof *gathered);
+    int err = gathered ? 0 : ENOMEM;
+    if (gathered) gathered->length = 0;
     for (size_t i = 0; !err && i < blocks.count; i++)
-        if (blocks.at[i].digits) err = gather(applier, file, &blocks.at[i], &gathered);
-    return err ? err : write_gathered(applier, file, &gathered);
+        if (blocks.at[i].digits) err = gather(applier, file, &blocks.at[i], gathered);
+    if (!err) err = write_gathered(applier, file, gathered);
+    mem_free(gathered);
+    return err;
 }
 
 // A file gets its length, and by that its moment, before its blocks.
@@ -305,7 +308,7 @@ static int remove_entries(struct delta_applier *applier) {
     for (size_t i = count_entries(removed); !err && i-- > 0;) {
         const struct delta_entry *entry = &entries(removed)[i];
         if (entry->is_kept) continue;
-        err = change(applier, entry->is_directory ? REMOVE_DIRECTORY : UNLINK, path_at(applier->delta, entry->path), 0);
+        err = change(applier, entry->is_directory ? CALL_RMDIR : CALL_UNLINK, path_at(applier->delta, entry->path), 0);
         compact(applier);
     }
     return err;
@@ -318,7 +321,7 @@ static int insert(struct delta_applier *applier) {
         const struct delta_entry *entry = &entries(added)[i];
         const char *path = path_at(applier->delta, entry->path);
         if (!entry->is_kept)
-            err = change(applier, entry->is_directory ? MAKE_DIRECTORY : CREATE, path, entry->mtime_ns);
+            err = change(applier, entry->is_directory ? CALL_MKDIR : CALL_CREATE, path, entry->mtime_ns);
         if (!err && !entry->is_directory) err = edit(applier, entry);
         compact(applier);
     }
@@ -336,8 +339,8 @@ static int do_all(struct delta_applier *applier) {
 int delta_run(struct delta *delta, const struct backend *backend) {
     struct delta_applier applier = {.delta = delta, .backend = backend};
     int err = do_all(&applier);
-    free(applier.removed);
-    free(applier.added);
+    mem_free(applier.removed);
+    mem_free(applier.added);
     bytes_free(&applier.dir_mtimes);
     bool is_of_machine = err == ENOMEM || err == ENOSPC || err == EIO;
     return err && !is_of_machine ? EINVAL : err;

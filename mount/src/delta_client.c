@@ -19,7 +19,7 @@ static int report(const char *what, const char *which, int err) {
 
 // Why a mount did not do what it was asked.
 static int report_error(const char *what, const char *mount_point, int err) {
-    const char *why = err == EOPNOTSUPP ? "not over the program, nor with --replica"
+    const char *why = err == EOPNOTSUPP ? "not with --replica"
                       : err == ENOSPC   ? "it has no room, or 64 snapshots"
                                         : strerror(err);
     fprintf(stderr, "doorvervain-mount: %s%s: %s\n", what, mount_point, why);

@@ -5,49 +5,72 @@
 #include "delta_ioctl.h"
 #include "private_dir.h"
 #include "delta_parse.h"
+#include "delta_print.h"
+#include "requests.h"
 #include "memlimit.h"
 #include "snapshots.h"
+#include <assert.h>
 #include <errno.h>
 #include <string.h>
+#include <time.h>
 
-enum { LEAST_ROOM = 1 << 20 };
+enum { REST = 100000, MOST_AT_ONCE = 1 << 17 }; // nanoseconds, bytes
 
-static const uint8_t *text(const char *word) { return (const uint8_t *)word; }
+// ---- a difference is printed
 
-static uint8_t print_into(struct bytes *out, struct doorvervain *tree, const char *from, const char *to, size_t *size) {
-    return doorvervain_delta(tree, text(from), strlen(from), text(to), strlen(to), (uint8_t *)out->at, out->capacity,
-                             size);
-}
-
-// A text has bytes in hexadecimal digits, so it hardly has more than thrice what the trees take: one call of the
-// library is enough then. Where there is not so much room, that call tells how much it takes.
-static int print_between(struct doorvervain *tree, const char *from, const char *to, struct bytes *out) {
-    size_t size = LEAST_ROOM;
-    bytes_free(out);
-    if (bytes_reserve(out, LEAST_ROOM + 3 * memlimit_taken()) && bytes_reserve(out, LEAST_ROOM)) return ENOMEM;
-    uint8_t number = print_into(out, tree, from, to, &size);
-    if (number == DOORVERVAIN_ERANGE && bytes_reserve(out, size)) return ENOMEM;
-    if (number == DOORVERVAIN_ERANGE) number = print_into(out, tree, from, to, &size);
-    out->length = size;
-    bytes_fit(out);
-    return doorvervain_errno(number);
+static int open_tree(struct mount *mount, const char *name, struct doorvervain_printer *out) {
+    struct doorvervain_frozen tree;
+    uint8_t number = doorvervain_open_snapshot(mount->backend.tree, name, strlen(name), &tree);
+    return doorvervain_errno(number ? number : doorvervain_print_begin(out, &tree));
 }
 
 // The live tree as a snapshot of it would be.
-static int print_to_live(struct mount *mount, const char *from, struct bytes *out) {
+static int open_live(struct mount *mount, struct doorvervain_printer *out) {
     int err = snapshot_take_hidden(mount, SNAPSHOT_DELTA);
     if (err) return err;
-    err = print_between(mount->backend.tree, from, SNAPSHOT_DELTA, out);
+    err = open_tree(mount, SNAPSHOT_DELTA, out);
     int other = mount->backend.ops->snapshot(mount->backend.self, DROP_SNAPSHOT, SNAPSHOT_DELTA);
     return err ? err : other;
 }
 
-int delta_print(struct mount *mount, const struct send_request *wanted, struct bytes *out) {
+int delta_open_trees(struct mount *mount, const struct send_request *wanted, struct delta_trees *out) {
     bool has_ends = memchr(wanted->from, 0, sizeof wanted->from) && memchr(wanted->to, 0, sizeof wanted->to);
+    assert(request_lock_is_held(mount));
     if (!mount->backend.tree) return EOPNOTSUPP;
     if (!has_ends || !wanted->from[0]) return EINVAL;
-    if (!wanted->to[0]) return print_to_live(mount, wanted->from, out);
-    return print_between(mount->backend.tree, wanted->from, wanted->to, out);
+    int err = open_tree(mount, wanted->from, &out->from);
+    if (err) return err;
+    return wanted->to[0] ? open_tree(mount, wanted->to, &out->to) : open_live(mount, &out->to);
+}
+
+void delta_close_trees(struct delta_trees *trees) {
+    requests_lock();
+    doorvervain_print_end(&trees->from);
+    doorvervain_print_end(&trees->to);
+    requests_unlock();
+}
+
+// Pieces are short, and between two there is a rest: so a request that waits for the lock gets it.
+static int next_piece(void *self, struct doorvervain_printer *image, uint8_t *out, size_t capacity, size_t *size) {
+    (void)self;
+    nanosleep(&(struct timespec){0, REST}, NULL);
+    requests_lock();
+    uint8_t number = doorvervain_print_next(image, out, capacity < MOST_AT_ONCE ? capacity : MOST_AT_ONCE, size);
+    requests_unlock();
+    return doorvervain_errno(number);
+}
+
+static int put_text(void *self, const char *bytes, size_t count) { return bytes_append(self, bytes, count); }
+
+int delta_print(struct delta_trees *trees, struct bytes *out) {
+    const struct delta_io io = {.next = next_piece, .put = put_text, .self = out};
+    struct delta_sums sums = {{0}, {0}};
+    out->length = 0;
+    int err = delta_print_images(&io, &trees->from, &trees->to, &sums);
+    if (err) return err;
+    memcpy(out->at + DELTA_SUM_AT, sums.old, SHA256_DIGITS);
+    bytes_fit(out);
+    return 0;
 }
 
 // ---- a difference is applied
@@ -77,25 +100,27 @@ static int apply_once(struct mount *mount, const struct bytes *given) {
     return err;
 }
 
-static int apply(struct mount *mount, const struct bytes *given, struct bytes *stale) {
+static int apply(struct request *request, const struct bytes *given, struct bytes *stale) {
+    struct mount *mount = request->mount;
     int err;
     snapshot_before_switch(mount, stale);
     do {
-        memlimit_begin();
+        memlimit_begin(&request->budget);
         err = apply_once(mount, given);
-    } while (memlimit_retry(&mount->backend, &err));
+    } while (memlimit_retry(&request->budget, &mount->backend, &err));
     if (!err) inodes_renumber(mount->root);
     snapshot_after_switch(mount, err, stale);
     return err;
 }
 
-int delta_apply(struct mount *mount, const struct bytes *given, struct delta_answer *answer, struct bytes *stale) {
+int delta_apply(struct request *request, const struct bytes *given, struct delta_answer *answer, struct bytes *stale) {
+    assert(request_lock_is_held(request->mount));
     *answer = (struct delta_answer){DELTA_IS_DONE, 0};
-    if (!mount->backend.tree) return EOPNOTSUPP;
+    if (!request->mount->backend.tree) return EOPNOTSUPP;
     int err = delta_find_bad_line(given, &answer->line);
     if (!err && answer->line) answer->outcome = DELTA_IS_NONE;
     if (err || answer->line) return err;
-    err = apply(mount, given, stale);
+    err = apply(request, given, stale);
     if (err == ENOENT) answer->outcome = DELTA_IS_OF_OTHER;
     if (err == EINVAL) answer->outcome = DELTA_MAKES_NO_TREE;
     return answer->outcome ? 0 : err;

@@ -4,7 +4,7 @@
 // opened: so it is gone with whoever asked.
 #ifndef DELTA_IOCTL_H
 #define DELTA_IOCTL_H
-#include "mount.h"
+#include "request.h"
 #include <sys/ioctl.h>
 
 enum { DELTA_PIECE = 16000 };
@@ -33,11 +33,17 @@ struct delta_answer {
 };
 #define RECEIVE_REQUEST _IOR('D', 6, struct delta_answer)
 
-// These are called in the mount, under the request lock.
+// These are called in the mount.
 
-// `out` gets the text of a difference.
-int delta_print(struct mount *mount, const struct send_request *wanted, struct bytes *out);
-// The live tree becomes what a text makes of it, and snapshots stay. With a fault, and with another outcome, it is as
+// The trees of a difference, as they are printed while requests go on.
+struct delta_trees {
+    struct doorvervain_printer from, to;
+};
+// Under the request lock. They are to be closed whatever is answered, and printed once, with no lock.
+int delta_open_trees(struct mount *mount, const struct send_request *wanted, struct delta_trees *out);
+int delta_print(struct delta_trees *trees, struct bytes *out);
+void delta_close_trees(struct delta_trees *trees);
+// Under the request lock. The live tree becomes what a text makes of it, and snapshots stay. With a fault, and with another outcome, it is as
 // it was. What the kernel has to forget goes to `stale`, as with snapshot_restore.
-int delta_apply(struct mount *mount, const struct bytes *text, struct delta_answer *answer, struct bytes *stale);
+int delta_apply(struct request *request, const struct bytes *text, struct delta_answer *answer, struct bytes *stale);
 #endif

@@ -6,6 +6,7 @@
 #include "delta_parse.h"
 #include "inodes.h"
 #include "text.h"
+#include "memlimit.h"
 #include <errno.h>
 #include <stdlib.h>
 #include <string.h>
@@ -114,12 +115,12 @@ static int note_kept(struct delta_parser *parser, struct side *side) {
 
 // Digits that are not to be changed by the next line.
 static int copy_digits(struct delta *delta, struct block *block) {
-    char *copy = malloc(block->count + 1);
+    char *copy = mem_alloc(block->count + 1);
     if (!copy) return ENOMEM;
     memcpy(copy, block->digits, block->count);
     block->digits = copy;
     int err = bytes_append(&delta->copies, &copy, sizeof copy);
-    if (err) free(copy);
+    if (err) mem_free(copy);
     return err;
 }
 
@@ -232,7 +233,7 @@ static int take_piece(void *self, const uint8_t *bytes, size_t count) {
 // Gives the image of the live tree to a function.
 static int print_live(struct doorvervain *tree, int (*put)(void *self, const uint8_t *bytes, size_t count),
                       void *self) {
-    static uint8_t piece[PIECE];
+    uint8_t piece[PIECE];
     struct doorvervain_frozen live;
     int failed = 0;
     uint8_t number = doorvervain_freeze(tree, &live);
@@ -250,7 +251,7 @@ static int read_all(struct delta_parser *parser, struct doorvervain *tree) {
 // The library is asked to apply the text to a tree that the mount has not: so it tells the first line that is bad, and
 // does no more.
 int delta_find_bad_line(const struct bytes *given, uint64_t *line) {
-    static const uint8_t other[] = "/another-tree";
+    static const char other[] = "/another-tree";
     struct doorvervain tree;
     *line = 0;
     uint8_t number = doorvervain_open(&tree, DOORVERVAIN_FANOUT, DOORVERVAIN_PENDING, DOORVERVAIN_LEAF);
@@ -267,7 +268,7 @@ static int begin_sums(struct delta_parser *parser) {
 
 int delta_parse(struct delta *out, struct doorvervain *tree, const struct bytes *text) {
     char old_sum[SHA256_DIGITS + 1] = "";
-    struct delta_parser *parser = calloc(1, sizeof *parser);
+    struct delta_parser *parser = mem_calloc(1, sizeof *parser);
     *out = (struct delta){0};
     if (!parser) return ENOMEM;
     *parser = (struct delta_parser){.delta = out, .at = text->at + HEADING + SHA256_DIGITS + 1};
@@ -279,7 +280,7 @@ int delta_parse(struct delta *out, struct doorvervain *tree, const struct bytes 
     if (!err && memcmp(old_sum, text->at + HEADING, SHA256_DIGITS)) err = ENOENT;
     if (!err && parser->is_wrong) err = EINVAL;
     bytes_free(&parser->line);
-    free(parser);
+    mem_free(parser);
     return err;
 }
 
@@ -297,7 +298,7 @@ int delta_check_sum(struct doorvervain *tree, const char *wanted) {
 
 void delta_free(struct delta *delta) {
     char **copies = (char **)delta->copies.at;
-    for (size_t i = 0; i < delta->copies.length / sizeof *copies; i++) free(copies[i]);
+    for (size_t i = 0; i < delta->copies.length / sizeof *copies; i++) mem_free(copies[i]);
     bytes_free(&delta->paths);
     bytes_free(&delta->removed);
     bytes_free(&delta->added);

@@ -5,6 +5,7 @@
 #include "delta_print.h"
 #include "bytes.h"
 #include "text.h"
+#include "memlimit.h"
 #include <errno.h>
 #include <inttypes.h>
 #include <stdbool.h>
@@ -179,19 +180,31 @@ static int print_all(struct delta_printer *printer, const char *digits) {
     return err ? err : put_text(printer);
 }
 
+// Both are begun and ended, whether they are wanted or not: an empty one costs nothing.
+static int print_and_sum(struct delta_printer *printer, struct delta_sums *sums) {
+    struct sha256 of_old, of_new;
+    char zeros[SHA256_DIGITS + 1], unused[SHA256_DIGITS + 1];
+    bool is_known = sums->old[0];
+    memset(zeros, '0', SHA256_DIGITS);
+    zeros[SHA256_DIGITS] = 0;
+    printer->old.sum = is_known ? NULL : &of_old;
+    printer->new.sum = &of_new;
+    int err = sha256_begin(&of_old), began = sha256_begin(&of_new);
+    if (!err) err = began;
+    if (!err) err = print_all(printer, is_known ? sums->old : zeros);
+    int other = sha256_end(&of_old, is_known ? unused : sums->old), another = sha256_end(&of_new, sums->new);
+    return err ? err : other ? other : another;
+}
+
 int delta_print_images(const struct delta_io *io, struct doorvervain_printer *old, struct doorvervain_printer *new,
-                       char digits[SHA256_DIGITS + 1]) {
-    struct sha256 sum;
-    struct delta_printer *printer = calloc(1, sizeof *printer);
+                       struct delta_sums *sums) {
+    struct delta_printer *printer = mem_calloc(1, sizeof *printer);
     if (!printer) return ENOMEM;
     printer->io = io;
     printer->old.image = old;
     printer->new.image = new;
-    printer->new.sum = &sum;
-    int err = sha256_begin(&sum);
-    if (!err) err = print_all(printer, digits);
-    int other = sha256_end(&sum, digits);
+    int err = print_and_sum(printer, sums);
     bytes_free(&printer->text);
-    free(printer);
-    return err ? err : other;
+    mem_free(printer);
+    return err;
 }

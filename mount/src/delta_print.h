@@ -14,8 +14,15 @@ struct delta_io {
     void *self;
 };
 
-// Gives away the text that makes the second image of the first one. `digits` is the checksum of the first image, and
-// then that of the second. 0, ENOMEM, or what one of the functions answered: then a beginning was given away.
+// The checksums of both images. That of the old one is known; or it is empty, and found on the way: then the text has
+// zeros in its place, which is at DELTA_SUM_AT.
+struct delta_sums {
+    char old[SHA256_DIGITS + 1], new[SHA256_DIGITS + 1];
+};
+enum { DELTA_SUM_AT = 8 };
+
+// Gives away the text that makes the second image of the first one. 0, ENOMEM, or what one of the functions answered:
+// then a beginning was given away.
 int delta_print_images(const struct delta_io *io, struct doorvervain_printer *old, struct doorvervain_printer *new,
-                       char digits[SHA256_DIGITS + 1]);
+                       struct delta_sums *sums);
 #endif

@@ -6,11 +6,13 @@
 #include "fs_ops.h"
 #include "attrs.h"
 #include "memlimit.h"
+#include <assert.h>
 #include <errno.h>
 #include <string.h>
 #include <sys/xattr.h>
 
 enum { BYTES_OF_LENGTH = 4 };
+#define TRUSTED "trusted."
 
 // One of those that are packed. It takes the bytes from `at` to `end`.
 struct packed {
@@ -62,7 +64,6 @@ static int read_all(struct mount *mount, struct inode *inode, struct bytes *out)
     const struct attrs *attrs;
     struct attrs read;
     struct resolved_path resolved;
-    if (!mount_keeps_records(mount)) return EOPNOTSUPP;
     int err = attrs_of(mount, inode, &attrs);
     if (!err) err = bytes_reserve(out, 1);
     if (err || !attrs->has_extended) return err;
@@ -72,13 +73,14 @@ static int read_all(struct mount *mount, struct inode *inode, struct bytes *out)
 
 // Access control lists, which are names of `system.`, would have to change the mode: there are none.
 static bool is_refused(const char *name) {
-    static const char *const kept[] = {"user.", "trusted.", "security."};
+    static const char *const kept[] = {"user.", TRUSTED, "security."};
     for (size_t i = 0; i < sizeof kept / sizeof *kept; i++)
         if (!strncmp(name, kept[i], strlen(kept[i]))) return false;
     return true;
 }
 
 int extended_get(struct mount *mount, struct inode *inode, const char *name, struct bytes *out) {
+    assert(request_lock_is_held(mount));
     struct bytes all = {0};
     struct packed one;
     int err = is_refused(name) ? EOPNOTSUPP : read_all(mount, inode, &all);
@@ -88,15 +90,17 @@ int extended_get(struct mount *mount, struct inode *inode, const char *name, str
     return err;
 }
 
-int extended_list(struct mount *mount, struct inode *inode, struct bytes *out) {
+int extended_list(struct mount *mount, struct inode *inode, bool is_root, struct bytes *out) {
+    assert(request_lock_is_held(mount));
     struct bytes all = {0};
     int err = read_all(mount, inode, &all);
     for (struct packed one = {0}; !err && one.end < all.length;) {
         one = read_at(&all, one.end);
+        if (!is_root && !strncmp(one.name, TRUSTED, strlen(TRUSTED))) continue;
         err = bytes_append(out, one.name, strlen(one.name) + 1);
     }
     bytes_free(&all);
-    return err == EOPNOTSUPP ? 0 : err;
+    return err;
 }
 
 static int write_all(struct mount *mount, struct inode *inode, const struct bytes *all, uint64_t at) {
@@ -114,38 +118,40 @@ static int write_all(struct mount *mount, struct inode *inode, const struct byte
 }
 
 // A null value takes the attribute away.
-static int change(struct mount *mount, struct inode *inode, const char *name, const char *value, size_t length,
-                  int flags) {
+static int change(const struct request *request, struct inode *inode, const char *name, const char *value,
+                  size_t length, int flags) {
     struct bytes all = {0}, changed = {0};
     struct packed one;
-    int err = read_all(mount, inode, &all);
+    int err = read_all(request->mount, inode, &all);
     bool stands = !err && find(&all, name, &one);
     if (!err && stands && flags & XATTR_CREATE) err = EEXIST;
     if (!err && !stands && flags & XATTR_REPLACE) err = ENODATA;
     if (!err) err = exchange(&all, &one, name, value, length, &changed);
-    if (!err) err = write_all(mount, inode, &changed, clock_now_ns());
+    if (!err) err = write_all(request->mount, inode, &changed, request->at);
     bytes_free(&all);
     bytes_free(&changed);
     return err;
 }
 
-static int may_change(const struct mount *mount, const struct inode *inode, const char *name) {
-    return is_refused(name) || !mount_keeps_records(mount) ? EOPNOTSUPP : fs_may_write(inode);
+static int may_change(const struct inode *inode, const char *name) {
+    return is_refused(name) ? EOPNOTSUPP : fs_may_write(inode);
 }
 
-int extended_set(struct mount *mount, struct inode *inode, const char *name, const char *value, size_t length,
+int extended_set(struct request *request, struct inode *inode, const char *name, const char *value, size_t length,
                  int flags) {
-    int err = may_change(mount, inode, name);
+    assert(request_lock_is_held(request->mount));
+    int err = may_change(inode, name);
     if (err) return err;
     do {
-        memlimit_begin();
-        err = change(mount, inode, name, value, length, flags);
-    } while (memlimit_retry(&mount->backend, &err));
+        memlimit_begin(&request->budget);
+        err = change(request, inode, name, value, length, flags);
+    } while (memlimit_retry(&request->budget, &request->mount->backend, &err));
     return err;
 }
 
 // A removal may take what it needs.
-int extended_remove(struct mount *mount, struct inode *inode, const char *name) {
-    int err = may_change(mount, inode, name);
-    return err ? err : change(mount, inode, name, 0, 0, XATTR_REPLACE);
+int extended_remove(const struct request *request, struct inode *inode, const char *name) {
+    assert(request_lock_is_held(request->mount));
+    int err = may_change(inode, name);
+    return err ? err : change(request, inode, name, 0, 0, XATTR_REPLACE);
 }

@@ -10,6 +10,7 @@
 #include "attrs.h"
 #include "replica.h"
 #include "memlimit.h"
+#include <assert.h>
 #include <errno.h>
 #include <fcntl.h>
 #include <string.h>
@@ -52,6 +53,7 @@ static int stand(struct mount *mount, const struct resolved_path *resolved, stru
 }
 
 int fs_node_stat(struct mount *mount, const struct inode *inode, struct node_stat *out) {
+    assert(request_lock_is_held(mount));
     struct resolved_path resolved;
     bool is_gone_directory = inode->is_directory && !inode->parent && inode->role != LIVE_ROOT;
     *out = (struct node_stat){.is_directory = inode->is_directory};
@@ -142,6 +144,7 @@ static int find_inode(struct mount *mount, struct inode *parent, const char *nam
 }
 
 int fs_lookup(struct mount *mount, struct inode *parent, const char *name, struct lookup_result *out) {
+    assert(request_lock_is_held(mount));
     struct resolved_path resolved;
     struct node_stat node_stat;
     out->is_other_name = false;
@@ -170,17 +173,14 @@ struct truncation {
     uint64_t length, at;
 };
 
-// Where no record can have a time, the tree's moment of a file is set to it.
-static struct truncation find_cut(const struct mount *mount, const struct inode *inode, const struct setattr *setattr,
-                                  const struct node_stat *node_stat) {
-    bool is_file = !inode->is_directory;
-    bool sets_mtime = is_file && setattr->modify && (setattr->modifies_now || !mount_keeps_records(mount));
-    uint64_t at = sets_mtime && !setattr->modifies_now ? timespec_to_ns(*setattr->modify) : setattr->at;
+// A time that is set to now is the tree's own mtime; any other goes into the record.
+static struct truncation find_cut(const struct inode *inode, const struct setattr *setattr,
+                                  const struct node_stat *node_stat, uint64_t at) {
     uint64_t length = setattr->length ? *setattr->length : node_stat->length;
-    return (struct truncation){.is_wanted = is_file && (setattr->length || sets_mtime),
+    return (struct truncation){.is_wanted = !inode->is_directory && (setattr->length || setattr->modifies_now),
                                .lengthens = length > node_stat->length,
                                .length = length,
-                               .at = at ? at : 1};
+                               .at = at};
 }
 
 // The moment that an entry has once it is set.
@@ -223,28 +223,31 @@ static int set_once(struct mount *mount, struct inode *inode, const struct trunc
 }
 
 // What is cut gives room back, so that no size of the mount refuses it.
-static int set_attributes(struct mount *mount, struct inode *inode, const struct truncation *truncation,
-                          const struct attrs *attrs, bool is_changed, uint64_t at) {
+static int set_attributes(struct request *request, struct inode *inode, const struct truncation *truncation,
+                          const struct attrs *attrs, bool is_changed) {
+    struct mount *mount = request->mount;
     struct attrs wanted;
     int err;
     do {
         wanted = *attrs;
-        if (is_changed || truncation->lengthens) memlimit_begin();
-        err = set_once(mount, inode, truncation, &wanted, is_changed, at);
-    } while (memlimit_retry(&mount->backend, &err));
+        if (is_changed || truncation->lengthens) memlimit_begin(&request->budget);
+        err = set_once(mount, inode, truncation, &wanted, is_changed, request->at);
+    } while (memlimit_retry(&request->budget, &mount->backend, &err));
     if (!err) attrs_remember(mount, inode, &wanted);
     return err;
 }
 
-// Another owner holds where records do, and all of them are believed.
+// Another owner holds where records are believed.
 static int may_set_owner(const struct mount *mount, const struct doorvervain_attributes *base,
                          const struct setattr *setattr) {
     bool changes_user = setattr->user && *setattr->user != base->user;
     bool changes_group = setattr->group && *setattr->group != base->group;
-    return (changes_user || changes_group) && !(mount_keeps_records(mount) && mount->trusts_attributes) ? EPERM : 0;
+    return (changes_user || changes_group) && !mount->trusts_attributes ? EPERM : 0;
 }
 
-int fs_setattr(struct mount *mount, struct inode *inode, const struct setattr *setattr) {
+int fs_setattr(struct request *request, struct inode *inode, const struct setattr *setattr) {
+    assert(request_lock_is_held(request->mount));
+    struct mount *mount = request->mount;
     const struct attrs *known;
     struct node_stat node_stat;
     int err = fs_may_write(inode);
@@ -252,79 +255,83 @@ int fs_setattr(struct mount *mount, struct inode *inode, const struct setattr *s
     if (!err) err = may_set_owner(mount, &known->base, setattr);
     if (!err) err = fs_node_stat(mount, inode, &node_stat);
     if (err) return err;
-    struct truncation truncation = find_cut(mount, inode, setattr, &node_stat);
+    struct truncation truncation = find_cut(inode, setattr, &node_stat, request->at);
     uint64_t mtime_ns = next_mtime(&truncation, &node_stat);
     struct attrs wanted = *known;
     if (wanted.base.held != mtime_ns) wanted.base.has_modified = 0;
     struct doorvervain_attributes before = wanted.base;
     apply(setattr, mtime_ns, &wanted.base);
     attrs_untrust(mount, &wanted.base);
-    err = set_attributes(mount, inode, &truncation, &wanted, is_other(&wanted.base, &before), setattr->at);
+    err = set_attributes(request, inode, &truncation, &wanted, is_other(&wanted.base, &before));
     if (err) return err;
     inode->has_access |= setattr->access != 0;
     if (setattr->access) inode->access = *setattr->access;
-    inode->change = ns_to_timespec(setattr->at);
+    inode->change = ns_to_timespec(request->at);
     return 0;
 }
 
 // ---- bytes
 
 // For writes and other cuts the kernel says so itself.
-static int drop_set_user(struct mount *mount, struct inode *inode, uint64_t at) {
+static int drop_set_user(struct request *request, struct inode *inode) {
     const struct attrs *attrs;
-    int err = attrs_of(mount, inode, &attrs);
+    int err = attrs_of(request->mount, inode, &attrs);
     mode_t mode = attrs->base.mode, less = mode & (mode & S_IXGRP ? S_ISUID | S_ISGID : S_ISUID);
     if (err || !less) return err;
     mode &= ~less;
-    return fs_setattr(mount, inode, &(struct setattr){.mode = &mode, .at = at});
+    return fs_setattr(request, inode, &(struct setattr){.mode = &mode});
 }
 
 // Both are one change. Where that only waits, the entry has the attributes that it had.
-static int cut_open(struct mount *mount, struct inode *inode, bool drops) {
-    uint64_t at = clock_now_ns();
+static int cut_open(struct request *request, struct inode *inode, bool drops) {
+    struct mount *mount = request->mount;
     struct attrs before = inode->attrs;
     replica_change_begins(mount);
-    int err = drops ? drop_set_user(mount, inode, at) : 0;
-    if (!err) err = cut_file(mount, inode, &(struct truncation){.is_wanted = true, .at = at});
+    int err = drops ? drop_set_user(request, inode) : 0;
+    if (!err) err = cut_file(mount, inode, &(struct truncation){.is_wanted = true, .at = request->at});
     err = replica_change_ends(mount, err);
     if (err && mount->replica) inode->attrs = before;
     return err;
 }
 
-int fs_open(struct mount *mount, struct inode *inode, int flags, bool drops) {
+int fs_open(struct request *request, struct inode *inode, int flags, bool drops) {
+    assert(request_lock_is_held(request->mount));
     bool cuts = flags & O_TRUNC;
     bool changes = cuts || (flags & O_ACCMODE) != O_RDONLY;
     int err = changes ? fs_may_write(inode) : 0;
-    if (!err && cuts) err = cut_open(mount, inode, drops);
+    if (!err && cuts) err = cut_open(request, inode, drops);
     if (!err) inode->open_count++;
     return err;
 }
 
-int fs_release(struct mount *mount, struct inode *inode) {
+int fs_release(struct request *request, struct inode *inode) {
+    assert(request_lock_is_held(request->mount));
     inode->open_count--;
-    return orphan_put(mount, inode);
+    return orphan_put(request->mount, inode, request->at);
 }
 
-int fs_read(struct mount *mount, struct inode *inode, uint64_t offset, char *out, size_t capacity, size_t *got) {
+int fs_read(const struct request *request, struct inode *inode, uint64_t offset, char *out, size_t capacity,
+            size_t *got) {
+    assert(request_lock_is_held(request->mount));
     struct resolved_path resolved;
     *got = 0;
     int err = inode_path(inode, 0, &resolved);
     while (!err && *got < capacity) {
         size_t part = capacity - *got < LARGEST_READ ? capacity - *got : LARGEST_READ, count = 0;
         struct path_ref ref = {resolved.snapshot, resolved.path};
-        err = backend_read(&mount->backend, ref, offset + *got, out + *got, part, &count);
+        err = backend_read(&request->mount->backend, ref, offset + *got, out + *got, part, &count);
         *got += count;
         if (count < part) break;
     }
     if (err) return err;
-    inode->access = now();
+    inode->access = ns_to_timespec(request->at);
     inode->has_access = true;
     return 0;
 }
 
-int fs_readlink(struct mount *mount, struct inode *inode, struct bytes *out) {
+int fs_readlink(const struct request *request, struct inode *inode, struct bytes *out) {
     int err = bytes_reserve(out, LONGEST_TARGET + 1);
-    if (!err) err = fs_read(mount, inode, 0, out->at, LONGEST_TARGET, &out->length);
+    if (!err) err = fs_read(request, inode, 0, out->at, LONGEST_TARGET, &out->length);
     return err ? err : bytes_append(out, "", 1);
 }
 
@@ -336,18 +343,20 @@ int files_find_end(struct mount *mount, const struct inode *inode, uint64_t *off
     return err;
 }
 
-int fs_write(struct mount *mount, struct inode *inode, uint64_t offset, const char *bytes, size_t count, size_t *done) {
-    const struct backend *backend = &mount->backend;
+int fs_write(struct request *request, struct inode *inode, uint64_t offset, const char *bytes, size_t count,
+             size_t *done) {
+    assert(request_lock_is_held(request->mount));
+    const struct backend *backend = &request->mount->backend;
     struct resolved_path resolved;
     *done = 0;
     int err = inode_path(inode, 0, &resolved);
     if (!err && resolved.snapshot) err = EROFS;
     if (err) return err;
     do {
-        memlimit_begin();
-        err = backend->ops->write(backend->self, resolved.path, offset, bytes, count, clock_now_ns(), done);
-    } while (memlimit_retry(backend, &err));
-    holes_written(mount, inode, offset, *done);
+        memlimit_begin(&request->budget);
+        err = backend->ops->write(backend->self, resolved.path, offset, bytes, count, request->at, done);
+    } while (memlimit_retry(&request->budget, backend, &err));
+    holes_written(request->mount, inode, offset, *done);
     return *done ? 0 : err;
 }
 
@@ -379,6 +388,7 @@ static void leave_out(struct bytes *listing, const char *name) {
 }
 
 int fs_readdir(struct mount *mount, struct inode *inode, struct bytes *out) {
+    assert(request_lock_is_held(mount));
     struct resolved_path resolved;
     if (inode->role == SNAPSHOT_FOLDER) return list_snapshots(inode, out);
     int err = inode_path(inode, 0, &resolved);

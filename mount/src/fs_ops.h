@@ -3,7 +3,7 @@
 // and answers 0 or a number of <errno.h>; one that is refused changes nothing.
 #ifndef FS_OPS_H
 #define FS_OPS_H
-#include "mount.h"
+#include "request.h"
 #include <sys/statvfs.h>
 
 // What a look-up finds.
@@ -20,8 +20,7 @@ struct setattr {
     const gid_t *group;
     const uint64_t *length;
     const struct timespec *access, *modify;
-    bool modifies_now; // `modify` is the moment that is now
-    uint64_t at;       // that moment
+    bool modifies_now; // `modify` is the request's timestamp
 };
 
 // What is to be made under a new name.
@@ -40,19 +39,21 @@ int fs_getattr(struct mount *mount, struct inode *inode, struct stat *out);
 // What stands where an entry lies, and what is told of it. Its attributes are known.
 int fs_node_stat(struct mount *mount, const struct inode *inode, struct node_stat *out);
 void fs_fill_stat(struct mount *mount, struct inode *inode, struct node_stat node_stat, struct stat *out);
-int fs_setattr(struct mount *mount, struct inode *inode, const struct setattr *setattr);
+int fs_setattr(struct request *request, struct inode *inode, const struct setattr *setattr);
 
 // A file is opened, with flags as of open(2), and closed. One that is cut by it may drop its set-user bits.
-int fs_open(struct mount *mount, struct inode *inode, int flags, bool drops);
-int fs_release(struct mount *mount, struct inode *inode);
-int fs_read(struct mount *mount, struct inode *inode, uint64_t offset, char *out, size_t capacity, size_t *got);
-int fs_write(struct mount *mount, struct inode *inode, uint64_t offset, const char *bytes, size_t count, size_t *done);
+int fs_open(struct request *request, struct inode *inode, int flags, bool drops);
+int fs_release(struct request *request, struct inode *inode);
+int fs_read(const struct request *request, struct inode *inode, uint64_t offset, char *out, size_t capacity,
+            size_t *got);
+int fs_write(struct request *request, struct inode *inode, uint64_t offset, const char *bytes, size_t count,
+             size_t *done);
 // Where a write begins of a file that is open to append: in a mount of several the kernel may not know its length yet,
 // and
 // `offset` becomes the file's end; in any other it stays.
 int files_find_end(struct mount *mount, const struct inode *inode, uint64_t *offset);
 // The target of a symbolic link.
-int fs_readlink(struct mount *mount, struct inode *inode, struct bytes *out);
+int fs_readlink(const struct request *request, struct inode *inode, struct bytes *out);
 
 // The names of a directory, as `struct backend_ops` tells them; those of the mount's own are left out.
 int fs_readdir(struct mount *mount, struct inode *inode, struct bytes *out);

@@ -3,9 +3,11 @@
 // Invariant: the record of the file has the number of its names, and each name is an empty file whose record has the
 // file's number ("Record" in docs/FORMATS.md). A name and the count change in one transaction.
 #include "hardlinks.h"
+#include "entry_count.h"
 #include "exit_report.h"
 #include "attrs.h"
 #include "memlimit.h"
+#include <assert.h>
 #include <errno.h>
 #include <stdlib.h>
 #include <string.h>
@@ -40,6 +42,7 @@ static int find_file(struct mount *mount, struct inode *parent, uint64_t number,
 
 int hardlink_find(struct mount *mount, struct inode *parent, const struct resolved_path *resolved, struct attrs *attrs,
                   struct node_stat *node_stat, struct lookup_result *out) {
+    assert(request_lock_is_held(mount));
     struct node_stat file;
     struct inode *inode = 0;
     int err = find_file(mount, parent, attrs->base.link, &file, &inode);
@@ -101,10 +104,10 @@ struct link_args {
 static int place_bytes(struct txn *txn, const struct link_args *args, const struct resolved_path *resolved,
                        const char *path) {
     struct node_stat parent;
-    if (!args->file.length) return txn_create(txn, CREATE, path, args->file.mtime_ns, 0);
+    if (!args->file.length) return txn_create(txn, CALL_CREATE, path, args->file.mtime_ns, 0);
     int err = fs_node_stat(txn->mount, args->inode->parent, &parent);
     if (!err) err = txn_rename(txn, resolved->path, path, parent.mtime_ns, parent.mtime_ns);
-    return err ? err : txn_create(txn, CREATE, resolved->path, parent.mtime_ns, parent.mtime_ns);
+    return err ? err : txn_create(txn, CALL_CREATE, resolved->path, parent.mtime_ns, parent.mtime_ns);
 }
 
 // The file goes to a place of its own.
@@ -122,7 +125,7 @@ static int make_once(struct txn *txn, struct link_args *args) {
     struct node_stat before;
     const char *path = args->resolved.path;
     int err = fs_node_stat(txn->mount, args->parent, &before);
-    if (!err) err = txn_create(txn, CREATE, path, txn->at, before.mtime_ns);
+    if (!err) err = txn_create(txn, CALL_CREATE, path, txn->at, before.mtime_ns);
     if (!err) err = make_name_of(txn, args->parent, path, args->number);
     if (err) return err;
     return args->inode->link ? attrs_rewrite(txn, args->inode, &args->attrs) : give_place(txn, args);
@@ -131,7 +134,7 @@ static int make_once(struct txn *txn, struct link_args *args) {
 // The entry is that of the file in its place from now on.
 static void settle(struct inode *inode, struct inode *folder, char *name, uint64_t number) {
     if (inode->link) {
-        free(name);
+        mem_free(name);
         return;
     }
     inode_move(inode, folder, name);
@@ -143,14 +146,14 @@ static int make_name(struct mount *mount, struct link_args *args, uint64_t at) {
     struct inode *inode = args->inode;
     struct private_path path = private_link(args->number);
     struct inode *folder = inode_private_dir(mount->root, LINKS);
-    char *name = folder ? strdup(private_name(&path)) : 0;
+    char *name = folder ? mem_strdup(private_name(&path)) : 0;
     if (!name) return ENOMEM;
     args->attrs = inode->attrs;
     args->attrs.base.names++;
     txn_begin(&txn, mount, at);
     int err = txn_end(&txn, make_once(&txn, args));
     if (err) {
-        free(name);
+        mem_free(name);
         return err;
     }
     settle(inode, folder, name, args->number);
@@ -164,27 +167,30 @@ static int may_link(struct mount *mount, struct inode *inode, struct inode *pare
     const struct attrs *attrs;
     int err = fs_may_rename(parent, name);
     if (!err) err = fs_may_write(inode);
-    if (!err && (!mount_keeps_records(mount) || inode->is_directory)) err = EPERM;
+    if (!err && inode->is_directory) err = EPERM;
     if (!err && (inode->is_unlinked || !inode->parent)) err = ENOENT;
     if (!err) err = inode_path(parent, name, resolved);
     if (!err) err = attrs_can_store(mount, resolved->path);
     return err ? err : attrs_of(mount, inode, &attrs);
 }
 
-int hardlink_create(struct mount *mount, struct inode *inode, struct inode *parent, const char *name,
+int hardlink_create(struct request *request, struct inode *inode, struct inode *parent, const char *name,
                     struct lookup_result *out) {
-    uint64_t at = clock_now_ns();
+    assert(request_lock_is_held(request->mount));
+    struct mount *mount = request->mount;
     struct link_args args = {.inode = inode, .parent = parent, .number = inode->link ? inode->link : inode->ino};
     int err = parent->role == SNAPSHOT_FOLDER ? EPERM : may_link(mount, inode, parent, name, &args.resolved);
     if (!err) err = fs_node_stat(mount, inode, &args.file);
     if (err) return err;
     do {
-        memlimit_begin();
-        err = make_name(mount, &args, at);
-    } while (memlimit_retry(&mount->backend, &err));
+        memlimit_begin(&request->budget);
+        err = make_name(mount, &args, request->at);
+    } while (memlimit_retry(&request->budget, &mount->backend, &err));
     out->inode = inode;
-    if (!err) fs_fill_stat(mount, inode, args.file, &out->stat);
-    return err;
+    if (err) return err;
+    entry_count_add(mount, 1);
+    fs_fill_stat(mount, inode, args.file, &out->stat);
+    return 0;
 }
 
 int hardlink_count_down(struct txn *txn, struct inode *inode, struct attrs *out) {
@@ -194,6 +200,7 @@ int hardlink_count_down(struct txn *txn, struct inode *inode, struct attrs *out)
 
 // The last name is gone: so goes the file, or it becomes an orphan.
 void hardlink_follow(struct mount *mount, struct inode *inode, const struct attrs *attrs, uint64_t at) {
+    assert(request_lock_is_held(mount));
     // In the log of several mounts a request's change is whole here: what is held stays in its place.
     inode->is_unlinked = !attrs->base.names && mount->replica && inode_is_held(inode);
     if (!attrs->base.names && !inode->is_unlinked) {
@@ -209,7 +216,7 @@ static int remove_once(struct txn *txn, struct inode *inode, const char *path, s
     const struct backend *backend = &txn->mount->backend;
     int err = hardlink_count_down(txn, inode, out);
     if (!err) err = attrs_drop(txn, 0, path);
-    return err ? err : backend->ops->change(backend->self, UNLINK, path, txn->at);
+    return err ? err : backend->ops->change(backend->self, CALL_UNLINK, path, txn->at);
 }
 
 static int remove_name(struct mount *mount, struct inode *inode, const char *path, uint64_t at) {
@@ -230,7 +237,7 @@ static int remove_file_once(struct txn *txn, const struct inode *inode, const st
     int err = attrs_erase(txn, 0, path, &name);
     if (!err) err = txn_unlink(txn, path, &none);
     if (!err) err = attrs_drop_one(txn, file->path, &inode->attrs);
-    return err ? err : backend->ops->change(backend->self, UNLINK, file->path, txn->at);
+    return err ? err : backend->ops->change(backend->self, CALL_UNLINK, file->path, txn->at);
 }
 
 static int remove_file(struct mount *mount, struct inode *inode, const char *path, uint64_t at) {
@@ -245,10 +252,12 @@ static int remove_file(struct mount *mount, struct inode *inode, const char *pat
 }
 
 int hardlink_remove_last(struct mount *mount, struct inode *inode, const char *path, uint64_t at) {
+    assert(request_lock_is_held(mount));
     return inode_is_held(inode) ? remove_name(mount, inode, path, at) : remove_file(mount, inode, path, at);
 }
 
 int hardlink_remove(struct mount *mount, struct inode *parent, const char *name, struct inode *inode, uint64_t at) {
+    assert(request_lock_is_held(mount));
     struct resolved_path resolved;
     int err = inode_path(parent, name, &resolved);
     if (err) return err;

@@ -11,7 +11,7 @@
 int hardlink_find(struct mount *mount, struct inode *parent, const struct resolved_path *resolved, struct attrs *attrs,
                   struct node_stat *node_stat, struct lookup_result *out);
 // Another name for a file.
-int hardlink_create(struct mount *mount, struct inode *inode, struct inode *parent, const char *name,
+int hardlink_create(struct request *request, struct inode *inode, struct inode *parent, const char *name,
                     struct lookup_result *out);
 // The last name of a file goes, at a path. The file goes too, or becomes an orphan if somebody holds it.
 int hardlink_remove_last(struct mount *mount, struct inode *inode, const char *path, uint64_t at);

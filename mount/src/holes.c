@@ -7,6 +7,7 @@
 #include "fs_ops.h"
 #include "replica.h"
 #include "memlimit.h"
+#include <assert.h>
 #include <errno.h>
 #include <fcntl.h>
 #include <unistd.h>
@@ -73,6 +74,7 @@ uint64_t holes_stored(struct mount *mount, struct inode *inode, struct node_stat
 // ---- what is asked for
 
 int holes_seek(struct mount *mount, struct inode *inode, uint64_t offset, int whence, uint64_t *out) {
+    assert(request_lock_is_held(mount));
     struct resolved_path resolved;
     struct node_stat node_stat;
     struct extent extent = {0, 0};
@@ -112,8 +114,7 @@ static int make_hole(struct mount *mount, struct inode *inode, const struct reso
 
 // The longer file first: where a hole cannot be made, the file has the length again that it had.
 static int allocate_once(struct mount *mount, struct inode *inode, const struct resolved_path *resolved, int mode,
-                         struct extent range) {
-    uint64_t at = clock_now_ns();
+                         struct extent range, uint64_t at) {
     struct node_stat before;
     int err = fs_node_stat(mount, inode, &before);
     bool lengthens = !(mode & FALLOC_FL_KEEP_SIZE) && range.to > before.length;
@@ -126,27 +127,28 @@ static int allocate_once(struct mount *mount, struct inode *inode, const struct 
     return err;
 }
 
-static int allocate(struct mount *mount, struct inode *inode, const struct resolved_path *resolved, int mode,
+static int allocate(const struct request *request, struct inode *inode, const struct resolved_path *resolved, int mode,
                     struct extent range) {
+    struct mount *mount = request->mount;
     replica_change_begins(mount);
-    return replica_change_ends(mount, allocate_once(mount, inode, resolved, mode, range));
+    return replica_change_ends(mount, allocate_once(mount, inode, resolved, mode, range, request->at));
 }
 
-int holes_allocate(struct mount *mount, struct inode *inode, int mode, uint64_t offset, uint64_t count) {
+int holes_allocate(struct request *request, struct inode *inode, int mode, uint64_t offset, uint64_t count) {
+    assert(request_lock_is_held(request->mount));
     const int known = FALLOC_FL_KEEP_SIZE | FALLOC_FL_PUNCH_HOLE | FALLOC_FL_ZERO_RANGE;
     struct resolved_path resolved;
-    bool makes_holes = mode & (FALLOC_FL_PUNCH_HOLE | FALLOC_FL_ZERO_RANGE);
-    if (mode & ~known || (makes_holes && !mount_keeps_records(mount))) return EOPNOTSUPP;
+    if (mode & ~known) return EOPNOTSUPP;
     if (count > UINT64_MAX - offset) return EFBIG;
     struct extent range = {offset, offset + count};
     int err = fs_may_write(inode);
     if (!err) err = inode_path(inode, 0, &resolved);
     if (err) return err;
     // It gives room back, so that no size of the mount refuses it.
-    if (mode & FALLOC_FL_PUNCH_HOLE) return allocate(mount, inode, &resolved, mode, range);
+    if (mode & FALLOC_FL_PUNCH_HOLE) return allocate(request, inode, &resolved, mode, range);
     do {
-        memlimit_begin();
-        err = allocate(mount, inode, &resolved, mode, range);
-    } while (memlimit_retry(&mount->backend, &err));
+        memlimit_begin(&request->budget);
+        err = allocate(request, inode, &resolved, mode, range);
+    } while (memlimit_retry(&request->budget, &request->mount->backend, &err));
     return err;
 }

@@ -1,10 +1,10 @@
 // Bytes of a file that are not stored, and read as zeros; and how many are.
 #ifndef HOLES_H
 #define HOLES_H
-#include "mount.h"
+#include "request.h"
 
 // Room for so many bytes from `offset` on, by fallocate(2): a file may get longer by it, or have zeros or holes there.
-int holes_allocate(struct mount *mount, struct inode *inode, int mode, uint64_t offset, uint64_t count);
+int holes_allocate(struct request *request, struct inode *inode, int mode, uint64_t offset, uint64_t count);
 // The next place of data or of a hole, by lseek(2): ENXIO where none is.
 int holes_seek(struct mount *mount, struct inode *inode, uint64_t offset, int whence, uint64_t *out);
 // How many bytes are stored of what stands at an entry. It is remembered until the file changes.

@@ -3,6 +3,7 @@
 // Validity: FILE is complete, since it gets its name only after FILE.part was written and synced. FILE.sum has its
 // SHA-256 digest; a file whose digest differs is refused, and one without FILE.sum is accepted with a warning.
 #include "image.h"
+#include "own_file.h"
 #include <errno.h>
 #include <fcntl.h>
 #include <stdio.h>
@@ -45,11 +46,13 @@ static int try_file(const struct image *image) {
 
 static int open_private(const char *name) {
     int file = open(name, O_WRONLY | O_CREAT | O_CLOEXEC | O_NOFOLLOW, 0600);
-    if (file >= 0 && fchmod(file, 0600)) {
-        close(file);
-        return -1;
-    }
-    return file;
+    if (file < 0) return -1;
+    int err = own_file_check(file);
+    if (!err && !fchmod(file, 0600)) return file;
+    if (!err) err = errno;
+    close(file);
+    errno = err;
+    return -1;
 }
 
 // Takes the file for this mount alone: EBUSY where another one has it, EEXIST where one left something in it.
@@ -74,6 +77,7 @@ int image_open(struct image *image, const char *file) {
     if (!err) err = try_file(image);
     if (!err) err = open_part(image);
     if (err == EBUSY) report(file, "another mount keeps its tree there");
+    else if (err == EPERM) report(image->part, OWN_FILE_REFUSAL);
     else if (err == EEXIST) report(image->part, "a mount that did not end well left it: look at it, and take it away");
     else report_err(file, err);
     return err;

@@ -3,6 +3,7 @@
 // Invariant: this is a cache. An inode is freed when the kernel has forgotten it, nobody has it open and it has no
 // children; what must last is in the volume. No two inodes ever have the same `ino`.
 #include "inodes.h"
+#include "memlimit.h"
 #include <errno.h>
 #include <stdlib.h>
 #include <string.h>
@@ -13,20 +14,16 @@ static size_t slot_count, entry_count;
 static uint64_t numbers;   // of entries that there ever were
 static struct inode *gone; // out of the tree, and held: at the end of a mount the kernel does not forget all of them
 static struct timespec began;
-static uint64_t fixed; // the moment that is told as now; 0: it is that of the clock
 
 enum { NANOSECONDS = 1000000000 };
 
-struct timespec now(void) {
+static struct timespec now(void) {
     struct timespec time;
     clock_gettime(CLOCK_REALTIME, &time);
     return time;
 }
 
-void clock_override(uint64_t ns) { fixed = ns; }
-
 uint64_t clock_now_ns(void) {
-    if (fixed) return fixed;
     struct timespec time = now();
     return (uint64_t)time.tv_sec * NANOSECONDS + (uint64_t)time.tv_nsec;
 }
@@ -64,7 +61,7 @@ static void leave_slot(struct inode *inode) {
 
 // Twice as many slots; where memory is wanting the old ones do.
 static void widen(void) {
-    struct inode **old = slots, **wide = calloc(2 * slot_count, sizeof(*wide));
+    struct inode **old = slots, **wide = mem_calloc(2 * slot_count, sizeof(*wide));
     if (!wide) return;
     size_t count = slot_count;
     slots = wide;
@@ -74,7 +71,7 @@ static void widen(void) {
             next = inode->same_slot;
             enter_slot(inode);
         }
-    free(old);
+    mem_free(old);
 }
 
 static void link_in(struct inode *inode, struct inode *parent) {
@@ -95,9 +92,9 @@ static void link_out(struct inode *inode) {
 }
 
 static struct inode *new_inode(char *name, bool is_directory) {
-    struct inode *inode = name ? calloc(1, sizeof *inode) : 0;
+    struct inode *inode = name ? mem_calloc(1, sizeof *inode) : 0;
     if (!inode) {
-        free(name);
+        mem_free(name);
         return 0;
     }
     inode->name = name;
@@ -125,7 +122,7 @@ struct inode *inode_find(const struct inode *parent, const char *name) {
 }
 
 struct inode *inode_add(struct inode *parent, const char *name, bool is_directory) {
-    struct inode *inode = new_inode(strdup(name), is_directory);
+    struct inode *inode = new_inode(mem_strdup(name), is_directory);
     if (!inode) return 0;
     if (++entry_count > slot_count) widen();
     link_in(inode, parent);
@@ -140,8 +137,8 @@ struct inode *inode_find_or_add(struct inode *parent, const char *name, bool is_
 struct inode *inodes_start(void) {
     began = now();
     slot_count = 1024;
-    slots = calloc(slot_count, sizeof(*slots));
-    struct inode *root = slots ? new_inode(strdup(""), true) : 0;
+    slots = mem_calloc(slot_count, sizeof(*slots));
+    struct inode *root = slots ? new_inode(mem_strdup(""), true) : 0;
     struct inode *snapshots = root ? inode_add(root, SNAPSHOTS, true) : 0;
     if (!snapshots) return 0;
     root->role = LIVE_ROOT;
@@ -179,9 +176,9 @@ static void leave_gone(struct inode *inode) {
 static void free_out(struct inode *inode) {
     if (inode->parent || inode_is_held(inode) || inode->role == LIVE_ROOT) return;
     leave_gone(inode);
-    free(inode->name);
-    free(inode->known_record);
-    free(inode);
+    mem_free(inode->name);
+    mem_free(inode->known_record);
+    mem_free(inode);
     entry_count--;
 }
 
@@ -193,7 +190,7 @@ void inode_detach(struct inode *inode) {
 }
 
 static bool may_go(const struct inode *inode) {
-    return inode->role == ORDINARY && !inode->first && !inode->in_memory_only && !inode_is_held(inode);
+    return inode->role == ORDINARY && !inode->first && !inode->is_pinned && !inode_is_held(inode);
 }
 
 // Frees what nobody holds below an entry.
@@ -222,7 +219,7 @@ void inode_put(struct inode *inode) {
 
 void inode_move(struct inode *inode, struct inode *parent, char *name) {
     link_out(inode);
-    free(inode->name);
+    mem_free(inode->name);
     inode->name = name;
     link_in(inode, parent);
 }

@@ -54,7 +54,7 @@ struct inode {
     // Times that no volume keeps.
     struct timespec access, change;
     bool has_access;
-    bool in_memory_only; // its attributes stand here alone
+    bool is_pinned;      // an unlinked file that could not be removed yet: not freed with its directory
 };
 
 // The path of an inode. `path` points into `text`.
@@ -91,12 +91,9 @@ int inode_path(const struct inode *inode, const char *name, struct resolved_path
 const struct inode *inode_root(const struct inode *inode);
 bool inode_is_live(const struct inode *inode);
 
-// The moment that is now, and a moment as a time. Moment 0, which was never handed in, is the time of the mount.
+// Now, in nanoseconds since 1970, and such a number as a time; 0, which was never handed in, is the time of the mount.
 uint64_t clock_now_ns(void);
-// Until it is 0 the moment that is now is this one.
-void clock_override(uint64_t ns);
 struct timespec ns_to_timespec(uint64_t ns);
-struct timespec now(void);
 // A time as a moment; one before 1970 is 0, and one that is too late the latest.
 uint64_t timespec_to_ns(struct timespec time);
 #endif

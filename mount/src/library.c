@@ -6,6 +6,7 @@
 #include "image.h"
 #include "library.h"
 #include "backend.h"
+#include "memlimit.h"
 #include <errno.h>
 #include <fcntl.h>
 #include <inttypes.h>
@@ -15,7 +16,7 @@
 #include <unistd.h>
 
 // Each block of a write is one.
-enum { BLOCK = 4096, CHANGES_BEFORE_STEPS = 16, MOST_OWED = 1 << 20 };
+enum { BLOCK = 4096, CHANGES_BEFORE_STEPS = 16, MOST_OWED = 1 << 20, PIECE_OF_IMAGE = 1 << 16 };
 
 struct library {
     struct doorvervain volume;
@@ -27,10 +28,6 @@ struct library {
     struct doorvervain_frozen tree;
     char snapshot[LONGEST_SNAPSHOT + 1];
 };
-
-static uint8_t piece[1 << 16]; // of an image: one at a time is read or written
-
-static const uint8_t *text(const char *word) { return (const uint8_t *)word; }
 
 // What a call's number says in <errno.h>. Behind some changes steps of the tree are due: a step that moves one change
 // down takes about as long as one that moves many.
@@ -45,27 +42,29 @@ static int done_many(struct library *library, uint8_t number, size_t changes) {
 
 static int done(struct library *library, uint8_t number) { return done_many(library, number, 1); }
 
-static int library_change(void *self, enum change what, const char *path, uint64_t at) {
-    static uint8_t (*const calls[])(struct doorvervain *, const uint8_t *, size_t, uint64_t) = {
-        doorvervain_mkdir, doorvervain_create, doorvervain_unlink, doorvervain_rmdir, doorvervain_rmtree};
+static int library_change(void *self, enum path_call what, const char *path, uint64_t at) {
+    static uint8_t (*const calls[])(struct doorvervain *, const char *, size_t, uint64_t) = {
+        [CALL_MKDIR] = doorvervain_mkdir,   [CALL_CREATE] = doorvervain_create, [CALL_UNLINK] = doorvervain_unlink,
+        [CALL_RMDIR] = doorvervain_rmdir,   [CALL_RMTREE] = doorvervain_rmtree,
+    };
     struct library *library = self;
-    return done(library, calls[what](&library->volume, text(path), strlen(path), at));
+    return done(library, calls[what](&library->volume, path, strlen(path), at));
 }
 
 static int library_rename(void *self, const char *from, const char *to, uint64_t at) {
     struct library *library = self;
-    return done(library, doorvervain_rename(&library->volume, text(from), strlen(from), text(to), strlen(to), at));
+    return done(library, doorvervain_rename(&library->volume, from, strlen(from), to, strlen(to), at));
 }
 
 static int library_truncate(void *self, const char *path, uint64_t length, uint64_t at) {
     struct library *library = self;
-    return done(library, doorvervain_truncate(&library->volume, text(path), strlen(path), length, at));
+    return done(library, doorvervain_truncate(&library->volume, path, strlen(path), length, at));
 }
 
 static int library_write(void *self, const char *path, uint64_t offset, const char *bytes, size_t count, uint64_t at,
                          size_t *written) {
     struct library *library = self;
-    uint8_t number = doorvervain_write(&library->volume, text(path), strlen(path), offset, text(bytes), count, at);
+    uint8_t number = doorvervain_write(&library->volume, path, strlen(path), offset, bytes, count, at);
     int err = done_many(library, number, 1 + count / BLOCK);
     *written = err ? 0 : count;
     return err;
@@ -81,7 +80,7 @@ static int look_into(struct library *library, const char *snapshot) {
     if (!strcmp(library->snapshot, snapshot)) return 0;
     if (strlen(snapshot) > LONGEST_SNAPSHOT) return ENOENT;
     forget_tree(library);
-    uint8_t number = doorvervain_open_snapshot(&library->volume, text(snapshot), strlen(snapshot), &library->tree);
+    uint8_t number = doorvervain_open_snapshot(&library->volume, snapshot, strlen(snapshot), &library->tree);
     if (number) return doorvervain_errno(number);
     strcpy(library->snapshot, snapshot);
     return 0;
@@ -94,9 +93,9 @@ static int library_read(void *self, struct path_ref ref, uint64_t offset, char *
     if (err) return err;
     if (ref.snapshot)
         return doorvervain_errno(
-            doorvervain_frozen_read(&library->tree, text(ref.path), length, offset, (uint8_t *)out, capacity, got));
+            doorvervain_frozen_read(&library->tree, ref.path, length, offset, (uint8_t *)out, capacity, got));
     return doorvervain_errno(
-        doorvervain_read(&library->volume, text(ref.path), length, offset, (uint8_t *)out, capacity, got));
+        doorvervain_read(&library->volume, ref.path, length, offset, (uint8_t *)out, capacity, got));
 }
 
 static int library_stat(void *self, struct path_ref ref, struct node_stat *out) {
@@ -106,8 +105,8 @@ static int library_stat(void *self, struct path_ref ref, struct node_stat *out) 
     int err = ref.snapshot ? look_into(library, ref.snapshot) : 0;
     if (err) return err;
     if (ref.snapshot)
-        number = doorvervain_frozen_stat(&library->tree, text(ref.path), length, &kind, &out->length, &out->mtime_ns);
-    else number = doorvervain_stat(&library->volume, text(ref.path), length, &kind, &out->length, &out->mtime_ns);
+        number = doorvervain_frozen_stat(&library->tree, ref.path, length, &kind, &out->length, &out->mtime_ns);
+    else number = doorvervain_stat(&library->volume, ref.path, length, &kind, &out->length, &out->mtime_ns);
     out->is_directory = kind == 1;
     return doorvervain_errno(number);
 }
@@ -116,8 +115,8 @@ static int library_stat(void *self, struct path_ref ref, struct node_stat *out) 
 static uint8_t list_once(struct library *library, struct path_ref ref, struct bytes *out, size_t *size) {
     uint8_t *to = (uint8_t *)out->at + out->length;
     size_t length = strlen(ref.path), capacity = out->capacity - out->length;
-    if (ref.snapshot) return doorvervain_frozen_readdir(&library->tree, text(ref.path), length, to, capacity, size);
-    return doorvervain_readdir(&library->volume, text(ref.path), length, to, capacity, size);
+    if (ref.snapshot) return doorvervain_frozen_readdir(&library->tree, ref.path, length, to, capacity, size);
+    return doorvervain_readdir(&library->volume, ref.path, length, to, capacity, size);
 }
 
 static int library_readdir(void *self, struct path_ref ref, struct bytes *out) {
@@ -135,16 +134,19 @@ static int library_readdir(void *self, struct path_ref ref, struct bytes *out) {
 }
 
 static int library_snapshot(void *self, enum snapshot_call what, const char *snapshot) {
-    static uint8_t (*const calls[])(struct doorvervain *, const uint8_t *,
-                                    size_t) = {doorvervain_snapshot, doorvervain_drop_snapshot, doorvervain_restore};
+    static uint8_t (*const calls[])(struct doorvervain *, const char *, size_t) = {
+        [TAKE_SNAPSHOT] = doorvervain_snapshot,
+        [DROP_SNAPSHOT] = doorvervain_drop_snapshot,
+        [RESTORE_SNAPSHOT] = doorvervain_restore,
+    };
     struct library *library = self;
     if (what == DROP_SNAPSHOT && !strcmp(library->snapshot, snapshot)) forget_tree(library);
-    return done(library, calls[what](&library->volume, text(snapshot), strlen(snapshot)));
+    return done(library, calls[what](&library->volume, snapshot, strlen(snapshot)));
 }
 
 static int library_punch(void *self, const char *path, uint64_t offset, uint64_t count, uint64_t at) {
     struct library *library = self;
-    return done(library, doorvervain_punch(&library->volume, text(path), strlen(path), offset, count, at));
+    return done(library, doorvervain_punch(&library->volume, path, strlen(path), offset, count, at));
 }
 
 static int library_next_extent(void *self, struct path_ref ref, uint64_t offset, struct extent *out) {
@@ -154,15 +156,16 @@ static int library_next_extent(void *self, struct path_ref ref, uint64_t offset,
     if (err) return err;
     if (ref.snapshot)
         return doorvervain_errno(
-            doorvervain_frozen_next_extent(&library->tree, text(ref.path), length, offset, &out->from, &out->to));
+            doorvervain_frozen_next_extent(&library->tree, ref.path, length, offset, &out->from, &out->to));
     return doorvervain_errno(
-        doorvervain_next_extent(&library->volume, text(ref.path), length, offset, &out->from, &out->to));
+        doorvervain_next_extent(&library->volume, ref.path, length, offset, &out->from, &out->to));
 }
 
 static int put(void *image, const uint8_t *bytes, size_t count) { return image_put(image, (const char *)bytes, count); }
 
 // The image goes out piece by piece: no memory is taken for all of its text.
 static int save(struct library *library, struct image *image) {
+    uint8_t piece[PIECE_OF_IMAGE];
     struct doorvervain_frozen live;
     int failed = 0;
     uint8_t number = doorvervain_freeze(&library->volume, &live);
@@ -189,7 +192,7 @@ static int library_close(void *self, struct image *image) {
     int err = image ? save(library, image) : 0;
     forget_tree(library);
     doorvervain_close(&library->volume);
-    free(library);
+    mem_free(library);
     return err;
 }
 
@@ -207,13 +210,6 @@ static const struct backend_ops library_ops = {
     .compact = library_compact,
     .compaction_debt = library_compaction_debt,
     .close = library_close,
-};
-
-static const struct attr_ops library_attr_ops = {
-    .record_dir = doorvervain_attr_dir,
-    .record_path = doorvervain_attr_path,
-    .print = doorvervain_attr_encode,
-    .parse = doorvervain_attr_decode,
 };
 
 struct doorvervain *library_volume(void *self) {
@@ -247,6 +243,7 @@ static int get(void *from, uint8_t *out, size_t capacity, size_t *got) {
 
 // The image comes in piece by piece, as it goes out.
 static int load(struct library *library, const struct open_options *options) {
+    uint8_t piece[PIECE_OF_IMAGE];
     const char *name = options->image;
     uint64_t line = 0;
     struct source source = {open(name, O_RDONLY | O_CLOEXEC), options->stops};
@@ -263,13 +260,12 @@ static int load(struct library *library, const struct open_options *options) {
 }
 
 int open_library(const struct open_options *options, struct backend *out) {
-    struct library *library = calloc(1, sizeof *library);
+    struct library *library = mem_calloc(1, sizeof *library);
     if (!library) return ENOMEM;
     library->steps = options->steps;
     library->has_backlog = options->steps;
-    *out =
-        (struct backend){.ops = &library_ops, .self = library, .attr_ops = &library_attr_ops, .tree = &library->volume};
+    *out = (struct backend){.ops = &library_ops, .self = library, .tree = &library->volume};
     int err = options->image ? load(library, options) : open_empty(library);
-    if (err) free(library);
+    if (err) mem_free(library);
     return err;
 }

@@ -8,6 +8,7 @@
 #include "requests.h"
 #include "delta_client.h"
 #include "serving.h"
+#include "status.h"
 #include "store.h"
 #include <errno.h>
 #include <fcntl.h>
@@ -95,7 +96,6 @@ static int serve_options(struct options *options) {
     options->open.image = full_name(options->open.image);
     options->open.store = full_name(options->open.store);
     options->open.trace = full_name(options->open.trace);
-    options->open.betr = full_name(options->open.betr);
     struct etcd_options *replica = &options->open.replica;
     const char **files[] = {&replica->cacert, &replica->cert, &replica->key, &replica->password_file};
     for (size_t i = 0; i < sizeof files / sizeof *files; i++) *files[i] = full_name(*files[i]);
@@ -117,6 +117,7 @@ int main(int count, char **words) {
     if (options.send_from) return send_delta(options.mount_point, options.send_from, options.until);
     if (options.receives) return receive_delta(options.mount_point);
     if (options.restore) return ask_to_restore(options.mount_point, options.restore);
+    if (options.prints_status) return print_status(options.mount_point, options.as_json);
     if (options.unmounts) return exit_report_wait(options.mount_point);
     return serve_options(&options);
 }

@@ -1,9 +1,8 @@
-// Counts all memory of the process (--wrap=malloc and others), and limits it for calls that make the tree grow
-// (--size).
+// Counts the memory that the library and the mount take, and limits it for calls that make the tree grow (--size).
 //
-// Invariant: `taken` is the sum of the usable sizes of all blocks. Only between `memlimit_begin` and `memlimit_suspend`
-// or `memlimit_retry` does the calling thread get no memory beyond the limit less the reserve, so removals and undo
-// always may take more.
+// Invariant: `taken` is the sum of the usable sizes of all blocks that these functions gave. Only between
+// `memlimit_begin` and `memlimit_suspend` or `memlimit_retry` does the calling thread get no memory beyond the limit less
+// the reserve, so removals and undo always may take more.
 #include "memlimit.h"
 #include <errno.h>
 #include <inttypes.h>
@@ -13,32 +12,21 @@
 #include <stdlib.h>
 #include <string.h>
 
-enum { STEPS_AT_ONCE = 256, MOST_ROUNDS = 64 };
-
-void *__real_malloc(size_t count);
-void *__real_calloc(size_t many, size_t count);
-void *__real_realloc(void *old, size_t count);
-void __real_free(void *at);
-void *__wrap_malloc(size_t count);
-void *__wrap_calloc(size_t many, size_t count);
-void *__wrap_realloc(void *old, size_t count);
-void __wrap_free(void *at);
-char *__wrap_strdup(const char *text);
+enum { STEPS_AT_ONCE = 256, MOST_ROUNDS = 64, WORTH_A_TRIM = 16 << 20 };
 
 static _Atomic size_t taken;
 static uint64_t size;
-// Of the thread that makes a call: the most that may be taken, 0 where it is not limited.
-static _Thread_local size_t most;
-static _Thread_local bool was_refused;
+static size_t most_taken; // since the last trim, as it was asked behind requests
+// Of the call that this thread makes; null: it is not limited. The library hands nothing of its caller to its allocator.
+static _Thread_local struct mem_budget *current;
 
 // What a piece of memory takes, with the word that malloc keeps in front of it.
 static size_t taken_by(void *at) { return at ? malloc_usable_size(at) + sizeof(size_t) : 0; }
 
 static bool is_refused(size_t more) {
     size_t now = atomic_load_explicit(&taken, memory_order_relaxed);
-    if (!most || (now <= most && more <= most - now)) return false;
-    was_refused = true;
-    errno = ENOMEM;
+    if (!current || (now <= current->most && more <= current->most - now)) return false;
+    current->was_refused = true;
     return true;
 }
 
@@ -49,32 +37,32 @@ static void *count_in(void *at) {
 
 static void count_out(size_t bytes) { atomic_fetch_sub_explicit(&taken, bytes, memory_order_relaxed); }
 
-void *__wrap_malloc(size_t count) { return is_refused(count) ? 0 : count_in(__real_malloc(count)); }
+void *mem_alloc(size_t count) { return is_refused(count) ? NULL : count_in(malloc(count)); }
 
-void *__wrap_calloc(size_t many, size_t count) {
+void *mem_calloc(size_t many, size_t count) {
     size_t all;
-    if (__builtin_mul_overflow(many, count, &all) || is_refused(all)) return 0;
-    return count_in(__real_calloc(many, count));
+    if (__builtin_mul_overflow(many, count, &all) || is_refused(all)) return NULL;
+    return count_in(calloc(many, count));
 }
 
-void *__wrap_realloc(void *old, size_t count) {
+void *mem_realloc(void *old, size_t count) {
     size_t before = taken_by(old);
-    if (count > before && is_refused(count - before)) return 0;
-    void *at = __real_realloc(old, count);
-    if (!at && count) return 0;
+    if (count > before && is_refused(count - before)) return NULL;
+    void *at = realloc(old, count);
+    if (!at) return NULL;
     count_out(before);
     return count_in(at);
 }
 
-void __wrap_free(void *at) {
+void mem_free(void *at) {
     count_out(taken_by(at));
-    __real_free(at);
+    free(at);
 }
 
-char *__wrap_strdup(const char *text) {
+char *mem_strdup(const char *text) {
     size_t count = strlen(text) + 1;
-    char *copy = __wrap_malloc(count);
-    return copy ? memcpy(copy, text, count) : 0;
+    char *copy = mem_alloc(count);
+    return copy ? memcpy(copy, text, count) : NULL;
 }
 
 static uint64_t reserve(void) { return size / SHARE_KEPT; }
@@ -99,20 +87,33 @@ struct mem_usage memlimit_usage(void) {
     return (struct mem_usage){all, all - (available < all ? available : all), 0};
 }
 
-uint64_t memlimit_taken(void) { return atomic_load(&taken); }
-
-void memlimit_begin(void) {
-    most = size - reserve();
-    was_refused = false;
+bool memlimit_has_freed(void) {
+    size_t now = atomic_load_explicit(&taken, memory_order_relaxed);
+    if (now > most_taken) most_taken = now;
+    return most_taken - now > WORTH_A_TRIM;
 }
 
-void memlimit_suspend(void) { most = 0; }
+void memlimit_trim(void) {
+    malloc_trim(0);
+    most_taken = 0;
+}
+
+uint64_t memlimit_size(void) { return size; }
+
+uint64_t memlimit_taken(void) { return atomic_load(&taken); }
+
+void memlimit_begin(struct mem_budget *budget) {
+    *budget = (struct mem_budget){.most = size - reserve()};
+    current = size ? budget : NULL;
+}
+
+void memlimit_suspend(void) { current = NULL; }
 
 int memlimit_reserve(struct bytes *bytes, size_t more) {
-    size_t limit = most;
-    most = 0;
+    struct mem_budget *before = current;
+    current = NULL;
     int err = bytes_reserve(bytes, more);
-    most = limit;
+    current = before;
     return err;
 }
 
@@ -125,10 +126,10 @@ static bool gives_back(const struct backend *backend) {
     return false;
 }
 
-bool memlimit_retry(const struct backend *backend, int *err) {
-    bool wants_room = was_refused && *err == ENOMEM;
-    most = 0;
-    was_refused = false;
+bool memlimit_retry(struct mem_budget *budget, const struct backend *backend, int *err) {
+    bool wants_room = budget->was_refused && *err == ENOMEM;
+    current = NULL;
+    budget->was_refused = false;
     if (!wants_room) return false;
     if (gives_back(backend)) return true;
     *err = ENOSPC;

@@ -6,6 +6,11 @@
 struct store;   // of store.h
 struct replica; // of replica.h
 
+// The record's path of the path that was asked for last; an empty path: of none.
+struct record_cache {
+    char path[LONGEST_PATH + 1], record[LONGEST_PATH + 1];
+};
+
 struct mount {
     struct backend backend;
     struct inode *root;
@@ -22,7 +27,10 @@ struct mount {
     struct inode *deferred;   // an unlinked file that the kernel still knows, before it becomes an orphan; null: none
     uint64_t deferred_at;     // the moment at which it was unlinked
     char *deferred_path;      // the path of its last name, of a file of several names; null: it is at its own
+    struct record_cache last_record;
+    // Of entry_count.c.
+    int64_t entries;
+    uint64_t entry_walks;
+    bool entries_known;
 };
-
-static inline bool mount_keeps_records(const struct mount *mount) { return mount->backend.attr_ops; }
 #endif

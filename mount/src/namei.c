@@ -4,11 +4,13 @@
 // it has ended well, so an error leaves the tree and the inodes as they were.
 #define _GNU_SOURCE
 #include "namei.h"
+#include "entry_count.h"
 #include "holes.h"
 #include "hardlinks.h"
 #include "attrs.h"
 #include "memlimit.h"
 #include "snapshots.h"
+#include <assert.h>
 #include <errno.h>
 #include <stdio.h>
 #include <stdlib.h>
@@ -35,7 +37,7 @@ static int write_target(struct txn *txn, const char *path, const char *target) {
 static int make_once(struct txn *txn, struct inode *parent, const struct resolved_path *resolved,
                      const struct create_args *args, struct attrs *attrs) {
     struct node_stat before;
-    enum change what = args->base.kind == DOORVERVAIN_DIRECTORY ? MAKE_DIRECTORY : CREATE;
+    enum path_call what = args->base.kind == DOORVERVAIN_DIRECTORY ? CALL_MKDIR : CALL_CREATE;
     int err = fs_node_stat(txn->mount, parent, &before);
     if (!err) err = txn_create(txn, what, resolved->path, txn->at, before.mtime_ns);
     if (!err) err = attrs_create(txn, parent, resolved->path, attrs, 0);
@@ -59,36 +61,34 @@ static int make(struct mount *mount, struct inode *parent, const char *name, con
     return err;
 }
 
-static int may_make(struct mount *mount, const struct inode *parent, const char *name, const struct create_args *args,
-                    struct resolved_path *resolved) {
-    uint8_t kind = args->base.kind;
-    bool is_usual = kind == DOORVERVAIN_DIRECTORY || kind == DOORVERVAIN_FILE;
+static int may_make(struct mount *mount, const struct inode *parent, const char *name, struct resolved_path *resolved) {
     int err = fs_may_rename(parent, name);
-    if (!err && !is_usual && !mount_keeps_records(mount)) err = EPERM;
     if (!err) err = inode_path(parent, name, resolved);
     return err ? err : attrs_can_store(mount, resolved->path);
 }
 
-int namei_create(struct mount *mount, struct inode *parent, const char *name, const struct create_args *args,
+int namei_create(struct request *request, struct inode *parent, const char *name, const struct create_args *args,
                  struct lookup_result *out) {
-    uint64_t at = clock_now_ns();
+    assert(request_lock_is_held(request->mount));
+    struct mount *mount = request->mount;
     struct resolved_path resolved;
     struct create_args wanted = *args;
     bool is_directory = args->base.kind == DOORVERVAIN_DIRECTORY;
     out->is_other_name = false;
-    if (parent->role == SNAPSHOT_FOLDER) return is_directory ? snapshot_take(mount, name, out) : EPERM;
-    int err = may_make(mount, parent, name, args, &resolved);
+    if (parent->role == SNAPSHOT_FOLDER) return is_directory ? snapshot_take(request, name, out) : EPERM;
+    int err = may_make(mount, parent, name, &resolved);
     if (!err) err = inherit_group(mount, parent, &wanted.base);
     if (err) return err;
     attrs_untrust(mount, &wanted.base);
     do {
-        memlimit_begin();
-        err = make(mount, parent, name, &resolved, &wanted, at, &out->inode);
-    } while (memlimit_retry(&mount->backend, &err));
+        memlimit_begin(&request->budget);
+        err = make(mount, parent, name, &resolved, &wanted, request->at, &out->inode);
+    } while (memlimit_retry(&request->budget, &mount->backend, &err));
     if (err) return err;
+    entry_count_add(mount, 1);
     size_t length = args->target ? strlen(args->target) : 0;
     holes_dense(mount, out->inode, length);
-    fs_fill_stat(mount, out->inode, (struct node_stat){is_directory, length, at}, &out->stat);
+    fs_fill_stat(mount, out->inode, (struct node_stat){is_directory, length, request->at}, &out->stat);
     return 0;
 }
 
@@ -101,7 +101,7 @@ static void bring_back(struct txn *txn, const char *path, const struct node_stat
     struct private_path parked;
     memlimit_suspend();
     if (private_orphan_path(txn->mount, &parked)) return;
-    backend->ops->change(backend->self, MAKE_DIRECTORY, parked.text, before->mtime_ns);
+    backend->ops->change(backend->self, CALL_MKDIR, parked.text, before->mtime_ns);
     backend->ops->rename(backend->self, parked.text, path, above->mtime_ns);
 }
 
@@ -111,7 +111,7 @@ static int take_folder(struct txn *txn, struct inode *parent, const struct resol
     struct node_stat before, above;
     int err = backend_stat(backend, (struct path_ref){0, resolved->path}, &before);
     if (!err) err = fs_node_stat(txn->mount, parent, &above);
-    if (!err) err = backend->ops->change(backend->self, REMOVE_DIRECTORY, resolved->path, txn->at);
+    if (!err) err = backend->ops->change(backend->self, CALL_RMDIR, resolved->path, txn->at);
     if (err) return err;
     err = attrs_drop(txn, parent, resolved->path);
     if (err) bring_back(txn, resolved->path, &before, &above);
@@ -124,7 +124,9 @@ static int remove_folder(struct mount *mount, struct inode *parent, const char *
     struct inode *inode = inode_find(parent, name);
     txn_begin(&txn, mount, at);
     int err = txn_end(&txn, take_folder(&txn, parent, resolved));
-    if (err || !inode) return err;
+    if (err) return err;
+    entry_count_add(mount, -1);
+    if (!inode) return 0;
     inode->change = ns_to_timespec(at);
     inode_detach(inode);
     return 0;
@@ -136,20 +138,23 @@ static int find_known(struct mount *mount, struct inode *parent, const char *nam
     return is_known ? 0 : fs_lookup(mount, parent, name, out);
 }
 
-int namei_remove(struct mount *mount, struct inode *parent, const char *name, bool is_directory) {
-    uint64_t at = clock_now_ns();
+int namei_remove(struct request *request, struct inode *parent, const char *name, bool is_directory) {
+    assert(request_lock_is_held(request->mount));
+    struct mount *mount = request->mount;
     struct lookup_result result;
     struct resolved_path resolved;
     if (parent->role == SNAPSHOT_FOLDER) return is_directory ? snapshot_drop(mount, name) : EPERM;
     int err = fs_may_rename(parent, name);
     if (!err) err = inode_path(parent, name, &resolved);
     if (err) return err;
-    if (is_directory) return remove_folder(mount, parent, name, &resolved, at);
+    if (is_directory) return remove_folder(mount, parent, name, &resolved, request->at);
     err = find_known(mount, parent, name, &result);
     if (err) return err;
     if (result.inode->is_directory) return EISDIR;
-    if (result.is_other_name) return hardlink_remove(mount, parent, name, result.inode, at);
-    return orphan_unlink(mount, result.inode, at);
+    if (result.is_other_name) err = hardlink_remove(mount, parent, name, result.inode, request->at);
+    else err = orphan_unlink(mount, result.inode, request->at);
+    if (!err) entry_count_add(mount, -1);
+    return err;
 }
 
 // ---- what moves
@@ -178,29 +183,30 @@ static int move_once(struct txn *txn, struct move *move) {
     return err ? err : backend->ops->rename(backend->self, move->from.path, move->to.path, txn->at);
 }
 
-static int move_path(struct mount *mount, struct move *move, uint64_t at) {
+static int move_path(struct request *request, struct move *move) {
     struct txn txn;
     int err;
     do {
         move->orphan.name = 0;
-        memlimit_begin();
-        txn_begin(&txn, mount, at);
+        memlimit_begin(&request->budget);
+        txn_begin(&txn, request->mount, request->at);
         err = txn_end(&txn, move_once(&txn, move));
         if (err) orphan_free(&move->orphan);
-    } while (memlimit_retry(&mount->backend, &err));
+    } while (memlimit_retry(&request->budget, &request->mount->backend, &err));
     return err;
 }
 
 // The entries follow a rename that was done. A file with several names keeps its entry.
 static void follow(struct mount *mount, struct move *move, char *name, uint64_t at) {
     struct inode *source = move->source.inode, *target = move->target.inode;
+    if (target) entry_count_add(mount, -1);
     if (target && target->is_directory) inode_detach(target);
     else if (target && move->target.is_other_name) hardlink_follow(mount, target, &move->counted, at);
     else if (target) orphan_moved(mount, target, &move->orphan, at);
     struct inode *former = inode_find(move->new_parent, name); // of a tree that is not there any more
     if (former) inode_detach(former);
     source->change = ns_to_timespec(at);
-    if (move->source.is_other_name) free(name);
+    if (move->source.is_other_name) mem_free(name);
     else inode_move(source, move->new_parent, name);
 }
 
@@ -236,18 +242,18 @@ static int may_move(struct mount *mount, struct move *move, const char *name, co
     return err ? err : find_both(mount, move, name, new_name, flags);
 }
 
-int namei_rename(struct mount *mount, struct inode *parent, const char *name, struct inode *new_parent,
+int namei_rename(struct request *request, struct inode *parent, const char *name, struct inode *new_parent,
                  const char *new_name, unsigned flags) {
-    uint64_t at = clock_now_ns();
+    assert(request_lock_is_held(request->mount));
     struct move move = {.parent = parent, .new_parent = new_parent};
-    int err = may_move(mount, &move, name, new_name, flags);
+    int err = may_move(request->mount, &move, name, new_name, flags);
     if (err || move.source.inode == move.target.inode) return err;
-    char *copy = strdup(new_name);
-    err = copy ? move_path(mount, &move, at) : ENOMEM;
+    char *copy = mem_strdup(new_name);
+    err = copy ? move_path(request, &move) : ENOMEM;
     if (err) {
-        free(copy);
+        mem_free(copy);
         return err;
     }
-    follow(mount, &move, copy, at);
+    follow(request->mount, &move, copy, request->at);
     return 0;
 }

@@ -23,9 +23,10 @@ static const char help[] =
     "                                        has to be the first of the two. Its snapshots stay\n"
     "  doorvervain-mount --unmount MNT       unmounts it, and waits until its store or image is complete; the status is the\n"
     "                                        mount's\n"
+    "  doorvervain-mount --status MNT [--json]\n"
+    "                                        prints its files, memory, log, snapshots, and members of etcd\n"
     "  doorvervain-mount --dump-log DIR      prints the write-ahead logs of a store as lines of a script\n"
     "\n"
-    "  --pipe BETR     speaks to the program BETR, in a process of its own, instead of the library\n"
     "  --load FILE     begins with the tree whose image is in FILE\n"
     "  --image FILE    writes the image of the tree to FILE when it is unmounted, and its checksum to FILE.sum\n"
     "  --store DIR     keeps the tree in the directory DIR: what was synced survives the mount and a crash of the machine\n"
@@ -42,29 +43,31 @@ static const char help[] =
     "  --password-file FILE\n"
     "                  has that user's password in its first line\n"
     "  --size N        lets the tree take N bytes of memory, with K, M or G after N, and at least 16M; an eighth is kept\n"
-    "                  for removals. Not with --pipe\n"
+    "                  for removals\n"
     "  --trace NAME    writes every call to NAME.in, as a script, and every reply to NAME.out, new files, for tests\n"
-    "  --steps N       does N tree steps after every 16 changes, 0 to 1000 (4)\n"
+    "  --steps N       does N tree steps after every 16 changes, 1 to 1000 (4)\n"
     "  --busy-poll N   looks for the next request for N microseconds before it sleeps, if the last ones came that soon,\n"
     "                  0 to 1000 (30); 0 sleeps at once\n"
     "  --trust-attributes\n"
     "                  honours owners, set-user bits and devices of the tree, also those of a FILE that is loaded; for\n"
     "                  root alone\n"
+    "  --nosuid        but not its set-user bits\n"
+    "  --nodev         but not its devices\n"
     "  --allow-other   lets other users in, by the modes of files\n"
+    "  --json          prints the status as one JSON object\n"
     "  --foreground    does not go into the background\n"
     "  --version       prints its release, its commit, and whether its library was proved\n"
     "  --help          prints this\n"
     "\n"
     "mkdir MNT/.snapshots/NAME takes a snapshot, and rmdir of that directory drops it. What is below it is read-only.\n"
     "No listing of MNT shows .snapshots. The tree lives in memory: what no store or image keeps is lost at unmount. An image\n"
-    "has modes, owners, links and extended attributes too, but for those of a mount with --pipe, which keeps none.\n";
+    "has modes, owners, links and extended attributes too.\n";
 
 void print_help(void) { fputs(help, stdout); }
 
 void print_version(void) { printf("doorvervain-mount %s\n", doorvervain_build()); }
 
 static const struct option known[] = {
-    {"pipe", required_argument, 0, 'p'},
     {"load", required_argument, 0, 'l'},
     {"image", required_argument, 0, 'i'},
     {"trace", required_argument, 0, 'g'},
@@ -86,10 +89,14 @@ static const struct option known[] = {
     {"size", required_argument, 0, 'z'},
     {"busy-poll", required_argument, 0, 'w'},
     {"unmount", no_argument, 0, 'u'},
+    {"status", no_argument, 0, 'S'},
+    {"json", no_argument, 0, 'j'},
     {"dump-log", no_argument, 0, 'n'},
     {"allow-other", no_argument, 0, 'a'},
     {"foreground", no_argument, 0, 'f'},
     {"trust-attributes", no_argument, 0, 't'},
+    {"nosuid", no_argument, 0, 'N'},
+    {"nodev", no_argument, 0, 'D'},
     {"help", no_argument, 0, 'h'},
     {"version", no_argument, 0, 'v'},
     {0},
@@ -101,10 +108,10 @@ static int refuse(const char *text, const char *word) {
 }
 
 // A number of up to 1000.
-static int read_number(const char *word, const char *refusal, unsigned *out) {
+static int read_number(const char *word, unsigned long least, const char *refusal, unsigned *out) {
     char *end;
     unsigned long number = strtoul(word, &end, 10);
-    if (!*word || *end || *word == '-' || number > 1000) return refuse(refusal, word);
+    if (!*word || *end || *word == '-' || number < least || number > 1000) return refuse(refusal, word);
     *out = (unsigned)number;
     return 0;
 }
@@ -150,27 +157,27 @@ static int read_option(int letter, struct options *out) {
         return 0;
     }
     switch (letter) {
-    case 'p': out->open.betr = optarg; return 0;
     case 'l': out->open.image = optarg; return 0;
-    case 'i':
-        out->image = optarg;
-        out->open.prints_image = true;
-        return 0;
+    case 'i': out->image = optarg; return 0;
     case 'd': out->open.store = optarg; return 0;
     case 'o': return read_bytes(optarg, 1, "--log-size takes 1 or more, not ", &out->open.log_size);
     case 'y': out->open.syncs_each = true; return 0;
     case 'g': out->open.trace = optarg; return 0;
-    case 's': return read_number(optarg, "--steps takes 0 to 1000, not ", &out->open.steps);
-    case 'w': return read_number(optarg, "--busy-poll takes 0 to 1000, not ", &out->busy_poll);
+    case 's': return read_number(optarg, 1, "--steps takes 1 to 1000, not ", &out->open.steps);
+    case 'w': return read_number(optarg, 0, "--busy-poll takes 0 to 1000, not ", &out->busy_poll);
     case 'r': out->restore = optarg; return 0;
     case 'c': out->diff_from = optarg; return 0;
     case 'e': out->send_from = optarg; return 0;
     case 'x': out->receives = true; return 0;
     case 'z': return read_bytes(optarg, SMALLEST_SIZE, "--size takes 16M or more, not ", &out->size);
     case 'u': out->unmounts = true; return 0;
+    case 'S': out->prints_status = true; return 0;
+    case 'j': out->as_json = true; return 0;
     case 'n': out->dumps_log = true; return 0;
     case 'a': out->allows_other = true; return 0;
     case 't': out->trusts_attributes = true; return 0;
+    case 'N': out->no_suid = true; return 0;
+    case 'D': out->no_dev = true; return 0;
     case 'f': out->in_foreground = true; return 0;
     case 'h': out->prints_help = true; return 0;
     case 'v': out->prints_version = true; return 0;
@@ -184,8 +191,8 @@ static int try_replica(const struct options *options) {
     const struct etcd_options *replica = &open_options->replica;
     bool has_credentials = replica->cacert || replica->cert || replica->key || replica->user || replica->password_file;
     if (!replica->members) return replica->prefix || has_credentials ? refuse("that option is for --replica", "") : 0;
-    if (open_options->store || open_options->betr || open_options->image || open_options->trace)
-        return refuse("--replica does not go with --store, --pipe, --load or --trace", "");
+    if (open_options->store || open_options->image || open_options->trace)
+        return refuse("--replica does not go with --store, --load or --trace", "");
     if (!replica->cert != !replica->key) return refuse("--cert goes with --key", "");
     return !replica->user != !replica->password_file ? refuse("--user goes with --password-file", "") : 0;
 }
@@ -198,10 +205,10 @@ int read_options(int count, char **words, struct options *out) {
     if ((out->diff_from || out->send_from) && optind + 2 == count) out->until = words[optind++];
     if (optind + 1 != count)
         return refuse(out->dumps_log ? "one folder of a store is wanted" : "one folder to mount on is wanted", "");
-    if (out->open.store && (out->open.betr || out->open.image || out->image))
-        return refuse("--store does not go with --pipe, --load or --image", "");
+    if (out->open.store && (out->open.image || out->image))
+        return refuse("--store does not go with --load or --image", "");
     if (out->open.syncs_each && !out->open.store) return refuse("--sync is for a --store", "");
-    if (out->size && out->open.betr) return refuse("--size does not go with --pipe", "");
+    if (out->as_json && !out->prints_status) return refuse("--json is for --status", "");
     if (out->trusts_attributes && geteuid()) return refuse("--trust-attributes is for root", "");
     if (try_replica(out)) return 2;
     if (!out->open.replica.prefix) out->open.replica.prefix = "doorvervain";

@@ -15,10 +15,13 @@ struct options {
     unsigned busy_poll;     // microseconds for which the next request is looked for
     bool receives;          // a difference makes of the tree of a mount that stands another one
     bool dumps_log;         // prints the logs of a store, which `mount_point` names
+    bool prints_status;     // what a mount that stands tells of itself
+    bool as_json;           // as JSON
     bool unmounts;          // takes a mount away, and waits for its end
     bool in_foreground;     // in the foreground
     bool allows_other;      // users may go in
     bool trusts_attributes; // owners, set-user bits and devices of records hold
+    bool no_suid, no_dev;   // but not its set-user bits, or its devices
     bool prints_help, prints_version;
 };
 

@@ -8,6 +8,7 @@
 #include "hardlinks.h"
 #include "attrs.h"
 #include "store.h"
+#include "memlimit.h"
 #include <assert.h>
 #include <errno.h>
 #include <stdlib.h>
@@ -29,14 +30,14 @@ int orphan_move(struct txn *txn, struct inode *inode, struct orphan *out) {
     if (!err) err = attrs_of(txn->mount, inode, &attrs);
     if (!err) err = private_orphan_path(txn->mount, &out->path);
     if (err) return err;
-    out->name = strdup(private_name(&out->path));
+    out->name = mem_strdup(private_name(&out->path));
     err = out->name ? move(txn, inode, &resolved, &out->path) : ENOMEM;
     if (err) orphan_free(out);
     return err;
 }
 
 void orphan_free(struct orphan *orphan) {
-    free(orphan->name);
+    mem_free(orphan->name);
     orphan->name = 0;
 }
 
@@ -50,7 +51,7 @@ void orphan_moved(struct mount *mount, struct inode *inode, struct orphan *orpha
     inode_move(inode, folder, orphan->name);
     inode->is_unlinked = true;
     inode->change = ns_to_timespec(at);
-    orphan_put(mount, inode);
+    orphan_put(mount, inode, at);
 }
 
 // A file that somebody holds becomes an orphan, and lives there until nobody does.
@@ -76,7 +77,7 @@ static int take_record(struct txn *txn, struct inode *inode, const struct resolv
 static int take_once(struct txn *txn, struct inode *inode, const struct resolved_path *resolved) {
     const struct backend *backend = &txn->mount->backend;
     int err = take_record(txn, inode, resolved);
-    return err ? err : backend->ops->change(backend->self, UNLINK, resolved->path, txn->at);
+    return err ? err : backend->ops->change(backend->self, CALL_UNLINK, resolved->path, txn->at);
 }
 
 int orphan_delete(struct mount *mount, struct inode *inode, uint64_t at) {
@@ -101,6 +102,7 @@ static int settle(struct mount *mount, struct inode *inode, const char *name, ui
 }
 
 int orphan_flush_deferred(struct mount *mount) {
+    assert(request_lock_is_held(mount));
     struct inode *inode = mount->deferred;
     char *name = mount->deferred_path;
     if (!inode) return 0;
@@ -110,7 +112,7 @@ int orphan_flush_deferred(struct mount *mount) {
         mount->deferred = inode;
         return err;
     }
-    free(name);
+    mem_free(name);
     mount->deferred_path = 0;
     return 0;
 }
@@ -124,7 +126,7 @@ bool orphan_defer(struct mount *mount, struct inode *inode, const char *name, ui
     // In the log of several mounts a request's change is its own. Where a store refuses changes, that is answered now.
     if (!inode_is_held(inode) || inode->open_count || mount->replica) return false;
     if (mount->store && store_refuses(mount->store)) return false;
-    mount->deferred_path = name ? strdup(name) : 0;
+    mount->deferred_path = name ? mem_strdup(name) : 0;
     if (name && !mount->deferred_path) return false;
     mount->deferred = inode;
     mount->deferred_at = at;
@@ -135,24 +137,24 @@ int orphan_unlink(struct mount *mount, struct inode *inode, uint64_t at) {
     return orphan_defer(mount, inode, 0, at) ? 0 : orphan_unlink_now(mount, inode, at);
 }
 
-int orphan_put(struct mount *mount, struct inode *inode) {
+int orphan_put(struct mount *mount, struct inode *inode, uint64_t at) {
+    assert(request_lock_is_held(mount));
     if (inode_is_held(inode)) return 0;
     if (inode == mount->deferred) {
         int err = orphan_flush_deferred(mount);
-        if (err)
-            inode->in_memory_only = true; // Until its name is gone, it is not freed with the directory that it is in.
+        if (err) inode->is_pinned = true;
         return err;
     }
     if (!inode->is_unlinked || !inode->parent) {
         inode_put(inode);
         return 0;
     }
-    int err = orphan_delete(mount, inode, clock_now_ns());
+    int err = orphan_delete(mount, inode, at);
     if (err) inode_detach(inode); // The bytes go with the mount's own folder.
     return err;
 }
 
-void orphan_forget(struct mount *mount, struct inode *inode, uint64_t lookups) {
+void orphan_forget(struct mount *mount, struct inode *inode, uint64_t lookups, uint64_t at) {
     inode->nlookup -= lookups < inode->nlookup ? lookups : inode->nlookup;
-    orphan_put(mount, inode);
+    orphan_put(mount, inode, at);
 }

@@ -30,7 +30,7 @@ bool orphan_defer(struct mount *mount, struct inode *inode, const char *name, ui
 // The same where it cannot wait.
 int orphan_unlink_now(struct mount *mount, struct inode *inode, uint64_t at);
 // Nobody may hold the inode any more: where its name is gone, its bytes go too.
-int orphan_put(struct mount *mount, struct inode *inode);
+int orphan_put(struct mount *mount, struct inode *inode, uint64_t at);
 // The kernel knows an inode by so many look-ups less.
-void orphan_forget(struct mount *mount, struct inode *inode, uint64_t lookups);
+void orphan_forget(struct mount *mount, struct inode *inode, uint64_t lookups, uint64_t at);
 #endif

@@ -15,7 +15,7 @@
 
 static const char *const paths[] = {PRIVATE_PATH, LINKS_PATH, UNLINKED_PATH};
 
-static int change(struct mount *mount, enum change what, const char *path, uint64_t at) {
+static int change(struct mount *mount, enum path_call what, const char *path, uint64_t at) {
     return mount->backend.ops->change(mount->backend.self, what, path, at);
 }
 
@@ -32,7 +32,7 @@ int private_make(struct mount *mount, enum private_dir which) {
     if (mount->private_dirs & 1u << which) return 0;
     int err = which == PRIVATE_ROOT ? 0 : private_make(mount, PRIVATE_ROOT);
     if (!err) err = root_mtime(mount, &at);
-    if (!err) err = change(mount, MAKE_DIRECTORY, paths[which], at);
+    if (!err) err = change(mount, CALL_MKDIR, paths[which], at);
     if (err && err != EEXIST) return err;
     mount->private_dirs |= 1u << which;
     return 0;
@@ -55,16 +55,16 @@ const char *private_name(const struct private_path *path) { return strrchr(path-
 // The orphans of other mounts of a log are theirs.
 int private_drop_orphans(struct mount *mount) {
     if (mount->replica) return 0;
-    int err = change(mount, REMOVE_TREE, UNLINKED_PATH, 0);
+    int err = change(mount, CALL_RMTREE, UNLINKED_PATH, 0);
     if (err && err != ENOENT && err != ENOTDIR) return err;
     mount->private_dirs = 0;
     return 0;
 }
 
 static void drop_empty(struct mount *mount, uint64_t root_at) {
-    change(mount, REMOVE_DIRECTORY, LINKS_PATH, 0);
-    if (!change(mount, REMOVE_DIRECTORY, TREE_PATH, 0)) mount->record_dirs_gen++;
-    change(mount, REMOVE_DIRECTORY, PRIVATE_PATH, root_at);
+    change(mount, CALL_RMDIR, LINKS_PATH, 0);
+    if (!change(mount, CALL_RMDIR, TREE_PATH, 0)) mount->record_dirs_gen++;
+    change(mount, CALL_RMDIR, PRIVATE_PATH, root_at);
     mount->private_dirs = 0;
 }
 
@@ -97,14 +97,9 @@ static bool stands(struct mount *mount, const char *path) {
 bool private_tidy(struct mount *mount) {
     uint64_t at;
     if (!stands(mount, PRIVATE_PATH)) return false;
-    int err = change(mount, REMOVE_DIRECTORY, UNLINKED_PATH, 0);
+    int err = change(mount, CALL_RMDIR, UNLINKED_PATH, 0);
     if (!root_mtime(mount, &at)) drop_empty(mount, at);
     return err == ENOTEMPTY;
-}
-
-static int refuse(const char *what) {
-    fprintf(stderr, "doorvervain-mount: %s\n", what);
-    return EINVAL;
 }
 
 // A file that an image has in the place of one of the folders goes. The root keeps its moment.
@@ -115,12 +110,10 @@ static int leave_out_file(struct mount *mount, const char *path) {
     if (err || node_stat.is_directory) return err == ENOENT || err == ENOTDIR ? 0 : err;
     fprintf(stderr, "doorvervain-mount: the image has a file %s, a name of the mount's own: it is left out\n", path);
     err = root_mtime(mount, &at);
-    return err ? err : change(mount, UNLINK, path, at);
+    return err ? err : change(mount, CALL_UNLINK, path, at);
 }
 
 int private_start(struct mount *mount) {
-    if (!mount_keeps_records(mount) && (stands(mount, TREE_PATH) || stands(mount, LINKS_PATH)))
-        return refuse("the image has attributes or links, which a mount with --pipe does not know");
     int err = leave_out_file(mount, PRIVATE_PATH);
     if (!err) err = leave_out_file(mount, TREE_PATH);
     if (!err) err = leave_out_file(mount, LINKS_PATH);

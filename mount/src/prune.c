@@ -4,6 +4,7 @@
 // finds one that is left, a name that is known to have a record is looked up first, by one stat; this saves time and
 // decides nothing else.
 #include "prune.h"
+#include "memlimit.h"
 #include <assert.h>
 #include <stdlib.h>
 #include <string.h>
@@ -59,7 +60,7 @@ static bool has_known_inode(const struct mount *mount, const char *folder, const
 }
 
 static void forget_name(struct inode *directory) {
-    free(directory->known_record);
+    mem_free(directory->known_record);
     directory->known_record = 0;
 }
 
@@ -85,7 +86,7 @@ static void remember_name(const struct mount *mount, const char *folder, struct 
     int err = backend_readdir(&mount->backend, (struct path_ref){0, folder}, &names);
     if (!err && names.length) {
         forget_name(directory);
-        directory->known_record = strdup(name_at(&names, at % names.length));
+        directory->known_record = mem_strdup(name_at(&names, at % names.length));
     }
     bytes_free(&names);
 }
@@ -103,7 +104,7 @@ void prune_folders(struct mount *mount, char *path, const char *kept, uint64_t a
         if (strlen(path) < top || is_below(kept, path)) return;
         struct inode *directory = directory_of(mount, path + top);
         if (directory && is_seen_full(mount, path, directory)) return;
-        if (mount->backend.ops->change(mount->backend.self, REMOVE_DIRECTORY, path, at)) {
+        if (mount->backend.ops->change(mount->backend.self, CALL_RMDIR, path, at)) {
             if (directory) remember_name(mount, path, directory, at);
             return;
         }

@@ -5,6 +5,7 @@
 #include "replica_inside.h"
 #include "exit_report.h"
 #include "library.h"
+#include "memlimit.h"
 #include <errno.h>
 #include <stdio.h>
 #include <stdlib.h>
@@ -13,7 +14,7 @@
 #include <unistd.h>
 
 // The snapshot of the library by which the tree is kept that is taken back. No user's has it.
-static const uint8_t KEPT[] = "kept";
+static const char KEPT[] = "kept";
 enum { KEPT_LENGTH = sizeof KEPT - 1 };
 
 // ---- the tree before a pass
@@ -51,8 +52,9 @@ void replica_rollback(struct replica *replica) {
 
 // ---- a pass
 
-void replica_pass(struct replica *replica, enum replay_mode mode, const struct bytes *wanted) {
+void replica_pass(struct replica *replica, enum replay_mode mode, const struct bytes *wanted, uint64_t at) {
     replica->mode = mode;
+    replica->at = at;
     replica->wanted = wanted;
     replica->calls.length = 0;
     replica->is_over = replica->has_met = false;
@@ -64,6 +66,7 @@ void replica_pass_ends(struct replica *replica) {
     if (leaves_rest) replica_note_leftover(replica);
     if (replica->has_met && !leaves_rest) let_stand(replica);
     replica->mode = NO_REPLAY;
+    replica->at = 0;
 }
 
 // The record's calls were made: the tree is kept as it stands now, and what follows is another record's.
@@ -88,7 +91,25 @@ static int change_ends(struct replica *replica, int err) {
     if (replica->mode == APPLYING && !replica->has_met) return meet(replica);
     if (replica->mode != SPECULATING) return 0;
     replica->is_over = true;
-    return REQUEST_DEFERRED;
+    return EINPROGRESS;
+}
+
+void replica_fill_status(const struct mount *mount, struct replica_status *out) {
+    const struct replica *replica = mount->replica;
+    *out = (struct replica_status){.version = replica->done, .is_behind = replica->is_behind || replica->err};
+    for (const struct deferred_request *waits = replica->first; waits; waits = waits->next) out->waiting++;
+    snprintf(out->members, sizeof out->members, "%s", replica->members);
+}
+
+uint64_t replica_timestamp(const struct mount *mount) { return mount->replica ? mount->replica->at : 0; }
+
+// If what an inode is about is gone, the kernel looks for its name anew.
+bool replica_may_answer(const struct mount *mount, int *err) {
+    const struct replica *replica = mount->replica;
+    if (!replica) return true;
+    if (replica->is_silent || (replica->mode == SPECULATING && replica->is_over)) return false;
+    if (replica->names_number && *err == ENOENT) *err = ESTALE;
+    return true;
 }
 
 void replica_change_begins(struct mount *mount) {
@@ -127,7 +148,7 @@ static int replica_close(void *self, struct image *image) {
     replica_free_proposal(replica);
     bytes_free(&replica->calls);
     bytes_free(&replica->stale);
-    free(replica);
+    mem_free(replica);
     return err;
 }
 
@@ -168,23 +189,24 @@ static void begin_at(struct replica *replica, struct mount *mount, const struct 
     replica->number = start->number;
     replica->done = replica->checkpoint_version = start->checkpoint.version;
     replica->revision = start->checkpoint.revision;
-    mount->backend = (struct backend){.ops = &replica_ops, .self = replica, .attr_ops = replica->layer.inner.attr_ops};
+    mount->backend = (struct backend){.ops = &replica_ops, .self = replica};
     mount->replica = replica;
     mount->orphans = replica->number << NUMBERS_OF_A_MOUNT;
     inodes_number_above(mount->orphans);
 }
 
 int replica_open(const struct open_options *options, struct mount *mount) {
-    struct replica *replica = calloc(1, sizeof *replica);
+    struct replica *replica = mem_calloc(1, sizeof *replica);
     struct log_start start;
     if (!replica) return ENOMEM;
     replica->mount = mount;
     replica->log_size = options->log_size;
     replica->steps = options->steps;
+    replica->members = options->replica.members;
     int err = open_log_of(replica, options, &start);
     if (err) {
         fprintf(stderr, "doorvervain-mount: --replica: no mount: %s\n", strerror(err));
-        free(replica);
+        mem_free(replica);
         return err;
     }
     begin_at(replica, mount, &start);

@@ -41,10 +41,11 @@ struct catchup {
 // Once a newer checkpoint stands, what was put for an older version can come no more: so the mark is read behind it. A
 // size of the mount lets both trees together take no more than a call.
 static int load_once(struct catchup *catchup) {
+    struct mem_budget budget;
     int file, err = checkpoint_fetch(&catchup->etcd, catchup->done, &catchup->checkpoint, &file);
     if (!err && file < 0) err = ENOENT;
     if (!err) err = checkpoint_fetch_last_put(&catchup->etcd, catchup->number, &catchup->mark);
-    memlimit_begin();
+    memlimit_begin(&budget);
     if (!err) err = replica_load(&catchup->options, file, &catchup->tree, &catchup->size);
     memlimit_suspend();
     if (err) catchup->tree = (struct backend){0};
@@ -104,11 +105,11 @@ static void free_catchup(struct catchup *catchup) {
     pthread_mutex_destroy(&catchup->lock);
     etcd_close(&catchup->etcd);
     bytes_free(&catchup->mark);
-    free(catchup);
+    mem_free(catchup);
 }
 
 static void start(struct replica *replica) {
-    struct catchup *catchup = calloc(1, sizeof *catchup);
+    struct catchup *catchup = mem_calloc(1, sizeof *catchup);
     if (!catchup) return;
     catchup->replica = replica;
     catchup->options = (struct open_options){.steps = replica->steps, .stops = &catchup->ends};

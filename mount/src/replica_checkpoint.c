@@ -6,6 +6,7 @@
 #define _GNU_SOURCE
 #include "replica_checkpoint.h"
 #include "replica_inside.h"
+#include "memlimit.h"
 #include "sha256.h"
 #include <errno.h>
 #include <stdio.h>
@@ -286,13 +287,13 @@ static void free_task(struct checkpoint_task *task) {
     doorvervain_print_end(&task->printing);
     sha256_end(&task->sum, task->checkpoint.sum);
     etcd_close(&task->etcd);
-    free(task);
+    mem_free(task);
 }
 
 void checkpoint_begin(struct replica *replica) {
     uint64_t enough = 2 * replica->image_size > replica->log_size ? 2 * replica->image_size : replica->log_size;
     if (replica->bytes_since_checkpoint < enough) return;
-    struct checkpoint_task *task = replica->checkpoint_task ? 0 : calloc(1, sizeof *task);
+    struct checkpoint_task *task = replica->checkpoint_task ? NULL : mem_calloc(1, sizeof *task);
     if (!task) return;
     task->replica = replica;
     task->former = replica->checkpoint_version;

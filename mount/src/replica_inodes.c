@@ -7,6 +7,7 @@
 #include "attrs.h"
 #include "requests.h"
 #include "snapshots.h"
+#include "memlimit.h"
 #include <errno.h>
 #include <stdlib.h>
 #include <string.h>
@@ -35,9 +36,9 @@ static bool is_known_to_kernel(const struct inode *inode) { return inode->role =
 
 // What cannot be noted the kernel asks anew for after a second.
 static void note(struct replica *replica, uint64_t parent_ino, uint64_t ino, const char *name) {
-    struct stale_dentry stale = {parent_ino, ino, name ? strdup(name) : 0};
+    struct stale_dentry stale = {parent_ino, ino, name ? mem_strdup(name) : 0};
     pthread_mutex_lock(&replica->lock);
-    if (bytes_append(&replica->stale, &stale, sizeof stale)) free(stale.name);
+    if (bytes_append(&replica->stale, &stale, sizeof stale)) mem_free(stale.name);
     pthread_cond_signal(&replica->wakes);
     pthread_mutex_unlock(&replica->lock);
 }
@@ -58,7 +59,7 @@ static void note_name(struct replica *replica, const struct reach *reach) {
 static void notify_one(struct fuse_session *session, struct stale_dentry *stale) {
     if (stale->name) fuse_lowlevel_notify_inval_entry(session, stale->parent_ino, stale->name, strlen(stale->name));
     fuse_lowlevel_notify_inval_inode(session, stale->ino, 0, 0);
-    free(stale->name);
+    mem_free(stale->name);
 }
 
 // Telling may wait for a request, so no other thread waits for it.
@@ -172,7 +173,7 @@ static void follow_record(struct replica *replica, struct inode *inode) {
 // A file that gets a place of its own keeps its entry.
 static void move(struct replica *replica, struct inode *inode, const char *path, size_t length) {
     struct reach to = reach_path(replica, path, length, true);
-    char *name = to.parent ? strdup(to.name) : 0;
+    char *name = to.parent ? mem_strdup(to.name) : 0;
     take_out(to.inode);
     if (!name) {
         take_out(inode);

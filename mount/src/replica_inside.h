@@ -9,8 +9,6 @@
 #define NANOSECONDS 1000000000u
 
 enum {
-    // What a request is refused with that waits for the log: it is not answered.
-    REQUEST_DEFERRED = 1 << 20,
     RECORDS_OF_A_VALUE = 24, // in bits: a record's number is that of its value, and its own in it
     NUMBERS_OF_A_MOUNT = 32, // in bits: likewise names that mounts give
 };
@@ -54,6 +52,7 @@ struct replica {
     struct mount *mount;
     struct etcd_log *log;
     uint64_t number;         // of this mount
+    const char *members;     // of etcd, as they were named
     uint64_t done;           // the log's version up to which all is done
     uint64_t revision;       // and what etcd has for it
     int err;                 // why the log cannot be followed any more
@@ -63,8 +62,9 @@ struct replica {
 
     // A pass.
     enum replay_mode mode;
+    uint64_t at;                // the timestamp of its request
     unsigned depth;             // of changes
-    bool is_over;               // its change is whole: later calls do nothing
+    bool is_over;               // its change is whole: later calls do nothing. Speculating: it waits for the log
     bool has_savepoint;         // the tree before it is kept
     bool has_met;               // it did what its record says
     bool is_silent;             // it is not answered
@@ -98,7 +98,7 @@ struct replica {
 // ---- replica.c
 
 // Begins a pass, and ends it: what it changed is taken back, but what a pass that did its record's calls did.
-void replica_pass(struct replica *replica, enum replay_mode mode, const struct bytes *wanted);
+void replica_pass(struct replica *replica, enum replay_mode mode, const struct bytes *wanted, uint64_t at);
 void replica_pass_ends(struct replica *replica);
 // What was tried is taken back.
 void replica_rollback(struct replica *replica);
@@ -135,7 +135,7 @@ void replica_free_proposal(struct replica *replica);
 
 // Tries or does a request, or notes its calls.
 void replica_request(struct replica *replica, enum replay_mode mode, const char *bytes, size_t size,
-                     const struct bytes *wanted);
+                     const struct bytes *wanted, uint64_t at);
 void replica_remove_first(struct replica *replica);
 uint64_t replica_clock(void);
 

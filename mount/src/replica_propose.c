@@ -28,8 +28,8 @@ static void append_leftover(struct leftover **at, struct leftover *leftover) {
 
 // It stays in the tree where memory is wanting, in the mount's own folder.
 void replica_note_leftover(struct replica *replica) {
-    struct leftover *leftover = calloc(1, sizeof *leftover);
-    if (!leftover || bytes_append(&leftover->calls, replica->calls.at, replica->calls.length)) free(leftover);
+    struct leftover *leftover = mem_calloc(1, sizeof *leftover);
+    if (!leftover || bytes_append(&leftover->calls, replica->calls.at, replica->calls.length)) mem_free(leftover);
     else append_leftover(&replica->leftovers, leftover);
 }
 
@@ -37,7 +37,7 @@ static void free_leftovers(struct leftover **at) {
     for (struct leftover *next; *at; *at = next) {
         next = (*at)->next;
         bytes_free(&(*at)->calls);
-        free(*at);
+        mem_free(*at);
     }
 }
 
@@ -98,9 +98,7 @@ static int try_one(struct replica *replica, struct deferred_request *request, bo
     request->at = clock_now_ns();
     request->orphans = replica->mount->orphans;
     replica->is_silent = !is_first;
-    clock_override(request->at);
-    replica_request(replica, SPECULATING, request->bytes, request->size, 0);
-    clock_override(0);
+    replica_request(replica, SPECULATING, request->bytes, request->size, NULL, request->at);
     replica->is_silent = false;
     request->tried_at = is_first ? replica->done : UINT64_MAX;
     request->calls.length = 0;
@@ -228,9 +226,7 @@ static void do_one(struct replica *replica, struct deferred_request *request) {
         return;
     }
     replica->mount->orphans = request->orphans;
-    clock_override(request->at);
-    replica_request(replica, APPLYING, request->bytes, request->size, &request->calls);
-    clock_override(0);
+    replica_request(replica, APPLYING, request->bytes, request->size, &request->calls, request->at);
     replica->mount->orphans = orphans > replica->mount->orphans ? orphans : replica->mount->orphans;
     bool has_met = replica->has_met;
     replica_rollback(replica);

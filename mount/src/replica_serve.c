@@ -1,7 +1,7 @@
 // The loop of requests of a replica: each is answered at once, or deferred until the log has its record.
 //
-// Invariant: a deferred request is refused with REQUEST_DEFERRED, for which the wrapped `fuse_reply_err` sends nothing,
-// and its bytes are kept; it is answered exactly once, later, or refused after a time.
+// Invariant: of a deferred request the bytes are kept, and nothing is sent while it is tried (`replica_may_answer`); it
+// is answered exactly once, later, or refused after a time.
 #include "replica_inside.h"
 #include "private_dir.h"
 #include "requests.h"
@@ -15,23 +15,9 @@
 #include <time.h>
 #include <unistd.h>
 
-enum { SECONDS_TO_WAIT = 10, SECONDS_TO_END = 3, MILLISECONDS = 100 };
+enum { SECONDS_TO_WAIT = 10, SECONDS_TO_END = 3, SECONDS_IDLE = 5, MILLISECONDS = 100 };
 
-static struct replica *answers; // whose requests are answered
 static struct fuse_session *session;
-
-int __real_fuse_reply_err(fuse_req_t req, int err);
-int __wrap_fuse_reply_err(fuse_req_t req, int err);
-
-// What waits has no answer yet. Where what an inode stood for is gone, the kernel looks for its name anew.
-int __wrap_fuse_reply_err(fuse_req_t req, int err) {
-    if (answers && (err == REQUEST_DEFERRED || answers->is_silent)) {
-        fuse_reply_none(req);
-        return 0;
-    }
-    if (answers && answers->names_number && err == ENOENT) err = ESTALE;
-    return __real_fuse_reply_err(req, err);
-}
 
 uint64_t replica_clock(void) {
     struct timespec now;
@@ -84,10 +70,10 @@ static bool only_asks(uint32_t what) {
 static uint32_t kind_of(const char *bytes) { return ((const struct fuse_in_header *)bytes)->opcode; }
 
 void replica_request(struct replica *replica, enum replay_mode mode, const char *bytes, size_t size,
-                     const struct bytes *wanted) {
+                     const struct bytes *wanted, uint64_t at) {
     struct fuse_buf buffer = {.mem = (void *)(uintptr_t)bytes, .size = size};
     if (!only_asks(kind_of(bytes))) replica_forget(replica);
-    replica_pass(replica, mode, wanted);
+    replica_pass(replica, mode, wanted, at);
     replica->names_number = names_number(kind_of(bytes));
     fuse_session_process_buf(session, &buffer);
     replica_pass_ends(replica);
@@ -107,8 +93,8 @@ static void answer_err(const struct deferred_request *request, int err) {
 
 static void free_deferred(struct deferred_request *request) {
     bytes_free(&request->calls);
-    free(request->bytes);
-    free(request);
+    mem_free(request->bytes);
+    mem_free(request);
 }
 
 void replica_remove_first(struct replica *replica) {
@@ -120,13 +106,13 @@ void replica_remove_first(struct replica *replica) {
 
 // It is tried already: what the kernel wrote is kept, with the calls of that.
 static void defer(struct replica *replica, const struct fuse_buf *buffer, uint64_t at, uint64_t orphans) {
-    struct deferred_request *request = calloc(1, sizeof *request);
-    char *bytes = request ? malloc(buffer->size) : 0;
+    struct deferred_request *request = mem_calloc(1, sizeof *request);
+    char *bytes = request ? mem_alloc(buffer->size) : 0;
     struct deferred_request spare = {.bytes = buffer->mem};
     if (!bytes || bytes_append(&request->calls, replica->calls.at, replica->calls.length)) {
         answer_err(&spare, ENOMEM);
-        free(bytes);
-        free(request);
+        mem_free(bytes);
+        mem_free(request);
         return;
     }
     memcpy(bytes, buffer->mem, buffer->size);
@@ -142,9 +128,7 @@ static void defer(struct replica *replica, const struct fuse_buf *buffer, uint64
 static void serve_one(struct replica *replica, const struct fuse_buf *buffer) {
     bool is_noted = is_only_noted(kind_of(buffer->mem));
     uint64_t at = clock_now_ns(), orphans = replica->mount->orphans;
-    clock_override(at);
-    replica_request(replica, is_noted ? REPORTING : SPECULATING, buffer->mem, buffer->size, 0);
-    clock_override(0);
+    replica_request(replica, is_noted ? REPORTING : SPECULATING, buffer->mem, buffer->size, NULL, at);
     if (!is_noted && replica->is_over) defer(replica, buffer, at, orphans);
     replica_rollback(replica);
 }
@@ -199,10 +183,20 @@ static void serve_rest(struct replica *replica, struct fuse_buf *buffer) {
     refuse_old(replica);
 }
 
+// What a large removal gave back goes to the system once no request has come for some seconds.
+static void trim_when_idle(uint64_t idle_since) {
+    bool is_idle = replica_clock() - idle_since > (uint64_t)SECONDS_IDLE * NANOSECONDS;
+    if (memlimit_has_freed() && is_idle) memlimit_trim();
+}
+
 static int serve_all(struct replica *replica, struct fuse_buf *buffer) {
+    uint64_t idle_since = replica_clock();
     int got = -EINTR;
     while (!fuse_session_exited(session) && (got > 0 || got == -EINTR || got == -EAGAIN)) {
-        if (one_has_come(replica, MILLISECONDS)) got = serve_next(replica, buffer);
+        bool has_come = one_has_come(replica, MILLISECONDS);
+        if (has_come) got = serve_next(replica, buffer);
+        if (has_come) idle_since = replica_clock();
+        trim_when_idle(idle_since);
         replica_apply_log(replica);
         catchup_step(replica);
         refuse_old(replica);
@@ -214,14 +208,13 @@ static int serve_all(struct replica *replica, struct fuse_buf *buffer) {
 }
 
 int replica_serve(struct fuse_session *used, struct mount *mount) {
-    static struct fuse_buf buffer; // its memory is libfuse's
+    struct fuse_buf buffer = {0}; // its memory is libfuse's
     struct replica *replica = mount->replica;
     session = replica->session = used;
-    answers = replica;
     if (inval_start(replica)) return 1;
     int status = serve_all(replica, &buffer);
     serve_rest(replica, &buffer);
-    answers = 0;
+    free(buffer.mem);
     return status || replica->err || replica->is_behind;
 }
 
@@ -231,13 +224,13 @@ int replica_serve(struct fuse_session *used, struct mount *mount) {
 static void note_orphans(struct replica *replica) {
     const struct backend *backend = &replica->mount->backend;
     struct bytes names = {0};
-    replica_pass(replica, REPORTING, 0);
+    replica_pass(replica, REPORTING, NULL, clock_now_ns());
     if (backend_readdir(backend, (struct path_ref){0, UNLINKED_PATH}, &names)) names.length = 0;
     for (size_t at = 0; at < names.length; at += strlen(names.at + at) + 1) {
         char path[LONGEST_PATH + 1];
         bool is_own = strtoull(names.at + at + 1, 0, 10) >> NUMBERS_OF_A_MOUNT == replica->number;
         snprintf(path, sizeof path, UNLINKED_PATH "/%s", names.at + at + 1);
-        if (is_own) backend->ops->change(backend->self, REMOVE_TREE, path, clock_now_ns());
+        if (is_own) backend->ops->change(backend->self, CALL_RMTREE, path, replica->at);
     }
     bytes_free(&names);
     replica_pass_ends(replica);

@@ -1,6 +1,6 @@
 // The requests of the kernel. Each takes the request lock, does what fs_ops.h has for it, drops the lock, and replies.
 // One thread serves all of them, since most take less time than waking another would; a snapshot is restored, and a
-// delta applied, by a thread of its own.
+// delta printed or applied, by a thread of its own.
 //
 // Invariant: all changes of the tree come through the kernel, so what it caches of names and attributes stays right;
 // when the tree is replaced, the kernel is told what is stale. The bytes of a file are read again whenever it is
@@ -10,6 +10,7 @@
 #include "orphan.h"
 #include "busy_poll.h"
 #include "delta_ioctl.h"
+#include "entry_count.h"
 #include "exit_report.h"
 #include "extended.h"
 #include "holes.h"
@@ -19,17 +20,19 @@
 #include "replica.h"
 #include "memlimit.h"
 #include "snapshots.h"
+#include "status.h"
 #include "store.h"
 #include <errno.h>
 #include <fcntl.h>
 #include <linux/capability.h>
+#include <poll.h>
 #include <pthread.h>
 #include <stdio.h>
 #include <stdlib.h>
 #include <string.h>
 #include <unistd.h>
 
-enum { MOST_WAITING_STEPS = 64 };
+enum { MOST_WAITING_STEPS = 64, IDLE_MILLISECONDS = 5000 };
 #define SECONDS_KNOWN 86400.0
 #define SECONDS_SHARED 1.0
 // The number of an entry that is not known, as libfuse has it.
@@ -60,6 +63,8 @@ void requests_unlock(void) { lock_drop(&request_lock); }
 
 bool requests_are_locked(void) { return lock_is_held(&request_lock); }
 
+bool request_lock_is_held(const struct mount *mount) { return mount->replica || requests_are_locked(); }
+
 static bool owes_much(struct mount *mount) {
     const struct backend *backend = &mount->backend;
     lock_take(&request_lock);
@@ -71,14 +76,21 @@ static bool owes_much(struct mount *mount) {
 // Whether a step was left to be done. No size of the mount lets it take more than a call.
 static bool idle_once(struct mount *mount) {
     const struct backend *backend = &mount->backend;
+    struct mem_budget budget;
     lock_take(&request_lock);
     unsigned owed = backend_compaction_debt(backend);
     bool is_due = owed > MOST_WAITING_STEPS || (owed && !busy_poll_ready(fuse_session_fd(session)));
-    memlimit_begin();
+    memlimit_begin(&budget);
     if (is_due) backend_compact(backend, 1);
     memlimit_suspend();
     lock_drop(&request_lock);
     return is_due;
+}
+
+// What a large removal gave back goes to the system once no request has come for some seconds.
+static void trim_when_idle(void) {
+    struct pollfd comes = {.fd = fuse_session_fd(session), .events = POLLIN};
+    if (memlimit_has_freed() && !poll(&comes, 1, IDLE_MILLISECONDS)) memlimit_trim();
 }
 
 // One step is done while whoever was answered wakes up. The next request may come before there is time for others.
@@ -88,12 +100,18 @@ void requests_idle(struct mount *mount) {
     while (owes_much(mount)) idle_once(mount);
     if (busy_poll_wait(fuse_session_fd(session))) return;
     while (!fuse_session_exited(session) && idle_once(mount)) continue;
+    if (!mount->replica) trim_when_idle();
 }
 
-static struct mount *mount_of(fuse_req_t req) { return fuse_req_userdata(req); }
+// All that a request of a replica does, and all that it did when it was tried, has one timestamp.
+static struct request request_of(fuse_req_t req) {
+    struct mount *mount = fuse_req_userdata(req);
+    uint64_t at = replica_timestamp(mount);
+    return (struct request){.mount = mount, .req = req, .at = at ? at : clock_now_ns()};
+}
 
-static struct inode *inode_of(fuse_req_t req, fuse_ino_t ino) {
-    return ino == FUSE_ROOT_ID ? mount_of(req)->root : (struct inode *)(uintptr_t)ino;
+static struct inode *inode_of(const struct request *request, fuse_ino_t ino) {
+    return ino == FUSE_ROOT_ID ? request->mount->root : (struct inode *)(uintptr_t)ino;
 }
 
 static struct fuse_entry_param to_fuse_entry(const struct lookup_result *result) {
@@ -104,25 +122,26 @@ static struct fuse_entry_param to_fuse_entry(const struct lookup_result *result)
 }
 
 // Takes the lock. An unlinked file that the kernel still knows becomes an orphan.
-static int request_begin(fuse_req_t req) {
+static int request_begin(const struct request *request) {
     lock_take(&request_lock);
-    return orphan_flush_deferred(mount_of(req));
+    return orphan_flush_deferred(request->mount);
 }
 
 // The same for a request that is about the bytes of one file alone.
-static int begin_bytes(fuse_req_t req, fuse_ino_t ino) {
+static int begin_bytes(const struct request *request, fuse_ino_t ino) {
     lock_take(&request_lock);
-    bool is_leaving = mount_of(req)->deferred && mount_of(req)->deferred == inode_of(req, ino);
-    return is_leaving ? orphan_flush_deferred(mount_of(req)) : 0;
+    bool is_leaving = request->mount->deferred && request->mount->deferred == inode_of(request, ino);
+    return is_leaving ? orphan_flush_deferred(request->mount) : 0;
 }
 
 // The same for a write. A store keeps the changes in the order in which they were answered.
-static int begin_write(fuse_req_t req, fuse_ino_t ino) {
-    return mount_of(req)->store ? request_begin(req) : begin_bytes(req, ino);
+static int begin_write(const struct request *request, fuse_ino_t ino) {
+    return request->mount->store ? request_begin(request) : begin_bytes(request, ino);
 }
 
 // Leaves the lock: the request is at its end, and a store keeps what it did.
-static int request_end_changed(struct mount *mount, int err, bool *has_changed) {
+static int request_end_changed(const struct request *request, int err, bool *has_changed) {
+    struct mount *mount = request->mount;
     int other = 0;
     *has_changed = false;
     if (mount->store && store_syncs_each(mount->store)) other = orphan_flush_deferred(mount);
@@ -132,22 +151,23 @@ static int request_end_changed(struct mount *mount, int err, bool *has_changed) 
 }
 
 // The same of a request that is answered at once: it asks alone.
-static int request_end(struct mount *mount, int err) {
+static int request_end(const struct request *request, int err) {
     bool has_changed;
-    return request_end_changed(mount, err, &has_changed);
+    return request_end_changed(request, err, &has_changed);
 }
 
 // Leaves the lock, and answers a request that changes something.
-static void finish(fuse_req_t req, int err, struct answer answer) {
-    struct mount *mount = mount_of(req);
+static void finish(const struct request *request, int err, struct answer answer) {
     bool has_changed;
-    answer.req = req;
-    answer.err = request_end_changed(mount, err, &has_changed);
-    answer_change(mount->store, &answer, has_changed);
+    answer.request = *request;
+    answer.err = request_end_changed(request, err, &has_changed);
+    answer_change(&answer, has_changed);
 }
 
 // The same of one that has nothing to tell.
-static void finish_done(fuse_req_t req, int err) { finish(req, err, (struct answer){.kind = ANSWER_DONE}); }
+static void finish_done(const struct request *request, int err) {
+    finish(request, err, (struct answer){.kind = ANSWER_DONE});
+}
 
 // Under the lock: an answer that names an entry is one more that the kernel holds.
 static int hold(int err, const struct lookup_result *result) {
@@ -155,11 +175,11 @@ static int hold(int err, const struct lookup_result *result) {
     return err;
 }
 
-static void answer_entry(fuse_req_t req, int err, const struct lookup_result *result) {
+// That there is no such name is known for as long as one.
+static void answer_entry(const struct request *request, int err, const struct lookup_result *result) {
     struct fuse_entry_param param = {.entry_timeout = seconds_known};
     if (!err) param = to_fuse_entry(result);
-    if (err && err != ENOENT) fuse_reply_err(req, err);
-    else fuse_reply_entry(req, &param);
+    if (err == ENOENT || !answer_failed(request, err)) fuse_reply_entry(request->req, &param);
 }
 
 static struct answer entry_answer(int err, const struct lookup_result *result) {
@@ -174,49 +194,51 @@ static void on_init(void *mount, struct fuse_conn_info *connection) {
 }
 
 static void on_lookup(fuse_req_t req, fuse_ino_t parent, const char *name) {
+    struct request request = request_of(req);
     struct lookup_result result;
-    int err = request_begin(req);
-    if (!err) err = hold(fs_lookup(mount_of(req), inode_of(req, parent), name, &result), &result);
-    err = request_end(mount_of(req), err);
-    answer_entry(req, err, &result);
+    int err = request_begin(&request);
+    if (!err) err = hold(fs_lookup(request.mount, inode_of(&request, parent), name, &result), &result);
+    err = request_end(&request, err);
+    answer_entry(&request, err, &result);
 }
 
 static void on_forget(fuse_req_t req, fuse_ino_t ino, uint64_t lookups) {
+    struct request request = request_of(req);
     lock_take(&request_lock);
-    if (ino != FUSE_ROOT_ID) orphan_forget(mount_of(req), inode_of(req, ino), lookups);
-    request_end(mount_of(req), 0);
+    if (ino != FUSE_ROOT_ID) orphan_forget(request.mount, inode_of(&request, ino), lookups, request.at);
+    request_end(&request, 0);
     fuse_reply_none(req);
 }
 
 static void on_forget_many(fuse_req_t req, size_t count, struct fuse_forget_data *forgets) {
+    struct request request = request_of(req);
     lock_take(&request_lock);
     for (size_t i = 0; i < count; i++)
         if (forgets[i].ino != FUSE_ROOT_ID)
-            orphan_forget(mount_of(req), inode_of(req, forgets[i].ino), forgets[i].nlookup);
-    request_end(mount_of(req), 0);
+            orphan_forget(request.mount, inode_of(&request, forgets[i].ino), forgets[i].nlookup, request.at);
+    request_end(&request, 0);
     fuse_reply_none(req);
 }
 
-static void answer_stat(fuse_req_t req, int err, const struct stat *stat) {
-    if (err) fuse_reply_err(req, err);
-    else fuse_reply_attr(req, stat, seconds_known);
+static void answer_stat(const struct request *request, int err, const struct stat *stat) {
+    if (!answer_failed(request, err)) fuse_reply_attr(request->req, stat, seconds_known);
 }
 
 static void on_getattr(fuse_req_t req, fuse_ino_t ino, struct fuse_file_info *info) {
+    struct request request = request_of(req);
     struct stat stat;
     (void)info;
-    int err = request_begin(req);
-    if (!err) err = fs_getattr(mount_of(req), inode_of(req, ino), &stat);
-    err = request_end(mount_of(req), err);
-    answer_stat(req, err, &stat);
+    int err = request_begin(&request);
+    if (!err) err = fs_getattr(request.mount, inode_of(&request, ino), &stat);
+    err = request_end(&request, err);
+    answer_stat(&request, err, &stat);
 }
 
 static void on_setattr(fuse_req_t req, fuse_ino_t ino, struct stat *wanted, int which, struct fuse_file_info *info) {
+    struct request request = request_of(req);
     uint64_t length = (uint64_t)wanted->st_size;
-    uint64_t at = clock_now_ns();
-    struct timespec time = ns_to_timespec(at);
+    struct timespec time = ns_to_timespec(request.at);
     struct setattr setattr = {
-        .at = at,
         .mode = which & FUSE_SET_ATTR_MODE ? &wanted->st_mode : 0,
         .user = which & FUSE_SET_ATTR_UID ? &wanted->st_uid : 0,
         .group = which & FUSE_SET_ATTR_GID ? &wanted->st_gid : 0,
@@ -231,12 +253,12 @@ static void on_setattr(fuse_req_t req, fuse_ino_t ino, struct stat *wanted, int 
     };
     struct stat stat;
     (void)info;
-    int err = request_begin(req);
-    if (!err) err = fs_setattr(mount_of(req), inode_of(req, ino), &setattr);
-    if (!err) err = fs_getattr(mount_of(req), inode_of(req, ino), &stat);
+    int err = request_begin(&request);
+    if (!err) err = fs_setattr(&request, inode_of(&request, ino), &setattr);
+    if (!err) err = fs_getattr(request.mount, inode_of(&request, ino), &stat);
     struct answer answer = {.kind = ANSWER_ATTRIBUTES, .seconds = seconds_known};
     if (!err) answer.stat = stat;
-    finish(req, err, answer);
+    finish(&request, err, answer);
 }
 
 static uint8_t kind_of(mode_t mode) {
@@ -252,71 +274,82 @@ static uint8_t kind_of(mode_t mode) {
 }
 
 // What a request makes is its user's.
-static struct create_args create_args_of(fuse_req_t req, mode_t mode) {
-    const struct fuse_ctx *asks = fuse_req_ctx(req);
+static struct create_args create_args_of(const struct request *request, mode_t mode) {
+    const struct fuse_ctx *asks = fuse_req_ctx(request->req);
     return (struct create_args){
         .base = {.kind = kind_of(mode), .mode = mode & 07777, .user = asks->uid, .group = asks->gid, .names = 1}};
 }
 
-static void make(fuse_req_t req, fuse_ino_t parent, const char *name, const struct create_args *args) {
+static void make(struct request *request, fuse_ino_t parent, const char *name, const struct create_args *args) {
     struct lookup_result result;
-    int err = request_begin(req);
-    if (!err) err = namei_create(mount_of(req), inode_of(req, parent), name, args, &result);
+    int err = request_begin(request);
+    if (!err) err = namei_create(request, inode_of(request, parent), name, args, &result);
     hold(err, &result);
-    finish(req, err, entry_answer(err, &result));
+    finish(request, err, entry_answer(err, &result));
 }
 
 static void on_mkdir(fuse_req_t req, fuse_ino_t parent, const char *name, mode_t mode) {
-    struct create_args args = create_args_of(req, S_IFDIR | (mode & 07777));
-    make(req, parent, name, &args);
+    struct request request = request_of(req);
+    struct create_args args = create_args_of(&request, S_IFDIR | (mode & 07777));
+    make(&request, parent, name, &args);
 }
 
 static void on_mknod(fuse_req_t req, fuse_ino_t parent, const char *name, mode_t mode, dev_t device) {
-    struct create_args args = create_args_of(req, mode);
+    struct request request = request_of(req);
+    struct create_args args = create_args_of(&request, mode);
     args.base.device = device;
-    make(req, parent, name, &args);
+    make(&request, parent, name, &args);
 }
 
 static void on_symlink(fuse_req_t req, const char *target, fuse_ino_t parent, const char *name) {
-    struct create_args args = create_args_of(req, S_IFLNK | 0777);
+    struct request request = request_of(req);
+    struct create_args args = create_args_of(&request, S_IFLNK | 0777);
     args.target = target;
-    make(req, parent, name, &args);
+    make(&request, parent, name, &args);
 }
 
 static void on_readlink(fuse_req_t req, fuse_ino_t ino) {
+    struct request request = request_of(req);
     struct bytes target = {0};
-    int err = request_begin(req);
-    if (!err) err = fs_readlink(mount_of(req), inode_of(req, ino), &target);
-    err = request_end(mount_of(req), err);
-    if (err) fuse_reply_err(req, err);
-    else fuse_reply_readlink(req, target.at);
+    int err = request_begin(&request);
+    if (!err) err = fs_readlink(&request, inode_of(&request, ino), &target);
+    err = request_end(&request, err);
+    if (!answer_failed(&request, err)) fuse_reply_readlink(req, target.at);
     bytes_free(&target);
 }
 
 static void on_link(fuse_req_t req, fuse_ino_t ino, fuse_ino_t parent, const char *name) {
+    struct request request = request_of(req);
     struct lookup_result result;
-    int err = request_begin(req);
-    if (!err) err = hardlink_create(mount_of(req), inode_of(req, ino), inode_of(req, parent), name, &result);
+    int err = request_begin(&request);
+    if (!err) err = hardlink_create(&request, inode_of(&request, ino), inode_of(&request, parent), name, &result);
     hold(err, &result);
-    finish(req, err, entry_answer(err, &result));
+    finish(&request, err, entry_answer(err, &result));
 }
 
-static void take_name(fuse_req_t req, fuse_ino_t parent, const char *name, bool is_directory) {
-    int err = request_begin(req);
-    if (!err) err = namei_remove(mount_of(req), inode_of(req, parent), name, is_directory);
-    finish_done(req, err);
+static void take_name(struct request *request, fuse_ino_t parent, const char *name, bool is_directory) {
+    int err = request_begin(request);
+    if (!err) err = namei_remove(request, inode_of(request, parent), name, is_directory);
+    finish_done(request, err);
 }
 
-static void on_unlink(fuse_req_t req, fuse_ino_t parent, const char *name) { take_name(req, parent, name, false); }
+static void on_unlink(fuse_req_t req, fuse_ino_t parent, const char *name) {
+    struct request request = request_of(req);
+    take_name(&request, parent, name, false);
+}
 
-static void on_rmdir(fuse_req_t req, fuse_ino_t parent, const char *name) { take_name(req, parent, name, true); }
+static void on_rmdir(fuse_req_t req, fuse_ino_t parent, const char *name) {
+    struct request request = request_of(req);
+    take_name(&request, parent, name, true);
+}
 
 static void on_rename(fuse_req_t req, fuse_ino_t parent, const char *name, fuse_ino_t new_parent, const char *new_name,
                       unsigned flags) {
-    struct mount *mount = mount_of(req);
-    int err = request_begin(req);
-    if (!err) err = namei_rename(mount, inode_of(req, parent), name, inode_of(req, new_parent), new_name, flags);
-    finish_done(req, err);
+    struct request request = request_of(req);
+    int err = request_begin(&request);
+    struct inode *from = inode_of(&request, parent), *to = inode_of(&request, new_parent);
+    if (!err) err = namei_rename(&request, from, name, to, new_name, flags);
+    finish_done(&request, err);
 }
 
 // A file or directory that is open. All of them stand in a row, since a mount may end before they are closed.
@@ -324,6 +357,7 @@ struct handle {
     struct bytes names;           // of a directory, as they were when it was read from its beginning
     struct bytes text;            // of a difference, by the root
     size_t sent;                  // bytes of it
+    _Atomic bool is_printing;     // a thread puts it together
     _Atomic uint64_t errseq_seen; // how many failed syncs of the store it was told
     struct handle *before, *after;
 };
@@ -333,9 +367,9 @@ static struct handle handles = {.before = &handles, .after = &handles};
 static struct handle *handle_of(struct fuse_file_info *info) { return (struct handle *)(uintptr_t)info->fh; }
 
 // Null where memory is wanting.
-static struct handle *open_handle(fuse_req_t req, struct fuse_file_info *info) {
-    struct store *store = mount_of(req)->store;
-    struct handle *handle = calloc(1, sizeof *handle);
+static struct handle *open_handle(const struct request *request, struct fuse_file_info *info) {
+    struct store *store = request->mount->store;
+    struct handle *handle = mem_calloc(1, sizeof *handle);
     info->fh = (uint64_t)(uintptr_t)handle;
     if (!handle) return 0;
     handle->errseq_seen = store ? store_sync_errseq(store) : 0;
@@ -352,14 +386,14 @@ static void close_handle(struct fuse_file_info *info) {
     handle->after->before = handle->before;
     bytes_free(&handle->names);
     bytes_free(&handle->text);
-    free(handle);
+    mem_free(handle);
 }
 
 // Whether who cuts a file takes its set-user bits away: all but those who have CAP_FSETID.
-static bool drops_set_user(fuse_req_t req) {
+static bool drops_set_user(const struct request *request) {
     char name[64], line[256];
     unsigned long long held = 0;
-    snprintf(name, sizeof name, "/proc/%d/status", (int)fuse_req_ctx(req)->pid);
+    snprintf(name, sizeof name, "/proc/%d/status", (int)fuse_req_ctx(request->req)->pid);
     FILE *status = fopen(name, "re");
     while (status && fgets(line, sizeof line, status))
         if (sscanf(line, "CapEff: %llx", &held) == 1) break;
@@ -368,122 +402,127 @@ static bool drops_set_user(fuse_req_t req) {
 }
 
 // It is asked only where a file has such bits.
-static bool may_drop(fuse_req_t req, const struct inode *inode, int flags) {
-    return flags & O_TRUNC && inode->attrs.base.mode & (S_ISUID | S_ISGID) && drops_set_user(req);
+static bool may_drop(const struct request *request, const struct inode *inode, int flags) {
+    return flags & O_TRUNC && inode->attrs.base.mode & (S_ISUID | S_ISGID) && drops_set_user(request);
 }
 
 // Where memory is wanting, the file is told of no sync that failed before.
-static void open_file(fuse_req_t req, struct fuse_file_info *info) {
+static void open_file(const struct request *request, struct fuse_file_info *info) {
     info->fh = 0;
-    if (mount_of(req)->store) open_handle(req, info);
+    if (request->mount->store) open_handle(request, info);
 }
 
 static void on_open(fuse_req_t req, fuse_ino_t ino, struct fuse_file_info *info) {
-    struct inode *inode = inode_of(req, ino);
-    int err = request_begin(req);
-    if (!err) err = fs_open(mount_of(req), inode, info->flags, may_drop(req, inode, info->flags));
-    if (!err) open_file(req, info);
-    finish(req, err, (struct answer){.kind = ANSWER_OPENED, .info = *info});
+    struct request request = request_of(req);
+    struct inode *inode = inode_of(&request, ino);
+    int err = request_begin(&request);
+    if (!err) err = fs_open(&request, inode, info->flags, may_drop(&request, inode, info->flags));
+    if (!err) open_file(&request, info);
+    finish(&request, err, (struct answer){.kind = ANSWER_OPENED, .info = *info});
 }
 
 // A file that stands already is opened as it is; where that cuts it, what is told is what stands then.
-static int open_found(fuse_req_t req, struct inode *folder, const char *name, int flags, struct lookup_result *result) {
-    struct mount *mount = mount_of(req);
-    int err = fs_lookup(mount, folder, name, result);
-    if (!err) err = fs_open(mount, result->inode, flags, may_drop(req, result->inode, flags));
-    return err ? err : fs_getattr(mount, result->inode, &result->stat);
+static int open_found(struct request *request, struct inode *folder, const char *name, int flags,
+                      struct lookup_result *result) {
+    int err = fs_lookup(request->mount, folder, name, result);
+    if (!err) err = fs_open(request, result->inode, flags, may_drop(request, result->inode, flags));
+    return err ? err : fs_getattr(request->mount, result->inode, &result->stat);
 }
 
 // A file that is made has nothing to cut, and keeps the moment at which it was made.
-static int create(fuse_req_t req, fuse_ino_t parent, const char *name, mode_t mode, int flags,
+static int create(struct request *request, fuse_ino_t parent, const char *name, mode_t mode, int flags,
                   struct lookup_result *result) {
-    struct create_args args = create_args_of(req, S_IFREG | (mode & 07777));
-    struct mount *mount = mount_of(req);
-    struct inode *folder = inode_of(req, parent);
-    int err = namei_create(mount, folder, name, &args, result);
-    if (err == EEXIST && !(flags & O_EXCL)) err = open_found(req, folder, name, flags, result);
-    else if (!err) err = fs_open(mount, result->inode, flags & ~O_TRUNC, false);
+    struct create_args args = create_args_of(request, S_IFREG | (mode & 07777));
+    struct inode *folder = inode_of(request, parent);
+    int err = namei_create(request, folder, name, &args, result);
+    if (err == EEXIST && !(flags & O_EXCL)) err = open_found(request, folder, name, flags, result);
+    else if (!err) err = fs_open(request, result->inode, flags & ~O_TRUNC, false);
     return hold(err, result);
 }
 
 static void on_create(fuse_req_t req, fuse_ino_t parent, const char *name, mode_t mode, struct fuse_file_info *info) {
+    struct request request = request_of(req);
     struct lookup_result result;
-    int err = request_begin(req);
-    if (!err) err = create(req, parent, name, mode, info->flags, &result);
+    int err = request_begin(&request);
+    if (!err) err = create(&request, parent, name, mode, info->flags, &result);
     struct answer answer = entry_answer(err, &result);
-    if (!err) open_file(req, info);
+    if (!err) open_file(&request, info);
     answer.kind = ANSWER_CREATED;
     answer.info = *info;
-    finish(req, err, answer);
+    finish(&request, err, answer);
 }
 
 static void on_release(fuse_req_t req, fuse_ino_t ino, struct fuse_file_info *info) {
+    struct request request = request_of(req);
     close_handle(info);
     lock_take(&request_lock);
-    int err = fs_release(mount_of(req), inode_of(req, ino));
-    finish_done(req, err);
+    int err = fs_release(&request, inode_of(&request, ino));
+    finish_done(&request, err);
 }
 
 static void on_read(fuse_req_t req, fuse_ino_t ino, size_t size, off_t offset, struct fuse_file_info *info) {
+    struct request request = request_of(req);
     size_t got = 0;
-    char *bytes = malloc(size ? size : 1);
+    char *bytes = mem_alloc(size ? size : 1);
     (void)info;
-    int err = begin_bytes(req, ino);
+    int err = begin_bytes(&request, ino);
     if (!bytes) err = ENOMEM;
-    if (!err) err = fs_read(mount_of(req), inode_of(req, ino), (uint64_t)offset, bytes, size, &got);
-    err = request_end(mount_of(req), err);
-    if (err) fuse_reply_err(req, err);
-    else fuse_reply_buf(req, bytes, got);
-    free(bytes);
+    if (!err) err = fs_read(&request, inode_of(&request, ino), (uint64_t)offset, bytes, size, &got);
+    err = request_end(&request, err);
+    if (!answer_failed(&request, err)) fuse_reply_buf(req, bytes, got);
+    mem_free(bytes);
 }
 
 static void on_write(fuse_req_t req, fuse_ino_t ino, const char *bytes, size_t size, off_t offset,
                      struct fuse_file_info *info) {
-    struct mount *mount = mount_of(req);
-    struct inode *inode = inode_of(req, ino);
+    struct request request = request_of(req);
+    struct inode *inode = inode_of(&request, ino);
     uint64_t at = (uint64_t)offset;
     size_t done = 0;
-    int err = begin_write(req, ino);
-    if (!err && info->flags & O_APPEND) err = files_find_end(mount, inode, &at);
-    if (!err) err = fs_write(mount, inode, at, bytes, size, &done);
-    if (!err && at != (uint64_t)offset) replica_note_moved(mount, inode);
-    finish(req, err, (struct answer){.kind = ANSWER_WRITTEN, .written = done});
+    int err = begin_write(&request, ino);
+    if (!err && info->flags & O_APPEND) err = files_find_end(request.mount, inode, &at);
+    if (!err) err = fs_write(&request, inode, at, bytes, size, &done);
+    if (!err && at != (uint64_t)offset) replica_note_moved(request.mount, inode);
+    finish(&request, err, (struct answer){.kind = ANSWER_WRITTEN, .written = done});
 }
 
 static void on_fallocate(fuse_req_t req, fuse_ino_t ino, int mode, off_t offset, off_t count,
                          struct fuse_file_info *info) {
+    struct request request = request_of(req);
     (void)info;
-    int err = request_begin(req);
-    if (!err) err = holes_allocate(mount_of(req), inode_of(req, ino), mode, (uint64_t)offset, (uint64_t)count);
-    finish_done(req, err);
+    int err = request_begin(&request);
+    if (!err) err = holes_allocate(&request, inode_of(&request, ino), mode, (uint64_t)offset, (uint64_t)count);
+    finish_done(&request, err);
 }
 
 static void on_lseek(fuse_req_t req, fuse_ino_t ino, off_t offset, int whence, struct fuse_file_info *info) {
+    struct request request = request_of(req);
     uint64_t found = 0;
     (void)info;
-    int err = request_begin(req);
-    if (!err) err = holes_seek(mount_of(req), inode_of(req, ino), (uint64_t)offset, whence, &found);
-    err = request_end(mount_of(req), err);
-    if (err) fuse_reply_err(req, err);
-    else fuse_reply_lseek(req, (off_t)found);
+    int err = request_begin(&request);
+    if (!err) err = holes_seek(request.mount, inode_of(&request, ino), (uint64_t)offset, whence, &found);
+    err = request_end(&request, err);
+    if (!answer_failed(&request, err)) fuse_reply_lseek(req, (off_t)found);
 }
 
 // Where nothing is kept, all is in memory.
 static void on_fsync(fuse_req_t req, fuse_ino_t ino, int data_only, struct fuse_file_info *info) {
-    struct store *store = mount_of(req)->store;
+    struct request request = request_of(req);
     struct handle *handle = handle_of(info);
-    struct answer answer = {.kind = ANSWER_SYNCED, .req = req, .errseq_seen = handle ? &handle->errseq_seen : 0};
+    struct answer answer = {
+        .kind = ANSWER_SYNCED, .request = request, .errseq_seen = handle ? &handle->errseq_seen : NULL};
+    bool is_kept = request.mount->store;
     (void)ino, (void)data_only;
-    int err = store ? request_begin(req) : 0;
-    if (store) err = request_end(mount_of(req), err);
-    if (store && !err) answer_sync(store, &answer);
-    else fuse_reply_err(req, err);
+    int err = is_kept ? request_begin(&request) : 0;
+    if (is_kept) err = request_end(&request, err);
+    if (is_kept && !err) answer_sync(&answer);
+    else answer_done(&request, err);
 }
 
 static void on_opendir(fuse_req_t req, fuse_ino_t ino, struct fuse_file_info *info) {
+    struct request request = request_of(req);
     (void)ino;
-    if (open_handle(req, info)) fuse_reply_open(req, info);
-    else fuse_reply_err(req, ENOMEM);
+    if (!answer_failed(&request, open_handle(&request, info) ? 0 : ENOMEM)) fuse_reply_open(req, info);
 }
 
 static void on_releasedir(fuse_req_t req, fuse_ino_t ino, struct fuse_file_info *info) {
@@ -494,7 +533,7 @@ static void on_releasedir(fuse_req_t req, fuse_ino_t ino, struct fuse_file_info 
 
 // A page of a listing that is put together.
 struct page {
-    fuse_req_t req;
+    const struct request *request;
     struct inode *directory;
     bool is_plus; // what stands at each name is told with it
     char *out;
@@ -513,8 +552,8 @@ struct line {
 static bool put_line(struct page *page, const struct line *line) {
     char *to = page->out + page->length;
     size_t capacity = page->capacity - page->length, size;
-    if (page->is_plus) size = fuse_add_direntry_plus(page->req, to, capacity, line->name, &line->param, line->next);
-    else size = fuse_add_direntry(page->req, to, capacity, line->name, &line->param.attr, line->next);
+    if (page->is_plus) size = fuse_add_direntry_plus(page->request->req, to, capacity, line->name, &line->param, line->next);
+    else size = fuse_add_direntry(page->request->req, to, capacity, line->name, &line->param.attr, line->next);
     if (size > capacity) return false;
     if (line->held) line->held->nlookup++;
     page->length += size;
@@ -534,9 +573,9 @@ static bool put_name(struct page *page, const char *name, bool is_directory, off
     struct line line = {.name = name, .next = next};
     struct inode *known = page->is_plus ? 0 : inode_find(page->directory, name);
     struct lookup_result result = {.inode = known};
-    int err = known ? 0 : fs_lookup(mount_of(page->req), page->directory, name, &result);
+    int err = known ? 0 : fs_lookup(page->request->mount, page->directory, name, &result);
     if (err == ENOENT) return true;
-    if (!err && known) err = fs_getattr(mount_of(page->req), known, &result.stat);
+    if (!err && known) err = fs_getattr(page->request->mount, known, &result.stat);
     line.param.attr.st_mode = err ? is_directory ? S_IFDIR : S_IFREG : result.stat.st_mode;
     line.param.attr.st_ino = err ? NO_NUMBER : result.inode->ino;
     if (!err && page->is_plus) {
@@ -567,42 +606,49 @@ static int fill_page(struct page *page, struct bytes *names, off_t at) {
     int err = 0;
     if (at == 0 || !names->at) {
         names->length = 0;
-        err = fs_readdir(mount_of(page->req), page->directory, names);
+        err = fs_readdir(page->request->mount, page->directory, names);
     }
     if (err == ENOENT) err = 0; // A directory that is gone has no names.
     if (!err && at >= 0) put_names(page, names, at);
     return err;
 }
 
-static void answer_page(fuse_req_t req, fuse_ino_t ino, size_t size, off_t at, struct fuse_file_info *info, bool more) {
-    struct page page = {req, inode_of(req, ino), more, malloc(size), size, 0};
-    int err = request_begin(req);
+static void answer_page(const struct request *request, fuse_ino_t ino, size_t size, off_t at,
+                        struct fuse_file_info *info, bool is_plus) {
+    struct page page = {request, inode_of(request, ino), is_plus, mem_alloc(size), size, 0};
+    int err = request_begin(request);
     if (!page.out) err = ENOMEM;
     if (!err) err = fill_page(&page, &handle_of(info)->names, at);
-    err = request_end(mount_of(req), err);
-    if (err) fuse_reply_err(req, err);
-    else fuse_reply_buf(req, page.out, page.length);
-    free(page.out);
+    err = request_end(request, err);
+    if (!answer_failed(request, err)) fuse_reply_buf(request->req, page.out, page.length);
+    mem_free(page.out);
 }
 
 static void on_readdir(fuse_req_t req, fuse_ino_t ino, size_t size, off_t at, struct fuse_file_info *info) {
-    answer_page(req, ino, size, at, info, false);
+    struct request request = request_of(req);
+    answer_page(&request, ino, size, at, info, false);
 }
 
 static void on_readdirplus(fuse_req_t req, fuse_ino_t ino, size_t size, off_t at, struct fuse_file_info *info) {
-    answer_page(req, ino, size, at, info, true);
+    struct request request = request_of(req);
+    answer_page(&request, ino, size, at, info, true);
 }
 
 static fsblkcnt_t blocks_left(uint64_t size, uint64_t taken) { return taken < size ? (size - taken) / 4096 : 0; }
 
+// Names count as inodes. There is no most of them.
 static void on_statfs(fuse_req_t req, fuse_ino_t ino) {
-    (void)ino;
+    const fsfilcnt_t left = 1u << 30;
     struct mem_usage room = memlimit_usage();
+    (void)ino;
+    requests_lock();
+    uint64_t entries = entry_count(fuse_req_userdata(req));
+    requests_unlock();
     struct statvfs stat = {.f_bsize = 4096,
                            .f_frsize = 4096,
-                           .f_files = 1u << 30,
-                           .f_ffree = 1u << 30,
-                           .f_favail = 1u << 30,
+                           .f_files = left + (entries == ENTRIES_UNKNOWN ? 0 : entries),
+                           .f_ffree = left,
+                           .f_favail = left,
                            .f_blocks = room.size / 4096,
                            .f_bfree = blocks_left(room.size, room.taken),
                            .f_bavail = blocks_left(room.size, room.taken + room.reserve),
@@ -611,40 +657,44 @@ static void on_statfs(fuse_req_t req, fuse_ino_t ino) {
 }
 
 static void on_setxattr(fuse_req_t req, fuse_ino_t ino, const char *name, const char *value, size_t size, int flags) {
-    int err = request_begin(req);
-    if (!err) err = extended_set(mount_of(req), inode_of(req, ino), name, value, size, flags);
-    finish_done(req, err);
+    struct request request = request_of(req);
+    int err = request_begin(&request);
+    if (!err) err = extended_set(&request, inode_of(&request, ino), name, value, size, flags);
+    finish_done(&request, err);
 }
 
 static void on_removexattr(fuse_req_t req, fuse_ino_t ino, const char *name) {
-    int err = request_begin(req);
-    if (!err) err = extended_remove(mount_of(req), inode_of(req, ino), name);
-    finish_done(req, err);
+    struct request request = request_of(req);
+    int err = request_begin(&request);
+    if (!err) err = extended_remove(&request, inode_of(&request, ino), name);
+    finish_done(&request, err);
 }
 
 // Bytes that were asked for, or how many they are where no room was given.
-static void answer_sized(fuse_req_t req, int err, const struct bytes *bytes, size_t capacity) {
+static void answer_sized(const struct request *request, int err, const struct bytes *bytes, size_t capacity) {
     if (!err && capacity && bytes->length > capacity) err = ERANGE;
-    if (err) fuse_reply_err(req, err);
-    else if (capacity) fuse_reply_buf(req, bytes->at, bytes->length);
-    else fuse_reply_xattr(req, bytes->length);
+    if (answer_failed(request, err)) return;
+    if (capacity) fuse_reply_buf(request->req, bytes->at, bytes->length);
+    else fuse_reply_xattr(request->req, bytes->length);
 }
 
 static void on_getxattr(fuse_req_t req, fuse_ino_t ino, const char *name, size_t capacity) {
+    struct request request = request_of(req);
     struct bytes value = {0};
-    int err = begin_bytes(req, ino);
-    if (!err) err = extended_get(mount_of(req), inode_of(req, ino), name, &value);
-    err = request_end(mount_of(req), err);
-    answer_sized(req, err, &value, capacity);
+    int err = begin_bytes(&request, ino);
+    if (!err) err = extended_get(request.mount, inode_of(&request, ino), name, &value);
+    err = request_end(&request, err);
+    answer_sized(&request, err, &value, capacity);
     bytes_free(&value);
 }
 
 static void on_listxattr(fuse_req_t req, fuse_ino_t ino, size_t capacity) {
+    struct request request = request_of(req);
     struct bytes names = {0};
-    int err = begin_bytes(req, ino);
-    if (!err) err = extended_list(mount_of(req), inode_of(req, ino), &names);
-    err = request_end(mount_of(req), err);
-    answer_sized(req, err, &names, capacity);
+    int err = begin_bytes(&request, ino);
+    if (!err) err = extended_list(request.mount, inode_of(&request, ino), !fuse_req_ctx(req)->uid, &names);
+    err = request_end(&request, err);
+    answer_sized(&request, err, &names, capacity);
     bytes_free(&names);
 }
 
@@ -667,32 +717,33 @@ static void notify_stale(struct bytes *list) {
         if (stale[i].parent_ino && knows_names)
             fuse_lowlevel_notify_inval_entry(session, stale[i].parent_ino, stale[i].name, strlen(stale[i].name));
         if (stale[i].ino) fuse_lowlevel_notify_inval_inode(session, stale[i].ino, 0, 0);
-        free(stale[i].name);
+        mem_free(stale[i].name);
     }
     fuse_lowlevel_notify_inval_inode(session, FUSE_ROOT_ID, -1, 0);
     bytes_free(list);
 }
 
 struct restoring {
-    fuse_req_t req;
+    struct request request;
     struct restore_request wanted;
 };
 
 // Runs in a thread of its own: the other requests are served while the kernel forgets.
 static void *restore(void *argument) {
     struct restoring *restoring = argument;
+    struct request *request = &restoring->request;
     struct bytes stale = {0};
-    int err = request_begin(restoring->req);
-    if (!err) err = snapshot_restore(mount_of(restoring->req), restoring->wanted.name, &stale);
-    struct store *store = mount_of(restoring->req)->store;
-    err = request_end(mount_of(restoring->req), err);
+    int err = request_begin(request);
+    if (!err) err = snapshot_restore(request->mount, restoring->wanted.name, &stale);
+    struct store *store = request->mount->store;
+    err = request_end(request, err);
     if (!err && store && store_syncs_each(store)) err = store_sync(store);
+    if (!err) entry_count_walk(request->mount);
     notify_stale(&stale);
-    if (err) fuse_reply_err(restoring->req, err);
-    else fuse_reply_ioctl(restoring->req, 0, 0, 0);
-    free(restoring);
+    if (!answer_failed(request, err)) fuse_reply_ioctl(request->req, 0, NULL, 0);
+    mem_free(restoring);
     threads--;
-    return 0;
+    return NULL;
 }
 
 static int start_thread(void *(*run)(void *argument), void *argument) {
@@ -704,104 +755,146 @@ static int start_thread(void *(*run)(void *argument), void *argument) {
     return err;
 }
 
-static int start_restoring(fuse_req_t req, const struct restore_request *wanted) {
+static int start_restoring(const struct request *request, const struct restore_request *wanted) {
+    if (request->mount->replica) return EOPNOTSUPP;
     if (!memchr(wanted->name, 0, sizeof wanted->name)) return EINVAL;
-    struct restoring *restoring = malloc(sizeof *restoring);
+    struct restoring *restoring = mem_alloc(sizeof *restoring);
     if (!restoring) return ENOMEM;
-    *restoring = (struct restoring){req, *wanted};
+    *restoring = (struct restoring){*request, *wanted};
     int err = start_thread(restore, restoring);
-    if (err) free(restoring);
+    if (err) mem_free(restoring);
     return err;
 }
 
 struct receiving {
-    fuse_req_t req;
+    struct request request;
     struct bytes text;
 };
 
 // Runs in a thread of its own, as `restore` does.
 static void *receive(void *argument) {
     struct receiving *receiving = argument;
-    struct mount *mount = mount_of(receiving->req);
+    struct request *request = &receiving->request;
     struct bytes stale = {0};
     struct delta_answer answer;
-    int err = request_begin(receiving->req);
-    if (!err) err = delta_apply(mount, &receiving->text, &answer, &stale);
-    err = request_end(mount, err);
-    if (!err && mount->store) err = store_sync(mount->store);
+    int err = request_begin(request);
+    if (!err) err = delta_apply(request, &receiving->text, &answer, &stale);
+    err = request_end(request, err);
+    if (!err && request->mount->store) err = store_sync(request->mount->store);
+    if (!err) entry_count_walk(request->mount);
     notify_stale(&stale);
-    if (err) fuse_reply_err(receiving->req, err);
-    else fuse_reply_ioctl(receiving->req, 0, &answer, sizeof answer);
+    if (!answer_failed(request, err)) fuse_reply_ioctl(request->req, 0, &answer, sizeof answer);
     bytes_free(&receiving->text);
-    free(receiving);
+    mem_free(receiving);
     threads--;
-    return 0;
+    return NULL;
 }
 
-static int start_receiving(fuse_req_t req, struct handle *handle) {
-    struct receiving *receiving = mount_of(req)->backend.tree ? malloc(sizeof *receiving) : 0;
-    if (!receiving) return mount_of(req)->backend.tree ? ENOMEM : EOPNOTSUPP;
-    *receiving = (struct receiving){req, handle->text};
+static int start_receiving(const struct request *request, struct handle *handle) {
+    if (!request->mount->backend.tree) return EOPNOTSUPP;
+    struct receiving *receiving = mem_alloc(sizeof *receiving);
+    if (!receiving) return ENOMEM;
+    *receiving = (struct receiving){*request, handle->text};
     handle->text = (struct bytes){0};
     int err = start_thread(receive, receiving);
     if (!err) return 0;
     bytes_free(&receiving->text);
-    free(receiving);
+    mem_free(receiving);
     return err;
 }
 
 // A text takes no more memory than a call that makes the tree grow.
-static int take_coming_piece(fuse_req_t req, const struct delta_piece *piece, struct handle *handle) {
+static int take_coming_piece(struct request *request, const struct delta_piece *piece, struct handle *handle) {
     if (piece->count > sizeof piece->bytes) return EINVAL;
-    if (!mount_of(req)->backend.tree) return EOPNOTSUPP;
-    memlimit_begin();
+    if (!request->mount->backend.tree) return EOPNOTSUPP;
+    memlimit_begin(&request->budget);
     int err = bytes_append(&handle->text, piece->bytes, piece->count);
     memlimit_suspend();
-    if (!err) fuse_reply_ioctl(req, 0, 0, 0);
+    if (!err) fuse_reply_ioctl(request->req, 0, NULL, 0);
     return err ? ENOSPC : 0;
 }
 
-static int answer_exit_report(fuse_req_t req) {
+static int answer_exit_report(const struct request *request) {
     struct exit_report_pipe pipe = exit_report_pipe();
-    fuse_reply_ioctl(req, 0, &pipe, sizeof pipe);
+    fuse_reply_ioctl(request->req, 0, &pipe, sizeof pipe);
     return 0;
 }
 
-static int answer_send(fuse_req_t req, const struct send_request *wanted, struct handle *handle) {
-    struct mount *mount = mount_of(req);
+struct sending {
+    struct request request;
+    struct send_request wanted;
+    struct handle *handle; // the kernel keeps it open until the request is answered
+};
+
+// Runs in a thread of its own: the other requests are served while the text is printed.
+static void *print_text(void *argument) {
+    struct sending *sending = argument;
+    struct request *request = &sending->request;
+    struct delta_trees trees = {{0}, {0}};
+    int err = request_begin(request);
+    if (!err) err = delta_open_trees(request->mount, &sending->wanted, &trees);
+    err = request_end(request, err);
+    if (!err) err = delta_print(&trees, &sending->handle->text);
+    delta_close_trees(&trees);
+    sending->handle->is_printing = false;
+    if (!answer_failed(request, err)) fuse_reply_ioctl(request->req, 0, NULL, 0);
+    mem_free(sending);
+    threads--;
+    return NULL;
+}
+
+static int start_sending(const struct request *request, const struct send_request *wanted, struct handle *handle) {
+    if (!request->mount->backend.tree) return EOPNOTSUPP;
+    struct sending *sending = mem_alloc(sizeof *sending);
+    if (!sending) return ENOMEM;
+    *sending = (struct sending){*request, *wanted, handle};
     handle->text.length = handle->sent = 0;
-    int err = request_begin(req);
-    if (!err) err = delta_print(mount, wanted, &handle->text);
-    err = request_end(mount, err);
-    if (!err) fuse_reply_ioctl(req, 0, 0, 0);
+    handle->is_printing = true;
+    int err = start_thread(print_text, sending);
+    if (!err) return 0;
+    handle->is_printing = false;
+    mem_free(sending);
     return err;
 }
 
-static int answer_sent_piece(fuse_req_t req, struct handle *handle) {
-    static struct delta_piece piece;
+static int answer_sent_piece(const struct request *request, struct handle *handle) {
+    struct delta_piece piece;
     size_t left = handle->text.length - handle->sent;
     piece.count = (uint32_t)(left < sizeof piece.bytes ? left : sizeof piece.bytes);
     if (piece.count) memcpy(piece.bytes, handle->text.at + handle->sent, piece.count);
+    memset(piece.bytes + piece.count, 0, sizeof piece.bytes - piece.count);
     handle->sent += piece.count;
-    fuse_reply_ioctl(req, 0, &piece, sizeof piece);
+    fuse_reply_ioctl(request->req, 0, &piece, sizeof piece);
     return 0;
 }
 
+static int answer_status(const struct request *request) {
+    struct mount_status status;
+    int err = request_begin(request);
+    if (!err) status_fill(request->mount, &status);
+    err = request_end(request, err);
+    if (!err) fuse_reply_ioctl(request->req, 0, &status, sizeof status);
+    return err;
+}
+
 // What goes in and out has the size that the number of a request tells.
-static int answer_asked(fuse_req_t req, unsigned what, const void *in, struct handle *handle) {
+static int answer_asked(struct request *request, unsigned what, const void *in, struct handle *handle) {
+    if (handle->is_printing) return EBUSY;
     switch (what) {
-    case RESTORE_REQUEST: return start_restoring(req, in);
-    case EXIT_REPORT_REQUEST: return answer_exit_report(req);
-    case SEND_REQUEST: return answer_send(req, in, handle);
-    case SENT_PIECE_REQUEST: return answer_sent_piece(req, handle);
-    case COMING_PIECE_REQUEST: return take_coming_piece(req, in, handle);
-    case RECEIVE_REQUEST: return start_receiving(req, handle);
+    case RESTORE_REQUEST: return start_restoring(request, in);
+    case EXIT_REPORT_REQUEST: return answer_exit_report(request);
+    case SEND_REQUEST: return start_sending(request, in, handle);
+    case SENT_PIECE_REQUEST: return answer_sent_piece(request, handle);
+    case COMING_PIECE_REQUEST: return take_coming_piece(request, in, handle);
+    case STATUS_REQUEST: return answer_status(request);
+    case RECEIVE_REQUEST: return start_receiving(request, handle);
     default: return ENOTTY;
     }
 }
 
 static void on_ioctl(fuse_req_t req, fuse_ino_t ino, unsigned what, void *argument, struct fuse_file_info *info,
                      unsigned flags, const void *in, size_t in_size, size_t out_size) {
+    struct request request = request_of(req);
     (void)argument, (void)flags;
     uid_t asks = fuse_req_ctx(req)->uid;
     struct handle *handle = handle_of(info);
@@ -809,8 +902,8 @@ static void on_ioctl(fuse_req_t req, fuse_ino_t ino, unsigned what, void *argume
                    out_size == (_IOC_DIR(what) & _IOC_READ ? _IOC_SIZE(what) : 0);
     int err = ENOTTY;
     if (asks && asks != getuid()) err = EPERM;
-    else if (ino == FUSE_ROOT_ID && handle && has_all) err = answer_asked(req, what, in, handle);
-    if (err) fuse_reply_err(req, err);
+    else if (ino == FUSE_ROOT_ID && handle && has_all) err = answer_asked(&request, what, in, handle);
+    if (err) answer_failed(&request, err);
 }
 
 const struct fuse_lowlevel_ops requests = {

@@ -1,12 +1,9 @@
 // Lines of the script language, and its replies ("Script" in docs/FORMATS.md).
-//
-// Validity: a reply is read as a whole; one of any other form is EIO.
 #include "script.h"
 #include "text.h"
 #include <errno.h>
 #include <inttypes.h>
 #include <stdio.h>
-#include <stdlib.h>
 #include <string.h>
 
 static const struct {
@@ -19,8 +16,15 @@ static const struct {
 };
 enum { FAULTS = sizeof faults / sizeof *faults };
 
-static const char *const change_words[] = {"mkdir", "create", "unlink", "rmdir", "rmtree"};
-static const char *const snapshot_words[] = {"snapshot", "drop", "restore"};
+static const char *const call_words[] = {
+    [CALL_MKDIR] = "mkdir", [CALL_CREATE] = "create", [CALL_UNLINK] = "unlink",
+    [CALL_RMDIR] = "rmdir", [CALL_RMTREE] = "rmtree",
+};
+static const char *const snapshot_words[] = {
+    [TAKE_SNAPSHOT] = "snapshot",
+    [DROP_SNAPSHOT] = "drop",
+    [RESTORE_SNAPSHOT] = "restore",
+};
 
 // A word, a space, and a path or a name in percent form.
 static int append_call(struct bytes *line, const char *word, const char *path) {
@@ -39,8 +43,8 @@ static int end_line(struct bytes *line, int err) { return err ? err : bytes_appe
 
 int script_timestamp(struct bytes *line, uint64_t at) { return bytes_print(line, "at %" PRIu64 "\n", at); }
 
-int script_change(struct bytes *line, enum change what, const char *path) {
-    return end_line(line, append_call(line, change_words[what], path));
+int script_change(struct bytes *line, enum path_call what, const char *path) {
+    return end_line(line, append_call(line, call_words[what], path));
 }
 
 int script_rename(struct bytes *line, const char *from, const char *to) {
@@ -106,57 +110,3 @@ int reply_readdir(struct bytes *reply, const char *listing, size_t length) {
     }
     return err;
 }
-
-static bool begins(const struct bytes *reply, const char *word) {
-    size_t length = strlen(word);
-    return reply->length > length && !memcmp(reply->at, word, length);
-}
-
-int read_reply_bytes(const struct bytes *reply, char *out, size_t capacity, size_t *got) {
-    long count = begins(reply, "bytes ") ? text_read_hex(reply->at + 6, reply->length - 7, out, capacity) : -1;
-    *got = count < 0 ? 0 : (size_t)count;
-    return count < 0 ? EIO : 0;
-}
-
-int read_reply_stat(const struct bytes *reply, struct node_stat *out) {
-    *out = (struct node_stat){.is_directory = begins(reply, "dir ")};
-    if (!out->is_directory && !begins(reply, "file ")) return EIO;
-    char *end;
-    out->length = strtoull(strchr(reply->at, ' '), &end, 10);
-    if (*end != ' ') return EIO;
-    out->mtime_ns = strtoull(end, 0, 10);
-    return 0;
-}
-
-// Appends one line of a listing, its name in plain bytes, and a byte 0.
-static int append_name(struct bytes *out, const char *line, size_t length) {
-    if (length < 3) return EIO;
-    int err = bytes_append(out, line, 1);
-    if (!err) err = text_unescape(out, line + 2, length - 2);
-    return err ? err : bytes_append(out, "", 1);
-}
-
-int read_reply_readdir(const struct bytes *reply, struct bytes *out) {
-    if (!begins(reply, "names ")) return EIO;
-    const char *end = reply->at + reply->length, *line = memchr(reply->at, '\n', reply->length);
-    int err = line ? 0 : EIO;
-    while (!err && ++line < end) {
-        const char *stop = memchr(line, '\n', (size_t)(end - line));
-        if (!stop) return EIO;
-        err = append_name(out, line, (size_t)(stop - line));
-        line = stop;
-    }
-    return err;
-}
-
-int err_of_reply(const struct bytes *reply) {
-    if (begins(reply, "error")) return EIO;
-    if (!begins(reply, "fault ")) return 0;
-    for (size_t i = 0; i < FAULTS; i++) {
-        size_t length = strlen(faults[i].word);
-        if (reply->length == length + 7 && !memcmp(reply->at + 6, faults[i].word, length)) return faults[i].number;
-    }
-    return EIO;
-}
-
-size_t lines_of_reply(const char *reply) { return strncmp(reply, "names ", 6) ? 1 : 1 + strtoull(reply + 6, 0, 10); }

@@ -12,7 +12,7 @@ enum {
 // Each puts one line, with its line feed, behind what `line` has: 0 or ENOMEM.
 // The moment of the lines behind it, which is 0 before the first such line.
 int script_timestamp(struct bytes *line, uint64_t at);
-int script_change(struct bytes *line, enum change what, const char *path);
+int script_change(struct bytes *line, enum path_call what, const char *path);
 int script_rename(struct bytes *line, const char *from, const char *to);
 int script_truncate(struct bytes *line, const char *path, uint64_t length);
 int script_write(struct bytes *line, const char *path, uint64_t offset, const char *bytes, size_t count);
@@ -26,14 +26,4 @@ int reply_fault(struct bytes *reply, int number);
 int reply_read(struct bytes *reply, const char *bytes, size_t count);
 int reply_stat(struct bytes *reply, struct node_stat node_stat);
 int reply_readdir(struct bytes *reply, const char *listing, size_t length);
-
-// Each reads a reply that is no refusal: 0, or EIO where it is not of that form.
-int read_reply_bytes(const struct bytes *reply, char *out, size_t capacity, size_t *got);
-int read_reply_stat(const struct bytes *reply, struct node_stat *out);
-int read_reply_readdir(const struct bytes *reply, struct bytes *out);
-
-// The number in <errno.h> of a reply that is a refusal, EIO where the line was faulty, else 0.
-int err_of_reply(const struct bytes *reply);
-// How many lines are in a reply whose first line is whole.
-size_t lines_of_reply(const char *reply);
 #endif

@@ -4,6 +4,7 @@
 // that was to be kept is kept.
 #include "serving.h"
 #include "busy_poll.h"
+#include "entry_count.h"
 #include "exit_report.h"
 #include "image.h"
 #include "readahead.h"
@@ -19,12 +20,13 @@
 #include <poll.h>
 #include <signal.h>
 #include <stdio.h>
+#include <stdlib.h>
 #include <unistd.h>
 
 static int open_backend(const struct open_options *open_options, struct mount *mount) {
     if (open_options->replica.members) return replica_open(open_options, mount);
     if (open_options->store) return store_open(open_options, &mount->backend, &mount->store);
-    return open_options->betr ? open_pipe(open_options, &mount->backend) : open_library(open_options, &mount->backend);
+    return open_library(open_options, &mount->backend);
 }
 
 static int open_volume(const struct options *options, struct mount *mount) {
@@ -32,8 +34,11 @@ static int open_volume(const struct options *options, struct mount *mount) {
     int err = open_backend(open_options, mount);
     if (err) return err;
     if (open_options->trace) err = open_trace(open_options, &mount->backend);
+    requests_lock();
     if (!err) err = fs_start(mount);
     if (!err && mount->store) err = snapshots_find(mount);
+    requests_unlock();
+    if (!err) entry_count_walk(mount);
     if (!err && mount->store) err = store_start_writeback(mount->store, mount);
     if (err) mount->backend.ops->close(mount->backend.self, 0);
     return err;
@@ -87,7 +92,7 @@ static void serve_read(struct fuse_session *session, struct mount *mount, const 
 // an
 // unmount by ECONNABORTED, too.
 static int serve_all(struct fuse_session *session, struct mount *mount, struct fuse_buf *buffer) {
-    static struct fuse_buf other;
+    struct fuse_buf other = {0}; // its memory is libfuse's
     int got = -EINTR;
     while (!fuse_session_exited(session) && (got > 0 || got == -EINTR)) {
         got = fuse_session_receive_buf(session, buffer);
@@ -97,6 +102,7 @@ static int serve_all(struct fuse_session *session, struct mount *mount, struct f
         serve_read(session, mount, buffer);
         if (has_other) serve_read(session, mount, &other);
     }
+    free(other.mem);
     fuse_session_reset(session);
     return got < 0 && got != -EINTR && got != -ECONNABORTED;
 }
@@ -104,10 +110,11 @@ static int serve_all(struct fuse_session *session, struct mount *mount, struct f
 // A thread that tells the kernel to forget may wait for requests that are under way: so these are served until it is
 // done.
 static int serve(struct fuse_session *session, struct mount *mount) {
-    static struct fuse_buf buffer; // its memory is libfuse's
+    struct fuse_buf buffer = {0}; // its memory is libfuse's
     int status = mount->replica ? replica_serve(session, mount) : serve_all(session, mount, &buffer);
     ignore_signals();
     while (requests_are_under_way()) serve_one(session, &buffer);
+    free(buffer.mem);
     return status;
 }
 
@@ -121,12 +128,14 @@ static void name_source(const struct options *options, char out[2 * PATH_MAX]) {
     *out = 0;
 }
 
-// libfuse mounts with `nosuid,nodev` where nothing else is said.
+// libfuse mounts with `nosuid,nodev` if nothing else is said.
 static struct fuse_session *open_session(const struct options *options, struct mount *mount) {
-    static char source[2 * PATH_MAX], how[sizeof source + 128];
+    char source[2 * PATH_MAX], how[sizeof source + 128];
     name_source(options, source);
-    snprintf(how, sizeof how, "default_permissions,fsname=%s,subtype=doorvervain%s%s", source,
-             options->allows_other ? ",allow_other" : "", options->trusts_attributes ? ",suid,dev" : "");
+    bool trusts = options->trusts_attributes;
+    snprintf(how, sizeof how, "default_permissions,fsname=%s,subtype=doorvervain%s%s%s", source,
+             options->allows_other ? ",allow_other" : "", trusts && !options->no_suid ? ",suid" : "",
+             trusts && !options->no_dev ? ",dev" : "");
     char *words[] = {"doorvervain-mount", "-o", how, 0};
     struct fuse_args args = FUSE_ARGS_INIT(3, words);
     struct fuse_session *session = fuse_session_new(&args, &requests, sizeof requests, mount);
@@ -166,7 +175,9 @@ static int save_image(struct image *image, int err) {
 // Nothing is open any more, so nothing that was unlinked goes into the image. What a store may not change any more its
 // next mount takes out.
 static int close_volume(struct mount *mount, struct image *image) {
+    requests_lock();
     int err = fs_end(mount);
+    requests_unlock();
     if (mount->replica) replica_end(mount);
     if (mount->store) err = 0;
     if (err) exit_report_error("unlinked files are kept", "", err);
@@ -200,6 +211,7 @@ int serve_mount(const struct options *options, void (*stands)(void)) {
     int err = options->open.image ? image_check(options->open.image) : 0;
     if (!err && options->image) err = image_open(&image, options->image);
     if (err || exit_report_open()) return 1;
+    signal(SIGXFSZ, SIG_IGN); // a write beyond the limit of a file's size fails with EFBIG
     keep_memory();
     memlimit_set(options->size);
     busy_poll_set(options->busy_poll);

@@ -35,7 +35,7 @@ int sha256_so_far(const struct sha256 *sum, char digits[SHA256_DIGITS + 1]) {
 }
 
 static int add_all(struct sha256 *sum, int file) {
-    static char part[1 << 16];
+    char part[1 << 16];
     for (;;) {
         ssize_t got = read(file, part, sizeof part);
         if (got < 0 && errno == EINTR) continue;

@@ -8,6 +8,7 @@
 #include "attrs.h"
 #include "memlimit.h"
 #include "store.h"
+#include <assert.h>
 #include <errno.h>
 #include <stdlib.h>
 #include <string.h>
@@ -20,7 +21,7 @@ static int call_snapshot(struct mount *mount, enum snapshot_call what, const cha
 
 // Takes the tree without its orphans, which are in it again then.
 static int take_without_orphans(struct mount *mount, const char *name) {
-    int err = mount->backend.ops->change(mount->backend.self, REMOVE_TREE, UNLINKED_PATH, 0);
+    int err = mount->backend.ops->change(mount->backend.self, CALL_RMTREE, UNLINKED_PATH, 0);
     if (!err) private_tidy(mount);
     if (!err) err = call_snapshot(mount, TAKE_SNAPSHOT, name);
     memlimit_suspend();
@@ -30,6 +31,7 @@ static int take_without_orphans(struct mount *mount, const char *name) {
 
 // If only one name is left, orphans are in it.
 int snapshot_take_hidden(struct mount *mount, const char *name) {
+    assert(request_lock_is_held(mount));
     if (!mount->backend.tree || !private_tidy(mount)) return call_snapshot(mount, TAKE_SNAPSHOT, name);
     int err = call_snapshot(mount, TAKE_SNAPSHOT, SNAPSHOT_SAVEPOINT);
     if (!err) {
@@ -59,6 +61,7 @@ static int add_folder(struct mount *mount, const char *name) {
 }
 
 int snapshots_find(struct mount *mount) {
+    assert(request_lock_is_held(mount));
     struct bytes names = {0};
     int err = store_snapshots(mount->store, &names);
     for (size_t at = 0; !err && at < names.length; at += strlen(names.at + at) + 1)
@@ -69,17 +72,19 @@ int snapshots_find(struct mount *mount) {
 
 static bool is_reserved(const char *name) { return !strncmp(name, RESERVED, sizeof RESERVED - 1); }
 
-int snapshot_take(struct mount *mount, const char *name, struct lookup_result *out) {
+int snapshot_take(struct request *request, const char *name, struct lookup_result *out) {
+    struct mount *mount = request->mount;
     int err;
     if (is_reserved(name)) return EPERM;
     do {
-        memlimit_begin();
+        memlimit_begin(&request->budget);
         err = take_tree(mount, name, &out->inode);
-    } while (memlimit_retry(&mount->backend, &err));
+    } while (memlimit_retry(&request->budget, &mount->backend, &err));
     return err ? err : fs_getattr(mount, out->inode, &out->stat);
 }
 
 int snapshot_drop(struct mount *mount, const char *name) {
+    assert(request_lock_is_held(mount));
     const struct backend *backend = &mount->backend;
     struct inode *inode = inode_find(folder(mount), name);
     int err = inode ? backend->ops->snapshot(backend->self, DROP_SNAPSHOT, name) : ENOENT;
@@ -88,7 +93,7 @@ int snapshot_drop(struct mount *mount, const char *name) {
 }
 
 static int note(struct bytes *out, uint64_t parent_ino, uint64_t ino, const char *name) {
-    struct stale_dentry stale = {parent_ino, ino, strdup(name)};
+    struct stale_dentry stale = {parent_ino, ino, mem_strdup(name)};
     return stale.name ? bytes_append(out, &stale, sizeof stale) : ENOMEM;
 }
 
@@ -127,7 +132,7 @@ static void note_root(struct mount *mount, struct bytes *out) {
 
 static void free_notes(struct bytes *notes) {
     struct stale_dentry *stale = (struct stale_dentry *)notes->at;
-    for (size_t i = 0; i < notes->length / sizeof *stale; i++) free(stale[i].name);
+    for (size_t i = 0; i < notes->length / sizeof *stale; i++) mem_free(stale[i].name);
     notes->length = 0;
 }
 
@@ -147,6 +152,7 @@ void snapshot_after_switch(struct mount *mount, int err, struct bytes *out) {
 }
 
 int snapshot_restore(struct mount *mount, const char *name, struct bytes *out) {
+    assert(request_lock_is_held(mount));
     if (!inode_find(folder(mount), name)) return ENOENT;
     snapshot_before_switch(mount, out);
     int err = call_snapshot(mount, RESTORE_SNAPSHOT, name);

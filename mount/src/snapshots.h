@@ -5,7 +5,7 @@
 
 // The snapshots of a store that was opened get their folders.
 int snapshots_find(struct mount *mount);
-int snapshot_take(struct mount *mount, const char *name, struct lookup_result *out);
+int snapshot_take(struct request *request, const char *name, struct lookup_result *out);
 int snapshot_drop(struct mount *mount, const char *name);
 
 // No snapshot of a user has a name that begins with that of the reserved folder. The first keeps the tree that is taken

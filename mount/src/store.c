@@ -31,6 +31,7 @@ static int may_change(const struct store *store) {
 
 static struct bytes *call_begins(void *self, int *err) {
     struct store *store = self;
+    assert(requests_are_locked());
     *err = may_change(store);
     return &store->batch->calls;
 }
@@ -41,6 +42,7 @@ static int store_snapshot(void *self, enum snapshot_call what, const char *snaps
     const struct backend *inner = &store->layer.inner;
     struct bytes *calls = &store->batch->calls;
     size_t before = calls->length;
+    assert(requests_are_locked());
     int err = what == DROP_SNAPSHOT ? 0 : may_change(store);
     if (!err) err = wal_encode_snapshot(calls, what, snapshot);
     if (!err) err = inner->ops->snapshot(inner->self, what, snapshot);
@@ -211,6 +213,14 @@ bool store_refuses(const struct store *store) { return store->err; }
 
 uint64_t store_sync_errseq(struct store *store) { return store->sync_errseq; }
 
+void store_fill_status(const struct store *store, struct store_status *out) {
+    assert(requests_are_locked());
+    *out = (struct store_status){.log_bytes = store->wal_bytes,
+                                 .pending_bytes = store->pending_bytes + store->batch->calls.length,
+                                 .since_sync = store_clock() - store->synced_at,
+                                 .is_refusing = store->err};
+}
+
 // ---- the sync thread
 
 // Those just answered mostly ask again at once, and are waited for a little: else two halves would take turns.
@@ -298,6 +308,7 @@ static void *run_writeback(void *self) {
 int store_start_writeback(struct store *store, struct mount *mount) {
     pthread_condattr_t how;
     store->mount = mount;
+    store->synced_at = store_clock();
     pool_begin(&store->pool);
     set_next_sync(store);
     pthread_mutex_init(&store->wake_lock, 0);
@@ -333,7 +344,7 @@ static void free_store(struct store *store) {
     store_batches_free(store);
     bytes_free(&store->record_buffer);
     bytes_free(&store->frames);
-    free(store);
+    mem_free(store);
 }
 
 // What cannot be kept in the log goes into an image.
@@ -371,7 +382,7 @@ static size_t max_pending(void) {
 }
 
 int store_open(const struct open_options *options, struct backend *backend, struct store **out) {
-    struct store *store = calloc(1, sizeof *store);
+    struct store *store = mem_calloc(1, sizeof *store);
     if (!store) return ENOMEM;
     store->directory = store->lock_file = -1;
     pthread_mutex_init(&store->wal_lock.mutex, 0);
@@ -387,8 +398,7 @@ int store_open(const struct open_options *options, struct backend *backend, stru
         return err;
     }
     store->layer = (struct wal_layer){.inner = *backend, .begins = call_begins};
-    *backend = (struct backend){
-        .ops = &store_ops, .self = store, .attr_ops = store->layer.inner.attr_ops, .tree = store->layer.inner.tree};
+    *backend = (struct backend){.ops = &store_ops, .self = store, .tree = store->layer.inner.tree};
     *out = store;
     return 0;
 }

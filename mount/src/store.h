@@ -7,6 +7,7 @@
 #ifndef STORE_H
 #define STORE_H
 #include "mount.h"
+#include "status.h"
 
 struct store;
 
@@ -46,6 +47,8 @@ void store_wait_for_sync(struct store *store, struct waiter *waiter);
 bool store_is_full(const struct store *store);
 // Waits until there is room again: false where there is.
 bool store_wait_for_space(struct store *store, struct waiter *waiter);
+// What is told of the log. It waits for no lock that is held while the disk is waited for.
+void store_fill_status(const struct store *store, struct store_status *out);
 // How many syncs have failed.
 uint64_t store_sync_errseq(struct store *store);
 #endif

@@ -133,7 +133,7 @@ static void end_printing(struct checkpoint_writer *writer) {
 }
 
 static int put_tree(struct checkpoint_writer *writer) {
-    static uint8_t piece[PIECE];
+    uint8_t piece[PIECE];
     size_t size = 1;
     int err = 0;
     while (!err && size) {

@@ -2,6 +2,7 @@
 //
 // Invariant: one process at a time holds the lock of `lock`, and the directory belongs to the user who mounts and to
 // nobody else.
+#include "own_file.h"
 #include "store_inside.h"
 #include <dirent.h>
 #include <errno.h>
@@ -51,6 +52,8 @@ static int try_folder(const struct store *store) {
 static int take_lock(struct store *store) {
     store->lock_file = openat(store->directory, "lock", O_RDWR | O_CREAT | O_CLOEXEC | O_NOFOLLOW, 0600);
     if (store->lock_file < 0) return errno;
+    int err = own_file_check(store->lock_file);
+    if (err) return store_report(store, "lock: " OWN_FILE_REFUSAL), err;
     if (!flock(store->lock_file, LOCK_EX | LOCK_NB)) return 0;
     return errno == EWOULDBLOCK ? EBUSY : errno;
 }

@@ -83,7 +83,7 @@ struct store {
     uint64_t length;            // bytes of its records
     uint64_t allocated;         // and with the zeros behind them
     uint64_t records;           // in the log
-    uint64_t wal_bytes;         // bytes of all logs behind the tree's image
+    _Atomic uint64_t wal_bytes; // bytes of all logs behind the tree's image; read without the lock
     uint64_t checkpoint_at;     // how many of them make another image worth its while
     bool is_synced;             // all of the log is on the disk
     bool has_written;           // this mount has written to it
@@ -110,6 +110,7 @@ struct store {
     struct waiters for_sync;       // for the next one
     struct waiters for_space;      // until fewer bytes of calls wait to be written
     _Atomic uint64_t took;         // nanoseconds of the last sync
+    _Atomic uint64_t synced_at;    // when it ended, or when the mount began
     _Atomic bool writeback_wanted; // calls wait, or an image is due
     struct timespec next_sync;
     _Atomic bool ends;

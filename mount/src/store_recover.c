@@ -6,6 +6,7 @@
 // no sync marker follows it. Else the store was damaged, and nothing is written. The first byte is written only after
 // all logs were replayed.
 #include "library.h"
+#include "own_file.h"
 #include "wal_encode.h"
 #include "store_inside.h"
 #include <errno.h>
@@ -37,6 +38,8 @@ static int open_log_file(const struct store *store, struct wal_file *file) {
     store_name(name, "log", file->number);
     file->fd = openat(store->directory, name, O_RDWR | O_CLOEXEC | O_NOFOLLOW);
     if (file->fd < 0 || fstat(file->fd, &stat)) return errno;
+    int err = own_file_check(file->fd);
+    if (err) return err;
     file->length = (size_t)stat.st_size;
     if (!file->length) return 0;
     void *at = mmap(0, file->length, PROT_READ, MAP_PRIVATE, file->fd, 0);
@@ -98,7 +101,8 @@ static int open_logs(const struct store *store, struct wal_files *files) {
     for (size_t i = 0; i < files->count; i++) {
         int err = open_log_file(store, &files->at[i]);
         if (!err) continue;
-        store_report(store, "log.%" PRIu64 ": %s", files->at[i].number, strerror(err));
+        store_report(store, "log.%" PRIu64 ": %s", files->at[i].number,
+                     err == EPERM ? OWN_FILE_REFUSAL : strerror(err));
         return err;
     }
     return 0;

@@ -91,7 +91,7 @@ int store_find_snapshots(struct store *store) {
 // ---- their trees at one moment
 
 static int freeze(struct store *store, const char *name, struct doorvervain_frozen *out) {
-    return doorvervain_errno(doorvervain_open_snapshot(store->volume, (const uint8_t *)name, strlen(name), out));
+    return doorvervain_errno(doorvervain_open_snapshot(store->volume, name, strlen(name), out));
 }
 
 int store_freeze_snapshots(struct store *store, struct frozen_snapshots *out) {
@@ -159,9 +159,12 @@ static int put_difference(struct snapshot_writer *writer, struct doorvervain_fro
                           struct doorvervain_frozen *new) {
     struct delta_io io = {.next = next_piece, .put = put_text, .self = writer};
     struct doorvervain_printer from = {0}, to = {0};
+    struct delta_sums sums;
+    memcpy(sums.old, writer->sum, sizeof sums.old);
     int err = begin_printing(&from, old);
     if (!err) err = begin_printing(&to, new);
-    if (!err) err = delta_print_images(&io, &from, &to, writer->sum);
+    if (!err) err = delta_print_images(&io, &from, &to, &sums);
+    if (!err) memcpy(writer->sum, sums.new, sizeof writer->sum);
     end_printing(&from);
     end_printing(&to);
     return err;
@@ -169,7 +172,7 @@ static int put_difference(struct snapshot_writer *writer, struct doorvervain_fro
 
 // The next bytes of the last file: 0, or why there are none.
 static int copy_piece(struct snapshot_writer *writer, int file, uint64_t from, uint64_t left, size_t *size) {
-    static char piece[PIECE];
+    char piece[PIECE];
     ssize_t got;
     do got = pread(file, piece, left < PIECE ? (size_t)left : PIECE, (off_t)from);
     while (got < 0 && errno == EINTR);
@@ -240,12 +243,13 @@ static int put_all(struct snapshot_writer *writer, struct frozen_snapshots *froz
     return err;
 }
 
-// What an image of the number left that did not get its name.
+// What an image of the number left that did not get its name. A checksum without its file would be damage.
 static void clear(const struct store *store, uint64_t number) {
-    char name[STORE_NAME + 8];
+    char name[STORE_NAME], sum[STORE_NAME + 8];
     store_name(name, kind, number);
+    snprintf(sum, sizeof sum, "%s.sum", name);
+    unlinkat(store->directory, sum, 0);
     unlinkat(store->directory, name, 0);
-    unlinkat(store->directory, strcat(name, ".sum"), 0);
 }
 
 int store_put_snapshots(const struct checkpoint_file *tree, uint64_t number, struct frozen_snapshots *frozen,
@@ -390,9 +394,10 @@ static int open_and_make(struct snapshot_reader *reader, const char *name, uint6
 // Whether the file is there, and is whole: ENOENT where there is none.
 static int try_file(const struct store *store, const char *name) {
     char sum[STORE_NAME + 8], path[PATH_MAX];
-    if (!store_has(store, name)) return ENOENT;
     snprintf(sum, sizeof sum, "%s.sum", name);
-    if (!store_has(store, sum)) return store_report(store, "%s is missing", sum), EINVAL;
+    bool has_file = store_has(store, name), has_sum = store_has(store, sum);
+    if (!has_file && !has_sum) return ENOENT;
+    if (!has_file || !has_sum) return store_report(store, "%s is missing", has_file ? sum : name), EINVAL;
     return store_path(store, name, path) || image_check(path) ? EINVAL : 0;
 }
 

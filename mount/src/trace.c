@@ -127,7 +127,7 @@ static void trace_timestamp(struct trace *trace, uint64_t at) {
     trace_done(trace, 0);
 }
 
-static int trace_change(void *self, enum change what, const char *path, uint64_t at) {
+static int trace_change(void *self, enum path_call what, const char *path, uint64_t at) {
     struct trace *trace = self;
     trace_timestamp(trace, at);
     script_change(fresh_line(trace), what, path);
@@ -260,7 +260,7 @@ static void free_trace(struct trace *trace) {
     if (trace->replies.fd >= 0) close(trace->replies.fd);
     struct bytes *all[] = {&trace->line, &trace->reply, &trace->calls.lines, &trace->replies.lines};
     for (size_t i = 0; i < sizeof all / sizeof *all; i++) bytes_free(all[i]);
-    free(trace);
+    mem_free(trace);
 }
 
 static int trace_close(void *self, struct image *image) {
@@ -299,7 +299,7 @@ static int open_file(const char *name, const char *ending, struct trace_file *ou
 }
 
 int open_trace(const struct open_options *options, struct backend *backend) {
-    struct trace *trace = calloc(1, sizeof *trace);
+    struct trace *trace = mem_calloc(1, sizeof *trace);
     if (!trace) return ENOMEM;
     trace->inner = *backend;
     trace->name = options->trace;
@@ -311,6 +311,6 @@ int open_trace(const struct open_options *options, struct backend *backend) {
         return err;
     }
     *backend = (struct backend){
-        .ops = &trace_ops, .self = trace, .attr_ops = trace->inner.attr_ops, .tree = trace->inner.tree};
+        .ops = &trace_ops, .self = trace, .tree = trace->inner.tree};
     return 0;
 }

@@ -6,10 +6,13 @@
 #include "prune.h"
 #include "replica.h"
 #include "memlimit.h"
+#include "request.h"
+#include <assert.h>
 #include <errno.h>
 #include <string.h>
 
 void txn_begin(struct txn *txn, struct mount *mount, uint64_t at) {
+    assert(request_lock_is_held(mount));
     txn->mount = mount;
     txn->at = at;
     txn->count = 0;
@@ -38,7 +41,7 @@ static bool is_below_last(const struct txn *txn, const char *path) {
     return last->how == BY_REMOVAL && !strncmp(last->path, path, length) && path[length] == '/';
 }
 
-int txn_create(struct txn *txn, enum change what, const char *path, uint64_t at, uint64_t back_at) {
+int txn_create(struct txn *txn, enum path_call what, const char *path, uint64_t at, uint64_t back_at) {
     const struct backend *backend = &txn->mount->backend;
     bool is_noted = is_below_last(txn, path);
     if (!is_noted && !note(txn, BY_REMOVAL, path, back_at)) return ENOMEM;
@@ -130,7 +133,7 @@ static int end_removal(struct txn *txn, int err) {
 int txn_unlink(struct txn *txn, const char *path, struct bytes *text) {
     const struct backend *backend = &txn->mount->backend;
     int err = note_text(txn, BY_CREATION, path, text);
-    if (!err) err = backend->ops->change(backend->self, UNLINK, path, txn->at);
+    if (!err) err = backend->ops->change(backend->self, CALL_UNLINK, path, txn->at);
     err = end_removal(txn, err);
     if (err == EISDIR || err == EFBIG) return txn_remove(txn, path);
     return err == ENOENT || err == ENOTDIR ? 0 : err;
@@ -139,25 +142,25 @@ int txn_unlink(struct txn *txn, const char *path, struct bytes *text) {
 int txn_remove_record(struct txn *txn, const char *folder, const char *file, struct bytes *text) {
     const struct backend *backend = &txn->mount->backend;
     int err = note_text(txn, BY_REMAKING, file, text);
-    if (!err) err = backend->ops->change(backend->self, REMOVE_TREE, folder, txn->at);
+    if (!err) err = backend->ops->change(backend->self, CALL_RMTREE, folder, txn->at);
     if (!err) strcpy(txn->undone[txn->count].back, folder);
     return end_removal(txn, err);
 }
 
 static void create_again(const struct backend *backend, const struct undo_entry *undo) {
-    backend->ops->change(backend->self, CREATE, undo->path, undo->at);
+    backend->ops->change(backend->self, CALL_CREATE, undo->path, undo->at);
     replace(backend, undo->path, undo->text.at, undo->text.length, 0, undo->at);
 }
 
 static void remake(const struct backend *backend, const struct undo_entry *undo) {
-    backend->ops->change(backend->self, MAKE_DIRECTORY, undo->back, undo->at);
+    backend->ops->change(backend->self, CALL_MKDIR, undo->back, undo->at);
     create_again(backend, undo);
 }
 
 static void undo_one(const struct backend *backend, const struct undo_entry *undo) {
     switch (undo->how) {
     case BY_RENAME: backend->ops->rename(backend->self, undo->path, undo->back, undo->at); break;
-    case BY_REMOVAL: backend->ops->change(backend->self, REMOVE_TREE, undo->path, undo->at); break;
+    case BY_REMOVAL: backend->ops->change(backend->self, CALL_RMTREE, undo->path, undo->at); break;
     case BY_TEXT: replace(backend, undo->path, undo->text.at, undo->text.length, SIZE_MAX, undo->at); break;
     case BY_CREATION: create_again(backend, undo); break;
     case BY_REMAKING: remake(backend, undo); break;
@@ -167,7 +170,7 @@ static void undo_one(const struct backend *backend, const struct undo_entry *und
 // What is parked is removed, and so are the folders for records that are empty now. What moved is where it moved to.
 static void finish_one(const struct txn *txn, struct undo_entry *undo) {
     const struct backend *backend = &txn->mount->backend;
-    if (undo->is_removal) backend->ops->change(backend->self, REMOVE_TREE, undo->path, txn->at);
+    if (undo->is_removal) backend->ops->change(backend->self, CALL_RMTREE, undo->path, txn->at);
     switch (undo->how) {
     case BY_RENAME: prune_folders(txn->mount, undo->back, undo->is_removal ? "" : undo->path, txn->at); break;
     case BY_REMAKING: prune_folders(txn->mount, undo->back, "", txn->at); break;

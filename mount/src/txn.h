@@ -28,7 +28,7 @@ struct txn {
 
 void txn_begin(struct txn *txn, struct mount *mount, uint64_t at);
 // Makes a directory or a file at a moment; where that is undone, its directory gets the moment `back_at`.
-int txn_create(struct txn *txn, enum change what, const char *path, uint64_t at, uint64_t back_at);
+int txn_create(struct txn *txn, enum path_call what, const char *path, uint64_t at, uint64_t back_at);
 // Moves what stands at a path to where nothing stands.
 int txn_rename(struct txn *txn, const char *from, const char *to, uint64_t at, uint64_t back_at);
 // The text of a file of the mount's own, until the next change of that file.

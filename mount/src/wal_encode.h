@@ -4,7 +4,7 @@
 #include "backend.h"
 
 // Each puts a call behind those that are there: 0, or why it is refused.
-int wal_encode_change(struct bytes *out, enum change what, const char *path, uint64_t at);
+int wal_encode_change(struct bytes *out, enum path_call what, const char *path, uint64_t at);
 int wal_encode_rename(struct bytes *out, const char *from, const char *to, uint64_t at);
 int wal_encode_truncate(struct bytes *out, const char *path, uint64_t length, uint64_t at);
 int wal_encode_write(struct bytes *out, const char *path, uint64_t offset, const char *bytes, size_t count,

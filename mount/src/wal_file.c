@@ -4,6 +4,7 @@
 // sync nothing more is written to this log. A record without calls is a sync marker: all before it was on the disk.
 // Zeros after the last record belong to no record, and are cut off at the end.
 #define _GNU_SOURCE
+#include "own_file.h"
 #include "wal_encode.h"
 #include "store_inside.h"
 #include <assert.h>
@@ -167,7 +168,8 @@ int wal_sync_in_flight(struct store *store) {
     fill_ahead(store);
     if (fdatasync(store->log)) return fail(store, errno), EIO;
     store->is_synced = true;
-    store->took = store_clock() - begun;
+    store->synced_at = store_clock();
+    store->took = store->synced_at - begun;
     return 0;
 }
 
@@ -190,6 +192,8 @@ int store_open_log(struct store *store, uint64_t number, uint64_t length) {
     store_name(name, "log", number);
     int file = openat(store->directory, name, O_WRONLY | O_CREAT | O_CLOEXEC | O_NOFOLLOW, 0600);
     if (file < 0) return errno;
+    int err = own_file_check(file);
+    if (err) return close(file), err;
     store->log = file;
     store->number = number;
     store->length = store->allocated = length;

@@ -23,7 +23,7 @@ static int end(struct wal_layer *layer, const struct layer_call *call) {
     return layer->ends ? layer->ends(layer, call->err) : call->err;
 }
 
-int wal_layer_change(void *self, enum change what, const char *path, uint64_t at) {
+int wal_layer_change(void *self, enum path_call what, const char *path, uint64_t at) {
     struct wal_layer *layer = self;
     struct layer_call call;
     if (!begin(layer, &call)) return 0;

@@ -15,7 +15,7 @@ struct wal_layer {
     int (*ends)(void *self, int err);
 };
 
-int wal_layer_change(void *self, enum change what, const char *path, uint64_t at);
+int wal_layer_change(void *self, enum path_call what, const char *path, uint64_t at);
 int wal_layer_rename(void *self, const char *from, const char *to, uint64_t at);
 int wal_layer_truncate(void *self, const char *path, uint64_t length, uint64_t at);
 // The inner backend writes all or nothing.

@@ -5,6 +5,7 @@
 // memory.
 #include "requests.h"
 #include "store_inside.h"
+#include "memlimit.h"
 #include <assert.h>
 #include <errno.h>
 #include <stdlib.h>
@@ -29,7 +30,7 @@ static struct wal_batch *take_first(struct batch_list *list) {
 static void free_batch(struct wal_batch *batch) {
     bytes_free(&batch->calls);
     bytes_free(&batch->ends);
-    free(batch);
+    mem_free(batch);
 }
 
 static void free_batches(struct batch_list *list) {
@@ -45,7 +46,7 @@ static struct wal_batch *take_free_batch(struct store *store) {
     struct wal_batch *batch = take_first(&store->free_batches);
     if (batch) store->free_batch_count--;
     pthread_mutex_unlock(&store->queue_lock);
-    return batch ? batch : calloc(1, sizeof *batch);
+    return batch ? batch : mem_calloc(1, sizeof *batch);
 }
 
 // Gives the room back of a batch that was written.
@@ -66,8 +67,8 @@ static void give_back(struct store *store, struct wal_batch *batch) {
 
 int store_batches_begin(struct store *store) {
     pthread_mutex_init(&store->queue_lock, 0);
-    store->batch = calloc(1, sizeof *store->batch);
-    store->reserved_batch = calloc(1, sizeof *store->reserved_batch);
+    store->batch = mem_calloc(1, sizeof *store->batch);
+    store->reserved_batch = mem_calloc(1, sizeof *store->reserved_batch);
     return store->batch && store->reserved_batch ? 0 : ENOMEM;
 }
 

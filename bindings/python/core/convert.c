@@ -24,7 +24,7 @@ int text_of(PyObject *given, struct text *text) {
         plain = encoded;
     }
     text->owner = plain;
-    text->at = (const uint8_t *)PyBytes_AsString(plain);
+    text->at = PyBytes_AsString(plain);
     text->length = (size_t)PyBytes_Size(plain);
     return 0;
 }
@@ -32,7 +32,7 @@ int text_of(PyObject *given, struct text *text) {
 // ---- errors
 
 // What is wrong with a name of a path for that error; null if nothing is.
-static const char *name_fault(uint8_t number, const uint8_t *name, size_t length) {
+static const char *name_fault(uint8_t number, const char *name, size_t length) {
     if (number == DOORVERVAIN_ENAMETOOLONG) return length > 255 ? "a name has at most 255 bytes" : NULL;
     if (!length) return "a path has no empty name";
     if (length == 1 && name[0] == '.') return "a path has no name '.'";
@@ -42,12 +42,12 @@ static const char *name_fault(uint8_t number, const uint8_t *name, size_t length
 
 // What is wrong with the text of a path, if that is why it was refused by EINVAL or ENAMETOOLONG; null if nothing is.
 static const char *path_fault(uint8_t number, const struct text *path) {
-    const uint8_t *at = path->at, *end = at + path->length;
+    const char *at = path->at, *end = at + path->length;
     if (path->length == 1 && *at == '/') return NULL;
     if (number == DOORVERVAIN_EINVAL && path->length && *at != '/') return "a path begins with '/'";
     if (number == DOORVERVAIN_EINVAL && path->length && end[-1] == '/') return "a path does not end with '/'";
     while (at < end) {
-        const uint8_t *name = at + 1, *slash = memchr(name, '/', (size_t)(end - name));
+        const char *name = at + 1, *slash = memchr(name, '/', (size_t)(end - name));
         at = slash ? slash : end;
         const char *fault = name_fault(number, name, (size_t)(at - name));
         if (fault) return fault;

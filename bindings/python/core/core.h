@@ -86,7 +86,7 @@ int begin(Tree *tree, Lock *lock);
 // The bytes of a path or a name, which `owner` owns.
 struct text {
     PyObject *owner;
-    const uint8_t *at;
+    const char *at;
     size_t length;
 };
 

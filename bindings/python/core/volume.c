@@ -92,7 +92,7 @@ static PyObject *volume_clock(PyObject *self, void *unused) {
     return clock;
 }
 
-typedef uint8_t (*path_fn)(struct doorvervain *fs, const uint8_t *path, size_t length, uint64_t at);
+typedef uint8_t (*path_fn)(struct doorvervain *fs, const char *path, size_t length, uint64_t at);
 
 // Makes a call that changes the entry at one path.
 static PyObject *path_call(
@@ -135,7 +135,7 @@ static PyObject *volume_rmtree(PyObject *self, PyObject *const *words, Py_ssize_
 }
 
 // Creates an empty file, or truncates the one that exists.
-static uint8_t emptied(struct doorvervain *fs, const uint8_t *path, size_t length, uint64_t at) {
+static uint8_t emptied(struct doorvervain *fs, const char *path, size_t length, uint64_t at) {
     uint8_t number = doorvervain_create(fs, path, length, at);
     return number == DOORVERVAIN_EEXIST ? doorvervain_truncate(fs, path, length, 0, at) : number;
 }
@@ -273,7 +273,7 @@ static PyObject *volume_write_bytes(PyObject *self, PyObject *const *words, Py_s
 
 // ---- snapshots
 
-typedef uint8_t (*snapshot_fn)(struct doorvervain *fs, const uint8_t *name, size_t length);
+typedef uint8_t (*snapshot_fn)(struct doorvervain *fs, const char *name, size_t length);
 
 // Makes a call that takes the name of a snapshot, without the interpreter's lock if it may free a tree.
 static PyObject *snapshot_call(PyObject *self, PyObject *name, snapshot_fn call, int is_long) {
@@ -404,25 +404,40 @@ static PyObject *volume_apply_delta(PyObject *self, PyObject *given) {
     return NULL;
 }
 
+// How many steps are done between two looks at signals: some milliseconds.
+enum { STEPS_AT_ONCE = 1000 };
+
+// Compacts piece by piece, under the lock; handlers of signals run in between. -1 with the exception of one.
+static int compact_pieces(Tree *tree, uint64_t steps, uint64_t *done) {
+    uint32_t piece, got;
+    *done = 0;
+    do {
+        piece = steps - *done < STEPS_AT_ONCE ? (uint32_t)(steps - *done) : STEPS_AT_ONCE;
+        Py_BEGIN_ALLOW_THREADS
+        got = doorvervain_compact(&tree->volume, piece);
+        Py_END_ALLOW_THREADS
+        *done += got;
+        if (PyErr_CheckSignals()) return -1;
+    } while (got == piece && *done < steps);
+    return 0;
+}
+
 static const struct signature compact_signature = {"compact", 0, 1, {"steps"}};
 
 static PyObject *volume_compact(PyObject *self, PyObject *const *words, Py_ssize_t count, PyObject *named) {
     Tree *tree = (Tree *)self;
     PyObject *args[4];
-    uint64_t steps = UINT32_MAX;
+    uint64_t steps = UINT64_MAX, done = 0;
     int below = 0;
-    uint32_t done;
     if (words_of(&compact_signature, words, count, named, args) || enter(tree)) return NULL;
     if (args[0] && args[0] != Py_None && bytes_of(args[0], &steps, &below)) {
         leave(tree);
         return NULL;
     }
-    int open = is_open(tree);
-    Py_BEGIN_ALLOW_THREADS
-    done = doorvervain_compact(&tree->volume, steps < UINT32_MAX ? (uint32_t)steps : UINT32_MAX);
-    Py_END_ALLOW_THREADS
+    int open = is_open(tree), interrupted = compact_pieces(tree, steps, &done);
     leave(tree);
-    return open ? PyLong_FromUnsignedLong(done) : refuse(DOORVERVAIN_CLOSED, NULL, NULL);
+    if (interrupted) return NULL;
+    return open ? PyLong_FromUnsignedLongLong(done) : refuse(DOORVERVAIN_CLOSED, NULL, NULL);
 }
 
 // ---- the type
@@ -486,8 +501,8 @@ static PyMethodDef volume_methods[] = {
         "of another tree is a FileNotFoundError, and a text that is not a delta a `BadDelta`."},
     {"compact", FAST(volume_compact),
         "compact($self, /, steps=None)\n--\n\n"
-        "Compacts the trees: moves pending changes down, by at most `steps` steps, or all of them. Returns how many steps it\n"
-        "tried. No result changes, but later read-only calls take less time."},
+        "Compacts the trees: moves pending changes down, by at most `steps` steps, or all of them. Returns how many steps it did:\n"
+        "fewer if nothing is pending, or if no step has room. No result changes, but later read-only calls take less time."},
     {NULL, NULL, 0, NULL},
 };
 

@@ -6,6 +6,7 @@ import os
 import pathlib
 import pickle
 import re
+import signal
 import stat
 import threading
 import time
@@ -429,6 +430,25 @@ class Snapshots(unittest.TestCase):
         self.assertGreater(volume.compact(), 0)
         self.assertEqual((volume.compact(None), volume.compact(-1), volume.compact(1 << 80)), (0, 0, 0))
         self.assertEqual(volume.image(), before)
+
+
+    def test_a_signal_ends_a_compaction(self):
+        volume = Volume(clock=lambda: 0)
+        for number in range(100_000):
+            volume.create(f"/f{number}")
+
+        def interrupt(number, frame):
+            raise InterruptedError
+
+        before = signal.signal(signal.SIGALRM, interrupt)
+        try:
+            with self.assertRaises(InterruptedError):
+                signal.setitimer(signal.ITIMER_REAL, 0.001)
+                volume.compact()
+                time.sleep(1)
+        finally:
+            signal.signal(signal.SIGALRM, before)
+        self.assertGreater(volume.compact(), 0)
 
 
 class Words(unittest.TestCase):

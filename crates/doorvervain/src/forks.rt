@@ -11,7 +11,9 @@ use crate::handle::VolumeHandle;
 use crate::numbers::number;
 use crate::place::VolumeOut;
 use crate::upkeep::hand_out;
+use pathkey::Errno;
 use std::alloc::Global;
+use volume::{Frozen, Volume};
 
 /// Makes a volume of its own with the live tree, without snapshots, and puts its handle at `out`: 0, or ENOMEM, and then `out` is
 /// closed.
@@ -27,7 +29,7 @@ pub extern "C" fn doorvervain_raw_fork(
     ensures number { IsNumber result }
     ensures kept { fs.new.volume ≡ fs.old.volume }
 {
-    number(hand_out(alloc, ffi_calls::fork(alloc, fs.volume()), out))
+    number(fork(alloc, fs.volume(), out))
 }
 
 /// Makes a volume of its own with a frozen tree, without snapshots, and puts its handle at `out`: 0, or ENOMEM, and then `out` is
@@ -44,7 +46,7 @@ pub extern "C" fn doorvervain_raw_frozen_fork(
     ensures number { IsNumber result }
     ensures kept { tree.new.tree ≡ tree.old.tree }
 {
-    number(hand_out(alloc, ffi_calls::frozen_fork(alloc, tree.tree()), out))
+    number(frozen_fork(alloc, tree.tree(), out))
 }
 
 /// The live tree becomes a frozen one, also of another volume, which stays as it is: 0, or ENOMEM, and then nothing changes.
@@ -59,4 +61,24 @@ pub extern "C" fn doorvervain_raw_restore_frozen(
     ensures kept { tree.new.tree ≡ tree.old.tree }
 {
     number(ffi_calls::restore_frozen(fs.volume(), tree.tree()))
+}
+
+// Forks a volume, and puts the handle of the fork at `out`.
+fn fork(alloc: Global, volume: &Volume, out: &mut VolumeOut) -> Result<(), Errno>
+    ensures forked { IfOk result (λ _. Given (IsForkOf volume.now.live) out.new.given) }
+    ensures refused { IfErr result (λ e. e ≡ ENOMEM) }
+    ensures closed { IfErr result (λ _. IsClosed out.new.at out.new.given) }
+{
+    let made = ffi_calls::fork(alloc, volume);
+    hand_out(alloc, made, out)
+}
+
+// Forks a frozen tree, and puts the handle of the fork at `out`.
+fn frozen_fork(alloc: Global, tree: &Frozen, out: &mut VolumeOut) -> Result<(), Errno>
+    ensures forked { IfOk result (λ _. Given (IsForkOf tree.now) out.new.given) }
+    ensures refused { IfErr result (λ e. e ≡ ENOMEM) }
+    ensures closed { IfErr result (λ _. IsClosed out.new.at out.new.given) }
+{
+    let made = ffi_calls::frozen_fork(alloc, tree);
+    hand_out(alloc, made, out)
 }

@@ -3,6 +3,7 @@ ghost use Rattle.std.specs.Prelude.{IfOk};
 ghost use Rattle.volume.specs.Forks.{IsForkOf};
 
 use crate::frozen::Frozen;
+use crate::fs_root::share;
 use crate::volume::Volume;
 use pathkey::NoMemory;
 use std::alloc::Global;
@@ -14,7 +15,7 @@ impl Frozen {
         ensures { IfOk result (IsForkOf self.now) }
     {
         self.assert_invariant();
-        let root = self.share()?;
+        let root = share(self.indexes(), self.modified())?;
         Ok(Volume::from_root(alloc, root))
     }
 }

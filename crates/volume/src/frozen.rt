@@ -61,13 +61,6 @@ impl Frozen {
         &self.rooted.indexes
     }
 
-    /// Its indexes with the moment of its root, as one more owner of both trees.
-    pub(crate) fn share(&self) -> Result<FsRoot, NoMemory>
-        ensures { IfOk result (λ r. r ≡ self.now) }
-    {
-        self.rooted.share()
-    }
-
     /// The moment of its root. It takes no memory.
     pub fn modified(&self) -> u64
         ensures { result ≡ self.now.modified }

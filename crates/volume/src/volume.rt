@@ -7,7 +7,7 @@ ghost use Rattle.reference.specs.declared.call.Call.{Call as FileCall};
 ghost use Rattle.std.specs.Option.{option_copied};
 ghost use Rattle.reference.specs.Worlds.{World, TakeSnapshot, DropSnapshot, RestoreSnapshot};
 ghost use Rattle.volume.specs.Changes.{Called, Settles, KeptAs, Dropped, Restored, Stepped};
-ghost use Rattle.volume.specs.Forks.{IsForkOf, RestoresTree, with_live};
+ghost use Rattle.volume.specs.Forks.{IsForkOf, RestoresTree};
 ghost use Rattle.volume.specs.Plants.{Plants};
 ghost use Rattle.volume.specs.Holes.{Compiles as HoleCompiles, Punches};
 ghost use Rattle.volume.specs.FsRoot.{reply_to};
@@ -194,8 +194,11 @@ impl Volume {
         let Some(snapshot_root) = self.snapshots.get(name) else {
             return Err(Errno::ENOENT);
         };
-        let copy = snapshot_root.share()?;
-        self.replace_live(copy);
+        let modified = snapshot_root.modified;
+        let copy = snapshot_root.indexes.share()?;
+        self.live.replace(copy);
+        self.live.assert_invariant();
+        self.modified = modified;
         Ok(())
     }
 
@@ -206,21 +209,11 @@ impl Volume {
         ensures { RestoresTree tree.now result self.old self.new }
     {
         tree.assert_invariant();
-        let copy = tree.share()?;
-        self.replace_live(copy);
-        Ok(())
-    }
-
-    /// Another live tree in the place of this one. It takes no memory.
-    fn replace_live(&mut self, root: FsRoot)
-        requires { MeanSome root }
-        ensures restored { self.new ≡ with_live root self.old }
-        ensures kept { KeepsMarks (live_of self.old) (live_of self.new) }
-    {
-        let FsRoot { indexes, modified } = root;
-        self.live.replace(indexes);
+        let restored = tree.indexes().share()?;
+        self.live.replace(restored);
         self.live.assert_invariant();
-        self.modified = modified;
+        self.modified = tree.modified();
+        Ok(())
     }
 
     /// Tries a tree step in the live index that it names. Whatever it replies, the volume means what it meant; all replies
@@ -279,10 +272,11 @@ impl Volume {
         let FsRoot { indexes, modified } = root;
         let live = LiveIndexes::new(alloc, indexes);
         live.assert_invariant();
+        let snapshots = Snapshots::new(alloc);
         Volume {
             live,
             modified,
-            snapshots: Snapshots::new(alloc),
+            snapshots,
         }
     }
 

@@ -1,0 +1,107 @@
+// How many names the live tree has.
+//
+// Invariant: `entries` is the number of names that requests added, less those that they removed, since the tree was
+// frozen that was walked last, and of the names in that one once the walk has ended. A walk that begins later counts
+// alone.
+#include "entry_count.h"
+#include "memlimit.h"
+#include "requests.h"
+#include <assert.h>
+#include <errno.h>
+#include <stdio.h>
+#include <string.h>
+
+struct walk {
+    struct mount *mount;
+    struct doorvervain_frozen tree;
+    struct bytes directories; // that are not listed yet: paths, each with a byte 0
+    struct bytes names;       // of one
+    int64_t found;
+};
+
+// The last of the paths. The root is the empty one.
+static void pop(struct bytes *paths, char out[LONGEST_PATH + 1]) {
+    size_t from = paths->length - 1;
+    while (from && paths->at[from - 1]) from--;
+    snprintf(out, LONGEST_PATH + 1, "%s", paths->at + from);
+    paths->length = from;
+}
+
+static int list(struct walk *walk, const char *path) {
+    const char *of = *path ? path : "/";
+    struct bytes *names = &walk->names;
+    size_t size = 4096;
+    uint8_t number = DOORVERVAIN_ERANGE;
+    names->length = 0;
+    while (number == DOORVERVAIN_ERANGE) {
+        if (bytes_reserve(names, size)) return ENOMEM;
+        requests_lock();
+        number = doorvervain_frozen_readdir(&walk->tree, (const uint8_t *)of, strlen(of), (uint8_t *)names->at,
+                                            names->capacity, &size);
+        requests_unlock();
+    }
+    names->length = number ? 0 : size;
+    return doorvervain_errno(number);
+}
+
+// The mount's own directory counts for nothing.
+static int count_names(struct walk *walk, const char *path) {
+    int err = 0;
+    for (size_t at = 0; !err && at < walk->names.length; at += strlen(walk->names.at + at) + 1) {
+        const char *name = walk->names.at + at + 1;
+        if (!*path && !strcmp(name, RESERVED)) continue;
+        walk->found++;
+        if (name[-1] != 'd') continue;
+        err = bytes_append(&walk->directories, path, strlen(path));
+        if (!err) err = bytes_append(&walk->directories, "/", 1);
+        if (!err) err = bytes_append(&walk->directories, name, strlen(name) + 1);
+    }
+    return err;
+}
+
+static int walk_all(struct walk *walk) {
+    char path[LONGEST_PATH + 1];
+    int err = bytes_append(&walk->directories, "", 1);
+    while (!err && walk->directories.length) {
+        pop(&walk->directories, path);
+        err = list(walk, path);
+        if (!err) err = count_names(walk, path);
+    }
+    bytes_free(&walk->directories);
+    bytes_free(&walk->names);
+    return err;
+}
+
+static int begin(struct walk *walk, uint64_t *walks) {
+    struct mount *mount = walk->mount;
+    requests_lock();
+    int err = doorvervain_errno(doorvervain_freeze(mount->backend.tree, &walk->tree));
+    *walks = ++mount->entry_walks;
+    mount->entries = 0;
+    mount->entries_known = false;
+    requests_unlock();
+    return err;
+}
+
+void entry_count_walk(struct mount *mount) {
+    struct walk walk = {.mount = mount};
+    uint64_t walks;
+    if (!mount->backend.tree || begin(&walk, &walks)) return;
+    int err = walk_all(&walk);
+    requests_lock();
+    doorvervain_frozen_close(&walk.tree);
+    if (!err && walks == mount->entry_walks) {
+        mount->entries += walk.found;
+        mount->entries_known = true;
+    }
+    requests_unlock();
+}
+
+void entry_count_add(struct mount *mount, int change) {
+    assert(request_lock_is_held(mount));
+    mount->entries += change;
+}
+
+uint64_t entry_count(const struct mount *mount) {
+    return mount->entries_known ? (uint64_t)mount->entries : ENTRIES_UNKNOWN;
+}

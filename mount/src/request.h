@@ -1,0 +1,18 @@
+// What a request of the kernel needs while it is served: made by its handler, and handed down to what acts for it.
+#ifndef REQUEST_H
+#define REQUEST_H
+#include "memlimit.h"
+#include "mount.h"
+
+struct fuse_req; // of libfuse: what it is answered by
+
+struct request {
+    struct mount *mount;
+    struct fuse_req *req;
+    uint64_t at; // the timestamp of all that it changes, in nanoseconds since 1970
+    struct mem_budget budget;
+};
+
+// Whether this thread may use the tree: it holds the request lock, or is the one thread of a replica.
+bool request_lock_is_held(const struct mount *mount);
+#endif
