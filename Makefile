@@ -169,6 +169,8 @@ $(OUT)/man/betr.1: $(BETR) packaging/manual
 $(OUT)/man/doorvervain.3: include/doorvervain.h packaging/manual
 	@mkdir -p $(@D)
 	@packaging/manual header $< > $@
+	@rm -rf $(OUT)/man/man3 && mkdir $(OUT)/man/man3
+	@packaging/manual pages $< $(OUT)/man/man3
 
 # ---- installing
 
@@ -186,13 +188,12 @@ install: all
 	    packaging/doorvervain.pc.in > $(TO)/lib/pkgconfig/doorvervain.pc
 	@install -m 644 $(OUT)/man/betr.1 $(TO)/share/man/man1/betr.1
 	@install -m 644 $(OUT)/man/doorvervain.3 $(TO)/share/man/man3/doorvervain.3
-	@packaging/manual names include/doorvervain.h | while read -r name; do \
-	    ln -sf doorvervain.3 "$(TO)/share/man/man3/$$name.3"; done
+	@install -m 644 $(OUT)/man/man3/*.3 $(TO)/share/man/man3
 	@install -m 644 packaging/betr.bash $(TO)/share/bash-completion/completions/betr
 	@install -m 644 $(DOCUMENTS) $(TO)/share/doc/doorvervain
 	@tar -C bindings $(LEFT_OUT) -cf - install python rust | tar -C $(SHARE)/bindings --no-same-owner -xf -
 	@$(if $(MODULE),install -m 755 $(MODULE) $(SHARE)/bindings/python/_core.abi3.so)
-	@tar -C examples $(LEFT_OUT) -cf - c rust fixture build_cache sandbox | tar -C $(SHARE)/examples --no-same-owner -xf -
+	@tar -C examples $(LEFT_OUT) -cf - c cpp rust fixture build_cache sandbox | tar -C $(SHARE)/examples --no-same-owner -xf -
 	@$(STAMP) $(ARCHIVE) > $(SHARE)/COMMIT
 	+@$(if $(NO_MOUNT),,$(MAKE) -s -C mount install $(TO_MOUNT))
 	@echo 'installed: $(TO)'

@@ -30,33 +30,33 @@ static void need(uint8_t number) {
 }
 
 // Each call takes the path of a directory, or of a file in it.
-static void create(const uint8_t *path, size_t length) { need(doorvervain_create(&fs, path, length, 1)); }
+static void create(const char *path, size_t length) { need(doorvervain_create(&fs, path, length, 1)); }
 
-static void write_all(const uint8_t *path, size_t length) {
+static void write_all(const char *path, size_t length) {
     need(doorvervain_write(&fs, path, length, 0, bytes, BYTES, 2));
 }
 
-static void read_all(const uint8_t *path, size_t length) {
+static void read_all(const char *path, size_t length) {
     size_t got;
     need(doorvervain_read(&fs, path, length, 0, bytes, BYTES, &got));
 }
 
-static void ask(const uint8_t *path, size_t length) {
+static void ask(const char *path, size_t length) {
     uint8_t kind;
     uint64_t size, modified;
     need(doorvervain_stat(&fs, path, length, &kind, &size, &modified));
 }
 
-static void list(const uint8_t *path, size_t length) {
+static void list(const char *path, size_t length) {
     size_t size;
     need(doorvervain_readdir(&fs, path, length, listed, LISTED, &size));
 }
 
-static void unlink_file(const uint8_t *path, size_t length) { need(doorvervain_unlink(&fs, path, length, 3)); }
+static void unlink_file(const char *path, size_t length) { need(doorvervain_unlink(&fs, path, length, 3)); }
 
 static const struct {
     const char *name;
-    void (*call)(const uint8_t *path, size_t length);
+    void (*call)(const char *path, size_t length);
     int of_folders;
 } CALLS[] = {
     {"create", create, 0},       {"write 4 KiB", write_all, 0},        {"read 4 KiB", read_all, 0},
@@ -69,9 +69,9 @@ static double time_call(int which, uint32_t steps) {
     int files = CALLS[which].of_folders ? 1 : FILES;
     double begun = now();
     for (int i = 0; i < FOLDERS * files; i++) {
-        uint8_t path[32];
-        int length = sprintf((char *)path, "/d%02d", i / files);
-        if (files > 1) length += sprintf((char *)path + length, "/f%06d", i % files);
+        char path[32];
+        int length = sprintf(path, "/d%02d", i / files);
+        if (files > 1) length += sprintf(path + length, "/f%06d", i % files);
         CALLS[which].call(path, (size_t)length);
         if (steps && i % 16 == 15) doorvervain_compact(&fs, steps);
     }
@@ -81,8 +81,8 @@ static double time_call(int which, uint32_t steps) {
 static void round_of(uint32_t steps, double *least) {
     need(doorvervain_open(&fs, DOORVERVAIN_FANOUT, DOORVERVAIN_PENDING, DOORVERVAIN_LEAF));
     for (int i = 0; i < FOLDERS; i++) {
-        uint8_t path[8];
-        size_t length = (size_t)sprintf((char *)path, "/d%02d", i);
+        char path[8];
+        size_t length = (size_t)sprintf(path, "/d%02d", i);
         need(doorvervain_mkdir(&fs, path, length, 0));
     }
     for (int which = 0; which < COUNT; which++) {

@@ -37,17 +37,17 @@ static void need(uint8_t number) {
     }
 }
 
-static size_t path_of(uint8_t *path, unsigned number) { return (size_t)sprintf((char *)path, "/d/f%07u", number); }
+static size_t path_of(char *path, unsigned number) { return (size_t)sprintf(path, "/d/f%07u", number); }
 
 static void write_one(struct doorvervain *fs, unsigned number) {
-    uint8_t path[32];
+    char path[32];
     size_t length = path_of(path, number);
-    need(doorvervain_write(fs, path, length, 0, (const uint8_t *)"a", 1, 0));
+    need(doorvervain_write(fs, path, length, 0, "a", 1, 0));
 }
 
 // One round: what each work takes.
 static void round_of(struct doorvervain *fs, unsigned files, unsigned number) {
-    const uint8_t *name = (const uint8_t *)"s";
+    const char *name = "s";
     double begun = now();
     need(doorvervain_snapshot(fs, name, 1));
     double frozen = now();
@@ -65,9 +65,9 @@ static void round_of(struct doorvervain *fs, unsigned files, unsigned number) {
 static void measure(unsigned files) {
     struct doorvervain fs;
     need(doorvervain_open(&fs, DOORVERVAIN_FANOUT, DOORVERVAIN_PENDING, DOORVERVAIN_LEAF));
-    need(doorvervain_mkdir(&fs, (const uint8_t *)"/d", 2, 0));
+    need(doorvervain_mkdir(&fs, "/d", 2, 0));
     for (unsigned i = 0; i < files; i++) {
-        uint8_t path[32];
+        char path[32];
         size_t length = path_of(path, i);
         need(doorvervain_create(&fs, path, length, 0));
     }

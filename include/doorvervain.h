@@ -3,8 +3,8 @@
 // Link what `pkg-config --libs doorvervain` names. In a clone that is not installed, link
 // crates/doorvervain/out/libdoorvervain.a and the toolchain's liblibc_c.a, which asks malloc for memory.
 //
-// A path is a pointer to bytes and a length, as "/a/b" and 4. It begins with a slash, and no byte 0 has to follow it. The
-// name of a snapshot is a pointer and a length too. No call keeps a pointer of its caller.
+// A path is a pointer to characters and a length in bytes, as "/a/b" and 4. It begins with a slash, and no byte 0 has to follow it.
+// The name of a snapshot is a pointer and a length too. No call keeps a pointer of its caller.
 //
 // Most calls return a number. DOORVERVAIN_DONE (0) means success. Any other number is an error: the call changed no
 // volume, and wrote nothing into a buffer. Two calls that make many changes, doorvervain_wal_apply and
@@ -17,15 +17,16 @@
 // of 0 the call returns the size alone, and DOORVERVAIN_DONE; with any other capacity that is too small it returns
 // DOORVERVAIN_ERANGE. Both leave the buffer unchanged.
 //
-// With a null pointer a call returns DOORVERVAIN_NULL, also if it is one to a volume, a frozen tree, a printer or a loader.
-// Only a pointer whose length is 0 may be null. If one of these four is closed, the call returns DOORVERVAIN_CLOSED. A call
+// With a null pointer a call returns DOORVERVAIN_NULL, also if it is one to a volume, a frozen tree, a printer, a loader or a list.
+// Only a pointer whose length is 0 may be null. If one of these five is closed, the call returns DOORVERVAIN_CLOSED. A call
 // writes no more bytes into a buffer than its capacity.
 //
 // Caller obligations, which no check can see:
 //   - Set `ptr` to null before the first use (`struct doorvervain fs = {0};`), and do not change it.
 //   - A copy of a struct is the same volume. Do not use a copy after a close: that is a use of freed memory.
 //   - A volume and the trees frozen from it share nodes, so only one thread at a time may call any of them: put one
-//     lock around them, or keep them on one thread. Two volumes that were opened separately share nothing.
+//     lock around them, or keep them on one thread. Any two volumes may be called by two threads at once, also a volume
+//     and a fork of it: a node that both have is never changed, but copied.
 //   - A pointer with a length points to at least that many bytes. Bytes that a call writes overlap no bytes that it
 //     reads, and no other result.
 //   - Make no call from a signal handler, nor in the forked child of a process with threads.
@@ -35,6 +36,8 @@
 #include <errno.h>
 #include <stddef.h>
 #include <stdint.h>
+#include <stdlib.h>
+#include <string.h>
 
 #ifdef __cplusplus
 extern "C" {
@@ -60,6 +63,19 @@ struct doorvervain_loader {
     void *ptr;
 };
 
+// The entries of a directory, one after the other. It is closed if `ptr` is null.
+struct doorvervain_list {
+    void *ptr;
+    size_t size, next;
+};
+
+// An entry of a directory.
+struct doorvervain_entry {
+    const char *name; // with a byte 0 after it
+    size_t length;    // of the name, in bytes
+    uint8_t kind;     // DOORVERVAIN_DIRECTORY or DOORVERVAIN_FILE
+};
+
 // What a call returns. The numbers are this library's own; doorvervain_errno returns those of <errno.h>.
 enum {
     DOORVERVAIN_DONE = 0,
@@ -69,7 +85,7 @@ enum {
     DOORVERVAIN_EEXIST = 4,       // the path or snapshot exists already
     DOORVERVAIN_ENOTEMPTY = 5,    // the directory is not empty
     DOORVERVAIN_EPERM = 6,        // not permitted: to unlink a directory
-    DOORVERVAIN_EINVAL = 7,       // no path, name or shape; too many bytes; a move below itself
+    DOORVERVAIN_EINVAL = 7,       // no path, name or shape; a rename below itself; a text that is malformed
     DOORVERVAIN_ENAMETOOLONG = 8, // a name or path too long
     DOORVERVAIN_EFBIG = 9,        // a file too large
     DOORVERVAIN_EBUSY = 10,       // the root, which stays
@@ -77,7 +93,7 @@ enum {
     DOORVERVAIN_ENOSPC = 12,      // all 64 names of snapshots are taken
     DOORVERVAIN_ERANGE = 13,      // the buffer is too short, and nothing was written
     DOORVERVAIN_NULL = 254,       // a pointer is null
-    DOORVERVAIN_CLOSED = 255      // the volume, frozen tree, printer or loader is closed
+    DOORVERVAIN_CLOSED = 255      // the volume, frozen tree, printer, loader or list is closed
 };
 
 // The kind of an entry.
@@ -145,6 +161,9 @@ uint8_t doorvervain_raw_restore(struct doorvervain *fs, const uint8_t *name, siz
 uint8_t doorvervain_raw_snapshot_name(
     struct doorvervain *fs, size_t index, uint8_t *out, size_t capacity, size_t *size);
 uint8_t doorvervain_raw_freeze(struct doorvervain *fs, struct doorvervain_frozen *out);
+uint8_t doorvervain_raw_fork(struct doorvervain *fs, struct doorvervain *out);
+uint8_t doorvervain_raw_frozen_fork(struct doorvervain_frozen *tree, struct doorvervain *out);
+uint8_t doorvervain_raw_restore_frozen(struct doorvervain *fs, struct doorvervain_frozen *tree);
 uint8_t doorvervain_raw_open_snapshot(
     struct doorvervain *fs, const uint8_t *name, size_t length, struct doorvervain_frozen *out);
 uint8_t doorvervain_raw_frozen_read(struct doorvervain_frozen *tree, const uint8_t *path, size_t length,
@@ -216,31 +235,31 @@ uint8_t doorvervain_raw_wal_replay(struct doorvervain *fs, const uint8_t *log, s
 
 // ---- errors
 
-// The error for a volume or a pointer to bytes that is null, or a volume that is closed; else 0.
-static inline uint8_t doorvervain_bad_args(const struct doorvervain *fs, const uint8_t *bytes, size_t length) {
+// Returns the error for a volume or a pointer to bytes that is null, or for a volume that is closed; else 0.
+static inline uint8_t doorvervain_bad_args(const struct doorvervain *fs, const void *bytes, size_t length) {
     if (!fs) return DOORVERVAIN_NULL;
     if (!fs->ptr) return DOORVERVAIN_CLOSED;
     return !bytes && length ? DOORVERVAIN_NULL : DOORVERVAIN_DONE;
 }
 
-// The error for a frozen tree or a pointer to bytes that is null, or a tree that is closed; else 0.
+// Returns the error for a frozen tree or a pointer to bytes that is null, or for a tree that is closed; else 0.
 static inline uint8_t doorvervain_frozen_bad_args(
-    const struct doorvervain_frozen *tree, const uint8_t *bytes, size_t length) {
+    const struct doorvervain_frozen *tree, const void *bytes, size_t length) {
     if (!tree) return DOORVERVAIN_NULL;
     if (!tree->ptr) return DOORVERVAIN_CLOSED;
     return !bytes && length ? DOORVERVAIN_NULL : DOORVERVAIN_DONE;
 }
 
 // A pointer that is not null, also for no bytes.
-static inline const uint8_t *doorvervain_in(const uint8_t *bytes) { return bytes ? bytes : (const uint8_t *)""; }
+static inline const uint8_t *doorvervain_in(const void *bytes) { return (const uint8_t *)(bytes ? bytes : ""); }
 
 // A pointer that is not null, also for a buffer of the capacity 0.
-static inline uint8_t *doorvervain_out(uint8_t *out) {
+static inline uint8_t *doorvervain_out(void *out) {
     static uint8_t spare;
-    return out ? out : &spare;
+    return out ? (uint8_t *)out : &spare;
 }
 
-// The number of <errno.h> for the number that a call returned. 0 for DOORVERVAIN_DONE.
+// Returns the number of <errno.h> for the number that a call returned, and 0 for DOORVERVAIN_DONE.
 static inline int doorvervain_errno(uint8_t number) {
     switch (number) {
     case DOORVERVAIN_DONE: return 0;
@@ -264,11 +283,11 @@ static inline int doorvervain_errno(uint8_t number) {
 
 // ---- volumes
 
-// Creates a volume: an empty root directory, without snapshots. What `fs` held before is not freed. `fanout` is how
-// many children an inner node may have, from 4 to 64; `pending` how many messages may be pending in it, from `fanout`
-// to 1,024; `leaf` how many entries a leaf may have, from 4 to 1,024. The shape changes no result, only time: the
-// defaults are DOORVERVAIN_FANOUT, DOORVERVAIN_PENDING and DOORVERVAIN_LEAF. EINVAL: no such shape. ENOMEM. If it
-// fails, the volume is closed.
+// Creates a volume with an empty root directory and no snapshots. `fanout` is the largest number of children of an inner node,
+// from 4 to 64; `pending` the largest number of messages that may be pending in it, from `fanout` to 1,024; `leaf` the largest
+// number of entries of a leaf, from 4 to 1,024. The shape changes no result, only time. The defaults are DOORVERVAIN_FANOUT,
+// DOORVERVAIN_PENDING and DOORVERVAIN_LEAF. What `fs` held before is not freed. Fails with EINVAL if no tree has the shape, and
+// with ENOMEM; the volume is closed then.
 static inline uint8_t doorvervain_open(struct doorvervain *fs, uint16_t fanout, uint16_t pending, uint16_t leaf) {
     if (!fs) return DOORVERVAIN_NULL;
     fs->ptr = NULL;
@@ -276,64 +295,73 @@ static inline uint8_t doorvervain_open(struct doorvervain *fs, uint16_t fanout, 
 }
 
 // Loads a volume from an image: text that doorvervain_image or `betr --image` wrote. An image of version 1, which has no
-// timestamps, is accepted too: each mtime is 0 then. The shape is as in doorvervain_open.
-// EINVAL: no such shape, and `line` is 0; or not an image, and `line` is its first bad line. ENOMEM. `line` is 0 in every
-// other case. If it fails, the volume is closed. What `fs` held before is not freed.
+// timestamps, is accepted too: each mtime is 0 then. The shape is as in doorvervain_open. What `fs` held before is not freed.
+// Fails with EINVAL if no tree has the shape, and `*line` is 0; with EINVAL if the text is not an image, and `*line` is the
+// number of its first bad line, counted from 1; and with ENOMEM. The volume is closed then. `*line` is 0 in every other case.
 static inline uint8_t doorvervain_load(struct doorvervain *fs, uint16_t fanout, uint16_t pending, uint16_t leaf,
-    const uint8_t *text, size_t length, uint64_t *line) {
+    const void *text, size_t length, uint64_t *line) {
     if (fs) fs->ptr = NULL;
     if (line) *line = 0;
     if (!fs || !line || (!text && length)) return DOORVERVAIN_NULL;
     return doorvervain_raw_load(fanout, pending, leaf, doorvervain_in(text), length, line, fs);
 }
 
-// Frees the volume with its snapshots, and closes it. Frozen trees stay valid. A closed volume is left unchanged.
+// Frees a volume with its snapshots, and closes it. Frozen trees stay valid. A closed volume is left unchanged.
 static inline void doorvervain_close(struct doorvervain *fs) {
     if (!fs || !fs->ptr) return;
     doorvervain_raw_close(*fs);
     fs->ptr = NULL;
 }
 
-// ---- calls that change a volume. Each returns ENOMEM if an allocation fails; then nothing has changed.
+// ---- calls that change a volume. Each fails with ENOMEM if an allocation fails, and then nothing has changed.
 // Each takes the timestamp `at`, a number that need not increase. It becomes the mtime of a new entry, of a file that is
 // written or truncated (a write of no bytes is no change), and of each directory to which an entry is added or from which
-// one is removed. A text that is not a path is rejected before anything else: ENOENT (empty), EINVAL or ENAMETOOLONG.
+// one is removed. A text that is not a path is rejected before anything else: with ENOENT if it is empty, else with EINVAL or
+// ENAMETOOLONG. ENOENT also means that the path, or its parent directory, does not exist; ENOTDIR that a file stands where the
+// path needs a directory.
 
-// Creates an empty directory. ENOENT, ENOTDIR: about the parent; EEXIST.
-static inline uint8_t doorvervain_mkdir(struct doorvervain *fs, const uint8_t *path, size_t length, uint64_t at) {
+// Creates an empty directory. Fails with ENOENT or ENOTDIR if the parent is not a directory, and with EEXIST if the path exists
+// already.
+static inline uint8_t doorvervain_mkdir(struct doorvervain *fs, const char *path, size_t length, uint64_t at) {
     uint8_t err = doorvervain_bad_args(fs, path, length);
     return err ? err : doorvervain_raw_mkdir(fs, doorvervain_in(path), length, at);
 }
 
-// Creates an empty file. ENOENT, ENOTDIR: about the parent; EEXIST.
-static inline uint8_t doorvervain_create(struct doorvervain *fs, const uint8_t *path, size_t length, uint64_t at) {
+// Creates an empty file. Fails with ENOENT or ENOTDIR if the parent is not a directory, and with EEXIST if the path exists
+// already.
+static inline uint8_t doorvervain_create(struct doorvervain *fs, const char *path, size_t length, uint64_t at) {
     uint8_t err = doorvervain_bad_args(fs, path, length);
     return err ? err : doorvervain_raw_create(fs, doorvervain_in(path), length, at);
 }
 
-// Removes a file. ENOENT, ENOTDIR; EPERM: a directory.
-static inline uint8_t doorvervain_unlink(struct doorvervain *fs, const uint8_t *path, size_t length, uint64_t at) {
+// Removes a file. Fails with ENOENT or ENOTDIR if the path does not exist, and with EPERM if it is a directory.
+static inline uint8_t doorvervain_unlink(struct doorvervain *fs, const char *path, size_t length, uint64_t at) {
     uint8_t err = doorvervain_bad_args(fs, path, length);
     return err ? err : doorvervain_raw_unlink(fs, doorvervain_in(path), length, at);
 }
 
-// Removes an empty directory. ENOENT, ENOTDIR, ENOTEMPTY; EBUSY: the root.
-static inline uint8_t doorvervain_rmdir(struct doorvervain *fs, const uint8_t *path, size_t length, uint64_t at) {
+// Removes an empty directory. Fails with ENOENT if the path does not exist, with ENOTDIR if it is a file, with ENOTEMPTY if the
+// directory has entries, and with EBUSY if it is the root.
+static inline uint8_t doorvervain_rmdir(struct doorvervain *fs, const char *path, size_t length, uint64_t at) {
     uint8_t err = doorvervain_bad_args(fs, path, length);
     return err ? err : doorvervain_raw_rmdir(fs, doorvervain_in(path), length, at);
 }
 
-// Removes a file, or a directory with everything below it. ENOENT, ENOTDIR; EBUSY: the root.
-static inline uint8_t doorvervain_rmtree(struct doorvervain *fs, const uint8_t *path, size_t length, uint64_t at) {
+// Removes a file, or a directory with everything below it. Fails with ENOENT or ENOTDIR if the path does not exist, and with
+// EBUSY if it is the root.
+static inline uint8_t doorvervain_rmtree(struct doorvervain *fs, const char *path, size_t length, uint64_t at) {
     uint8_t err = doorvervain_bad_args(fs, path, length);
     return err ? err : doorvervain_raw_rmtree(fs, doorvervain_in(path), length, at);
 }
 
-// Moves the entry at the first path, with everything below it, to the second. A file replaces a file there, and a
-// directory an empty directory. ENOENT, ENOTDIR, EISDIR, ENOTEMPTY, ENAMETOOLONG; EINVAL: below itself; EBUSY: the
-// root.
+// Renames a file, or a directory with everything below it, from the path `from` to the path `to`. A file may replace a file, and
+// a directory an empty directory; renaming a path to itself changes nothing. Fails with ENOENT or ENOTDIR if the old path or the
+// parent of the new one does not exist, with EISDIR if a file would replace a directory, with ENOTDIR if a directory would
+// replace a file, with ENOTEMPTY if the directory at the new path has entries, with EINVAL if the new path is below the old one,
+// with EBUSY if the old path is the root, and with ENAMETOOLONG if a path at or below the new one would have more than 1,023
+// bytes.
 static inline uint8_t doorvervain_rename(
-    struct doorvervain *fs, const uint8_t *from, size_t from_length, const uint8_t *to, size_t to_length, uint64_t at) {
+    struct doorvervain *fs, const char *from, size_t from_length, const char *to, size_t to_length, uint64_t at) {
     uint8_t err = doorvervain_bad_args(fs, from, from_length);
     if (!err) err = doorvervain_bad_args(fs, to, to_length);
     return err ? err
@@ -341,17 +369,19 @@ static inline uint8_t doorvervain_rename(
                        fs, doorvervain_in(from), from_length, doorvervain_in(to), to_length, at);
 }
 
-// Truncates a file to `size` bytes, or extends it to them with zeros. ENOENT, ENOTDIR, EISDIR; EFBIG: more than 2^40.
+// Truncates a file to `size` bytes, or extends it to them with zeros. Fails with ENOENT or ENOTDIR if the path does not exist,
+// with EISDIR if it is a directory, and with EFBIG if `size` is more than 2^40.
 static inline uint8_t doorvervain_truncate(
-    struct doorvervain *fs, const uint8_t *path, size_t length, uint64_t size, uint64_t at) {
+    struct doorvervain *fs, const char *path, size_t length, uint64_t size, uint64_t at) {
     uint8_t err = doorvervain_bad_args(fs, path, length);
     return err ? err : doorvervain_raw_truncate(fs, doorvervain_in(path), length, size, at);
 }
 
-// Writes `count` bytes to a file at `offset`, and extends it if they reach past its end. The write is atomic. ENOENT,
-// ENOTDIR, EISDIR; EFBIG: past 2^40 bytes.
-static inline uint8_t doorvervain_write(struct doorvervain *fs, const uint8_t *path, size_t length, uint64_t offset,
-    const uint8_t *bytes, size_t count, uint64_t at) {
+// Writes `count` bytes to a file from `offset` on, and extends the file with zeros to `offset` first if it is shorter. The write is
+// atomic; one of no bytes changes nothing. Fails with ENOENT or ENOTDIR if the path does not exist, with EISDIR if it is a
+// directory, and with EFBIG if the write reaches past 2^40 bytes.
+static inline uint8_t doorvervain_write(struct doorvervain *fs, const char *path, size_t length, uint64_t offset,
+    const void *bytes, size_t count, uint64_t at) {
     uint8_t err = doorvervain_bad_args(fs, path, length);
     if (!err) err = doorvervain_bad_args(fs, bytes, count);
     return err
@@ -362,151 +392,282 @@ static inline uint8_t doorvervain_write(struct doorvervain *fs, const uint8_t *p
 
 // ---- read-only calls
 
-// Reads at most `capacity` bytes of a file from `offset` on into `out`, and none past the file's end. `*got` is how many
-// bytes it wrote; the rest of `out` is unchanged. ENOENT, ENOTDIR, EISDIR; EINVAL: a capacity of more than 1,048,576
-// bytes.
-static inline uint8_t doorvervain_read(struct doorvervain *fs, const uint8_t *path, size_t length, uint64_t offset,
-    uint8_t *out, size_t capacity, size_t *got) {
+// How many bytes to ask the archive for if `left` are left to read: it reads at most 1,048,576 at a time. Of a file that is read in
+// pieces, only the first can fail.
+static inline size_t doorvervain_piece(size_t left) {
+    const size_t most = 1048576;
+    return left < most ? left : most;
+}
+
+// Reads at most `capacity` bytes of a file from `offset` on into `out`, and none past the file's end. `*got` is the number of bytes
+// that it wrote, less than `capacity` only at the end of the file; the rest of `out` is unchanged. Fails with ENOENT or ENOTDIR if
+// the path does not exist, and with EISDIR if it is a directory.
+static inline uint8_t doorvervain_read(const struct doorvervain *fs, const char *path, size_t length, uint64_t offset,
+    void *out, size_t capacity, size_t *got) {
     if (!got) return DOORVERVAIN_NULL;
     *got = 0;
     uint8_t err = doorvervain_bad_args(fs, path, length);
     if (!err) err = doorvervain_bad_args(fs, out, capacity);
-    return err
-               ? err
-               : doorvervain_raw_read(fs, doorvervain_in(path), length, offset, doorvervain_out(out), capacity, got);
+    if (err) return err;
+    struct doorvervain same = *fs;
+    size_t asked, piece;
+    do {
+        asked = doorvervain_piece(capacity - *got);
+        err = doorvervain_raw_read(
+            &same, doorvervain_in(path), length, offset + *got, doorvervain_out(out) + *got, asked, &piece);
+        *got += piece;
+    } while (!err && asked && piece == asked);
+    return err;
 }
 
-// Returns the kind of the entry at a path, DOORVERVAIN_DIRECTORY or DOORVERVAIN_FILE, its size in bytes (0 for a
-// directory), and its mtime. ENOENT, ENOTDIR.
+// Returns the kind of the entry at a path, DOORVERVAIN_DIRECTORY or DOORVERVAIN_FILE, its size in bytes (0 for a directory), and its
+// mtime. Fails with ENOENT or ENOTDIR if the path does not exist.
 static inline uint8_t doorvervain_stat(
-    struct doorvervain *fs, const uint8_t *path, size_t length, uint8_t *kind, uint64_t *size,
+    const struct doorvervain *fs, const char *path, size_t length, uint8_t *kind, uint64_t *size,
     uint64_t *modified) {
     if (kind) *kind = 0;
     if (size) *size = 0;
     if (modified) *modified = 0;
     if (!kind || !size || !modified) return DOORVERVAIN_NULL;
     uint8_t err = doorvervain_bad_args(fs, path, length);
-    return err ? err : doorvervain_raw_stat(fs, doorvervain_in(path), length, kind, size, modified);
+    if (err) return err;
+    struct doorvervain same = *fs;
+    return doorvervain_raw_stat(&same, doorvervain_in(path), length, kind, size, modified);
 }
 
-// Lists a directory, in byte order of the names: for each entry `d` or `f`, its name and a byte 0. `*size` is the length
-// of the listing in bytes, also with ERANGE: the buffer is too short. ENOENT, ENOTDIR.
+// Lists a directory, in byte order of the names: for each entry `d` or `f`, its name and a byte 0. `*size` is the length of the
+// listing in bytes, also with ERANGE: the buffer is too short. doorvervain_list_begin reads a listing without a buffer of the caller.
+// Fails with ENOENT if the path does not exist, and with ENOTDIR if it is a file.
 static inline uint8_t doorvervain_readdir(
-    struct doorvervain *fs, const uint8_t *path, size_t length, uint8_t *out, size_t capacity, size_t *size) {
+    const struct doorvervain *fs, const char *path, size_t length, void *out, size_t capacity, size_t *size) {
     if (!size) return DOORVERVAIN_NULL;
     *size = 0;
     uint8_t err = doorvervain_bad_args(fs, path, length);
     if (!err) err = doorvervain_bad_args(fs, out, capacity);
-    return err ? err
-                 : doorvervain_raw_readdir(fs, doorvervain_in(path), length, doorvervain_out(out), capacity, size);
+    if (err) return err;
+    struct doorvervain same = *fs;
+    return doorvervain_raw_readdir(&same, doorvervain_in(path), length, doorvervain_out(out), capacity, size);
 }
 
-// ---- snapshots. A name has 1 to 64 bytes of ASCII letters, digits, `.`, `_` and `-`; any other text is EINVAL.
+// ---- snapshots. A name has 1 to 64 bytes of ASCII letters, digits, `.`, `_` and `-`. Each call fails with EINVAL for a
+// text that is not a name.
 
-// Takes a snapshot of the tree under a name. EEXIST; ENOSPC: all 64 names are taken.
-static inline uint8_t doorvervain_snapshot(struct doorvervain *fs, const uint8_t *name, size_t length) {
+// Takes a snapshot of the tree under a name, in constant time. Fails with EEXIST if a snapshot has the name, with ENOSPC if the
+// volume has 64 snapshots, and with ENOMEM.
+static inline uint8_t doorvervain_snapshot(struct doorvervain *fs, const char *name, size_t length) {
     uint8_t err = doorvervain_bad_args(fs, name, length);
     return err ? err : doorvervain_raw_snapshot(fs, doorvervain_in(name), length);
 }
 
-// Drops the snapshot of that name. ENOENT.
-static inline uint8_t doorvervain_drop_snapshot(struct doorvervain *fs, const uint8_t *name, size_t length) {
+// Drops the snapshot of that name. Fails with ENOENT if there is none.
+static inline uint8_t doorvervain_drop_snapshot(struct doorvervain *fs, const char *name, size_t length) {
     uint8_t err = doorvervain_bad_args(fs, name, length);
     return err ? err : doorvervain_raw_drop_snapshot(fs, doorvervain_in(name), length);
 }
 
-// Restores the volume's tree from a snapshot, which is kept. ENOENT.
-static inline uint8_t doorvervain_restore(struct doorvervain *fs, const uint8_t *name, size_t length) {
+// Restores the volume's tree from the snapshot of that name, which is kept. Fails with ENOENT if there is none, and with ENOMEM.
+static inline uint8_t doorvervain_restore(struct doorvervain *fs, const char *name, size_t length) {
     uint8_t err = doorvervain_bad_args(fs, name, length);
     return err ? err : doorvervain_raw_restore(fs, doorvervain_in(name), length);
 }
 
-// Returns the name of the snapshot at an index, counted from 0, in byte order of the names. `*size` is its length in
-// bytes, also with ERANGE: the buffer is too short. 64 bytes are enough for any name, and no byte 0 follows it. ENOENT:
-// there are no more snapshots. So all names are found by counting up from 0 to the first ENOENT.
+// Returns the name of the snapshot at an index, counted from 0, in byte order of the names. `*size` is its length in bytes, also with
+// ERANGE: the buffer is too short. 64 bytes are enough for any name, and no byte 0 follows it. Fails with ENOENT if the volume has no
+// more snapshots: so counting up from 0 to the first ENOENT finds all names.
 static inline uint8_t doorvervain_snapshot_name(
-    struct doorvervain *fs, size_t index, uint8_t *out, size_t capacity, size_t *size) {
+    const struct doorvervain *fs, size_t index, void *out, size_t capacity, size_t *size) {
     if (!size) return DOORVERVAIN_NULL;
     *size = 0;
     uint8_t err = doorvervain_bad_args(fs, out, capacity);
-    return err ? err : doorvervain_raw_snapshot_name(fs, index, doorvervain_out(out), capacity, size);
+    if (err) return err;
+    struct doorvervain same = *fs;
+    return doorvervain_raw_snapshot_name(&same, index, doorvervain_out(out), capacity, size);
 }
 
 // ---- frozen trees
 
-// Freezes the current tree, in constant time. What `out` held before is not freed. ENOMEM. If it fails, `out` is closed.
-static inline uint8_t doorvervain_freeze(struct doorvervain *fs, struct doorvervain_frozen *out) {
+// Freezes the current tree, in constant time. What `out` held before is not freed. Fails with ENOMEM, and `out` is closed then.
+static inline uint8_t doorvervain_freeze(const struct doorvervain *fs, struct doorvervain_frozen *out) {
     if (!out) return DOORVERVAIN_NULL;
     out->ptr = NULL;
     uint8_t err = doorvervain_bad_args(fs, NULL, 0);
-    return err ? err : doorvervain_raw_freeze(fs, out);
+    if (err) return err;
+    struct doorvervain same = *fs;
+    return doorvervain_raw_freeze(&same, out);
 }
 
-// Opens the snapshot of that name for reading, as a frozen tree. ENOENT, ENOMEM. If it fails, `out` is closed.
+// Opens the snapshot of that name for reading, as a frozen tree. What `out` held before is not freed. Fails with ENOENT if there is no
+// such snapshot, with EINVAL if the text is not a name, and with ENOMEM; `out` is closed then.
 static inline uint8_t doorvervain_open_snapshot(
-    struct doorvervain *fs, const uint8_t *name, size_t length, struct doorvervain_frozen *out) {
+    const struct doorvervain *fs, const char *name, size_t length, struct doorvervain_frozen *out) {
     if (!out) return DOORVERVAIN_NULL;
     out->ptr = NULL;
     uint8_t err = doorvervain_bad_args(fs, name, length);
-    return err ? err : doorvervain_raw_open_snapshot(fs, doorvervain_in(name), length, out);
+    if (err) return err;
+    struct doorvervain same = *fs;
+    return doorvervain_raw_open_snapshot(&same, doorvervain_in(name), length, out);
+}
+
+// Forks a volume, in constant time: `out` gets a volume of its own with the current tree and the same shape, without snapshots. Later
+// changes of one do not affect the other. What `out` held before is not freed. Fails with ENOMEM, and `out` is closed then.
+static inline uint8_t doorvervain_fork(const struct doorvervain *fs, struct doorvervain *out) {
+    if (!out) return DOORVERVAIN_NULL;
+    out->ptr = NULL;
+    uint8_t err = doorvervain_bad_args(fs, NULL, 0);
+    if (err) return err;
+    struct doorvervain same = *fs;
+    return doorvervain_raw_fork(&same, out);
+}
+
+// Forks a frozen tree, as doorvervain_fork does for a volume. The tree stays as it is.
+static inline uint8_t doorvervain_frozen_fork(const struct doorvervain_frozen *tree, struct doorvervain *out) {
+    if (!out) return DOORVERVAIN_NULL;
+    out->ptr = NULL;
+    uint8_t err = doorvervain_frozen_bad_args(tree, NULL, 0);
+    if (err) return err;
+    struct doorvervain_frozen same = *tree;
+    return doorvervain_raw_frozen_fork(&same, out);
+}
+
+// Restores the volume's tree from a frozen one, also of another volume, whose shape the volume then has. The frozen tree stays as it is,
+// and so do the volume's snapshots. Fails with ENOMEM.
+static inline uint8_t doorvervain_restore_frozen(struct doorvervain *fs, const struct doorvervain_frozen *tree) {
+    uint8_t err = doorvervain_bad_args(fs, NULL, 0);
+    if (!err) err = doorvervain_frozen_bad_args(tree, NULL, 0);
+    if (err) return err;
+    struct doorvervain_frozen same = *tree;
+    return doorvervain_raw_restore_frozen(fs, &same);
 }
 
 // Reads a file of a frozen tree, as doorvervain_read does for a volume.
-static inline uint8_t doorvervain_frozen_read(struct doorvervain_frozen *tree, const uint8_t *path, size_t length,
-    uint64_t offset, uint8_t *out, size_t capacity, size_t *got) {
+static inline uint8_t doorvervain_frozen_read(const struct doorvervain_frozen *tree, const char *path, size_t length,
+    uint64_t offset, void *out, size_t capacity, size_t *got) {
     if (!got) return DOORVERVAIN_NULL;
     *got = 0;
     uint8_t err = doorvervain_frozen_bad_args(tree, path, length);
     if (!err) err = doorvervain_frozen_bad_args(tree, out, capacity);
-    return err ? err
-                 : doorvervain_raw_frozen_read(
-                       tree, doorvervain_in(path), length, offset, doorvervain_out(out), capacity, got);
+    if (err) return err;
+    struct doorvervain_frozen same = *tree;
+    size_t asked, piece;
+    do {
+        asked = doorvervain_piece(capacity - *got);
+        err = doorvervain_raw_frozen_read(
+            &same, doorvervain_in(path), length, offset + *got, doorvervain_out(out) + *got, asked, &piece);
+        *got += piece;
+    } while (!err && asked && piece == asked);
+    return err;
 }
 
 // Returns kind, size and mtime of an entry of a frozen tree, as doorvervain_stat does for a volume.
 static inline uint8_t doorvervain_frozen_stat(
-    struct doorvervain_frozen *tree, const uint8_t *path, size_t length, uint8_t *kind, uint64_t *size,
+    const struct doorvervain_frozen *tree, const char *path, size_t length, uint8_t *kind, uint64_t *size,
     uint64_t *modified) {
     if (kind) *kind = 0;
     if (size) *size = 0;
     if (modified) *modified = 0;
     if (!kind || !size || !modified) return DOORVERVAIN_NULL;
     uint8_t err = doorvervain_frozen_bad_args(tree, path, length);
-    return err ? err : doorvervain_raw_frozen_stat(tree, doorvervain_in(path), length, kind, size, modified);
+    if (err) return err;
+    struct doorvervain_frozen same = *tree;
+    return doorvervain_raw_frozen_stat(&same, doorvervain_in(path), length, kind, size, modified);
 }
 
 // Lists a directory of a frozen tree, as doorvervain_readdir does for a volume.
 static inline uint8_t doorvervain_frozen_readdir(
-    struct doorvervain_frozen *tree, const uint8_t *path, size_t length, uint8_t *out, size_t capacity, size_t *size) {
+    const struct doorvervain_frozen *tree, const char *path, size_t length, void *out, size_t capacity, size_t *size) {
     if (!size) return DOORVERVAIN_NULL;
     *size = 0;
     uint8_t err = doorvervain_frozen_bad_args(tree, path, length);
     if (!err) err = doorvervain_frozen_bad_args(tree, out, capacity);
-    return err ? err
-                 : doorvervain_raw_frozen_readdir(
-                       tree, doorvervain_in(path), length, doorvervain_out(out), capacity, size);
+    if (err) return err;
+    struct doorvervain_frozen same = *tree;
+    return doorvervain_raw_frozen_readdir(&same, doorvervain_in(path), length, doorvervain_out(out), capacity, size);
 }
 
-// Writes the image of a frozen tree: text that doorvervain_load accepts. `*size` is its length in bytes, also with
-// ERANGE: the buffer is too short. A call for the size alone prints the image too, and drops it. ENOMEM.
-static inline uint8_t doorvervain_image(struct doorvervain_frozen *tree, uint8_t *out, size_t capacity, size_t *size) {
+// Writes the image of a frozen tree into a buffer: text that doorvervain_load accepts. `*size` is its length in bytes, also with
+// ERANGE: the buffer is too short. A call for the size alone makes the image too, and drops it. Fails with ENOMEM.
+static inline uint8_t doorvervain_image(const struct doorvervain_frozen *tree, void *out, size_t capacity, size_t *size) {
     if (!size) return DOORVERVAIN_NULL;
     *size = 0;
     uint8_t err = doorvervain_frozen_bad_args(tree, out, capacity);
-    return err ? err : doorvervain_raw_image(tree, doorvervain_out(out), capacity, size);
+    if (err) return err;
+    struct doorvervain_frozen same = *tree;
+    return doorvervain_raw_image(&same, doorvervain_out(out), capacity, size);
 }
 
-// Frees the frozen tree, and closes it. A closed tree is left unchanged.
+// Frees a frozen tree, and closes it. A closed tree is left unchanged.
 static inline void doorvervain_frozen_close(struct doorvervain_frozen *tree) {
     if (!tree || !tree->ptr) return;
     doorvervain_raw_frozen_close(*tree);
     tree->ptr = NULL;
 }
 
+// ---- listings, entry by entry
+// A list is a snapshot of a directory: begin reads all entries into memory of `malloc`, which the list owns until end frees it. Later
+// changes of the volume, also its close, do not affect the list. One list is for one thread at a time; two lists have nothing in common.
+
+// Frees a list with the names that it returned, and closes it. A closed list is left unchanged.
+static inline void doorvervain_list_end(struct doorvervain_list *list) {
+    if (!list || !list->ptr) return;
+    free(list->ptr);
+    list->ptr = NULL;
+}
+
+// Makes room in a list for a listing of `size` bytes.
+static inline uint8_t doorvervain_list_room(struct doorvervain_list *list, size_t size) {
+    list->ptr = malloc(size ? size : 1);
+    list->size = list->ptr ? size : 0;
+    return list->ptr ? DOORVERVAIN_DONE : DOORVERVAIN_ENOMEM;
+}
+
+// Begins to list a directory of a volume, in byte order of the names. What `list` held before is not freed. Fails with ENOENT if the
+// path does not exist, with ENOTDIR if it is a file, and with ENOMEM; the list is closed then.
+static inline uint8_t doorvervain_list_begin(
+    struct doorvervain_list *list, const struct doorvervain *fs, const char *path, size_t length) {
+    if (!list) return DOORVERVAIN_NULL;
+    list->ptr = NULL;
+    list->size = list->next = 0;
+    size_t size;
+    uint8_t err = doorvervain_readdir(fs, path, length, NULL, 0, &size);
+    if (!err) err = doorvervain_list_room(list, size);
+    if (!err) err = doorvervain_readdir(fs, path, length, list->ptr, list->size, &size);
+    if (err) doorvervain_list_end(list);
+    return err;
+}
+
+// Begins to list a directory of a frozen tree, as doorvervain_list_begin does for a volume.
+static inline uint8_t doorvervain_frozen_list_begin(
+    struct doorvervain_list *list, const struct doorvervain_frozen *tree, const char *path, size_t length) {
+    if (!list) return DOORVERVAIN_NULL;
+    list->ptr = NULL;
+    list->size = list->next = 0;
+    size_t size;
+    uint8_t err = doorvervain_frozen_readdir(tree, path, length, NULL, 0, &size);
+    if (!err) err = doorvervain_list_room(list, size);
+    if (!err) err = doorvervain_frozen_readdir(tree, path, length, list->ptr, list->size, &size);
+    if (err) doorvervain_list_end(list);
+    return err;
+}
+
+// Returns the next entry of a list. Its name ends with a byte 0, and belongs to the list: it is valid until doorvervain_list_end. Fails
+// with ENOENT after the last entry; each field of the entry is 0 then.
+static inline uint8_t doorvervain_list_next(struct doorvervain_list *list, struct doorvervain_entry *entry) {
+    if (entry) entry->name = NULL, entry->length = 0, entry->kind = 0;
+    if (!list || !entry) return DOORVERVAIN_NULL;
+    if (!list->ptr) return DOORVERVAIN_CLOSED;
+    if (list->next >= list->size) return DOORVERVAIN_ENOENT;
+    const char *at = (const char *)list->ptr + list->next;
+    entry->kind = *at == 'd' ? DOORVERVAIN_DIRECTORY : DOORVERVAIN_FILE;
+    entry->name = at + 1;
+    entry->length = strlen(entry->name);
+    list->next += entry->length + 2;
+    return DOORVERVAIN_DONE;
+}
+
 // ---- images in several buffers, so that no image has to fit into memory
 
-// Begins to print the image of a frozen tree. The call closes the tree, whatever it returns but DOORVERVAIN_NULL: freeze
-// once more if you need the tree besides, which copies nothing. ENOMEM. If it fails, the printer is closed.
+// Begins to print the image of a frozen tree. The call closes the tree, whatever it returns but DOORVERVAIN_NULL: freeze once more if
+// you need the tree besides, which copies nothing. Fails with ENOMEM, and the printer is closed then.
 static inline uint8_t doorvervain_print_begin(
     struct doorvervain_printer *printer, struct doorvervain_frozen *tree) {
     if (printer) printer->ptr = NULL;
@@ -517,10 +678,10 @@ static inline uint8_t doorvervain_print_begin(
     return doorvervain_raw_print_begin(taken, printer);
 }
 
-// Writes the next bytes of the image into the buffer: `*size` is how many, 0 only at the end of the image or if `capacity` is 0. They
-// may be fewer than `capacity`. ENOMEM: nothing was written, and the call may be repeated.
+// Writes the next bytes of the image into the buffer. `*size` is their number, 0 only at the end of the image or if `capacity` is 0. It
+// may be less than `capacity`. Fails with ENOMEM; nothing was written then, and the call may be repeated.
 static inline uint8_t doorvervain_print_next(
-    struct doorvervain_printer *printer, uint8_t *out, size_t capacity, size_t *size) {
+    struct doorvervain_printer *printer, void *out, size_t capacity, size_t *size) {
     if (!size) return DOORVERVAIN_NULL;
     *size = 0;
     if (!printer || (!out && capacity)) return DOORVERVAIN_NULL;
@@ -535,8 +696,8 @@ static inline void doorvervain_print_end(struct doorvervain_printer *printer) {
     printer->ptr = NULL;
 }
 
-// Begins to load an image. The shape is as in doorvervain_open. EINVAL: no such shape. ENOMEM. If it fails, the loader is
-// closed.
+// Begins to load an image. The shape is as in doorvervain_open. What `loader` held before is not freed. Fails with EINVAL if no tree has
+// the shape, and with ENOMEM; the loader is closed then.
 static inline uint8_t doorvervain_load_begin(
     struct doorvervain_loader *loader, uint16_t fanout, uint16_t pending, uint16_t leaf) {
     if (!loader) return DOORVERVAIN_NULL;
@@ -544,19 +705,20 @@ static inline uint8_t doorvervain_load_begin(
     return doorvervain_raw_load_begin(fanout, pending, leaf, loader);
 }
 
-// Feeds the next bytes of the text, which may be split anywhere. EINVAL: the text is not an image, whatever follows, and `line` is its
-// first bad line. ENOMEM. `line` is 0 in every other case. After an error each later call returns the same error.
+// Feeds the next bytes of the text, which may be split anywhere. Fails with EINVAL if the text is not an image, whatever follows, and
+// `*line` is the number of its first bad line; and with ENOMEM. `*line` is 0 in every other case. After an error each later call
+// returns the same error.
 static inline uint8_t doorvervain_load_feed(
-    struct doorvervain_loader *loader, const uint8_t *text, size_t length, uint64_t *line) {
+    struct doorvervain_loader *loader, const void *text, size_t length, uint64_t *line) {
     if (line) *line = 0;
     if (!loader || !line || (!text && length)) return DOORVERVAIN_NULL;
     if (!loader->ptr) return DOORVERVAIN_CLOSED;
     return doorvervain_raw_load_feed(loader, doorvervain_in(text), length, line);
 }
 
-// Ends the text, and creates the volume from it. The call closes the loader, whatever it returns but DOORVERVAIN_NULL. EINVAL: the
-// text is not an image, and `line` is its first bad line. ENOMEM. `line` is 0 in every other case. If it fails, the volume is closed.
-// What `fs` held before is not freed.
+// Ends the text, and creates the volume from it. The call closes the loader, whatever it returns but DOORVERVAIN_NULL. What `fs` held
+// before is not freed. Fails with EINVAL if the text is not an image, and `*line` is the number of its first bad line; and with ENOMEM.
+// The volume is closed then. `*line` is 0 in every other case.
 static inline uint8_t doorvervain_load_finish(
     struct doorvervain *fs, struct doorvervain_loader *loader, uint64_t *line) {
     if (fs) fs->ptr = NULL;
@@ -576,9 +738,10 @@ static inline void doorvervain_load_abort(struct doorvervain_loader *loader) {
 }
 
 // Writes the image of a frozen tree through a callback, which consumes all bytes that it gets and returns 0. If it returns another
-// number, nothing more is written, and `*failed` is that number; else `*failed` is 0. The bytes pass through the buffer, whose capacity
-// is at least 1 (EINVAL). The call closes the tree, whatever it returns but DOORVERVAIN_NULL. ENOMEM: the image was written in part.
-static inline uint8_t doorvervain_image_write(struct doorvervain_frozen *tree, uint8_t *buffer, size_t capacity,
+// number, nothing more is written, and `*failed` is that number; else `*failed` is 0. The bytes pass through the buffer. The call closes
+// the tree, whatever it returns but DOORVERVAIN_NULL. Fails with EINVAL if `capacity` is 0, and with ENOMEM; the image may have been
+// written in part then.
+static inline uint8_t doorvervain_image_write(struct doorvervain_frozen *tree, void *buffer, size_t capacity,
     int (*put)(void *context, const uint8_t *bytes, size_t count), void *context, int *failed) {
     struct doorvervain_printer printer;
     size_t count = 0;
@@ -589,17 +752,18 @@ static inline uint8_t doorvervain_image_write(struct doorvervain_frozen *tree, u
     while (!number && !*failed) {
         number = doorvervain_print_next(&printer, buffer, capacity, &count);
         if (!count) break;
-        *failed = put(context, buffer, count);
+        *failed = put(context, (const uint8_t *)buffer, count);
     }
     doorvervain_print_end(&printer);
     return number;
 }
 
-// Loads a volume from an image that a callback reads: it writes at most `capacity` bytes into the buffer, sets `*got` to how many, 0 at
-// the end of the text, and returns 0. If it returns another number, `*failed` is that number, the call returns DOORVERVAIN_DONE, and the
-// volume is closed. Else `*failed` is 0, and the call is as doorvervain_load. EINVAL, and `line` is 0: the capacity is 0.
+// Loads a volume from an image that a callback reads: it writes at most `capacity` bytes into the buffer, sets `*got` to their number, 0
+// at the end of the text, and returns 0. If it returns another number, `*failed` is that number, the call returns DOORVERVAIN_DONE, and
+// the volume is closed; else `*failed` is 0. What `fs` held before is not freed. Fails as doorvervain_load does, and with EINVAL and a
+// `*line` of 0 if `capacity` is 0.
 static inline uint8_t doorvervain_load_read(struct doorvervain *fs, uint16_t fanout, uint16_t pending, uint16_t leaf,
-    uint8_t *buffer, size_t capacity, int (*get)(void *context, uint8_t *buffer, size_t capacity, size_t *got), void *context,
+    void *buffer, size_t capacity, int (*get)(void *context, uint8_t *buffer, size_t capacity, size_t *got), void *context,
     int *failed, uint64_t *line) {
     struct doorvervain_loader loader;
     if (fs) fs->ptr = NULL;
@@ -610,7 +774,7 @@ static inline uint8_t doorvervain_load_read(struct doorvervain *fs, uint16_t fan
     uint8_t number = doorvervain_load_begin(&loader, fanout, pending, leaf);
     while (!number) {
         size_t got = 0;
-        *failed = get(context, buffer, capacity, &got);
+        *failed = get(context, (uint8_t *)buffer, capacity, &got);
         if (*failed || !got) break;
         number = doorvervain_load_feed(&loader, buffer, got < capacity ? got : capacity, line);
     }
@@ -621,25 +785,26 @@ static inline uint8_t doorvervain_load_read(struct doorvervain *fs, uint16_t fan
 
 // ---- deltas between two trees, as text (docs/FORMATS.md has its lines)
 
-// Writes the delta from one tree of the volume to another: each is the snapshot of that name, or the live tree if the length is 0.
-// `*size` is its length in bytes, also with ERANGE: the buffer is too short. A call for the size alone prints the delta too, and drops
-// it. ENOENT: no such snapshot; EINVAL, ENAMETOOLONG: not a name. ENOMEM.
-static inline uint8_t doorvervain_delta(struct doorvervain *fs, const uint8_t *from, size_t from_length,
-    const uint8_t *to, size_t to_length, uint8_t *out, size_t capacity, size_t *size) {
+// Writes the delta from one tree of the volume to another into a buffer. Each tree is the snapshot of that name, or the live tree if the
+// name's length is 0. `*size` is the delta's length in bytes, also with ERANGE: the buffer is too short. A call for the size alone makes
+// the delta too, and drops it. Fails with ENOENT if there is no such snapshot, with EINVAL if a text is not a name, and with ENOMEM.
+static inline uint8_t doorvervain_delta(const struct doorvervain *fs, const char *from, size_t from_length,
+    const char *to, size_t to_length, void *out, size_t capacity, size_t *size) {
     if (!size) return DOORVERVAIN_NULL;
     *size = 0;
     uint8_t err = doorvervain_bad_args(fs, from, from_length);
     if (!err) err = doorvervain_bad_args(fs, to, to_length);
     if (!err) err = doorvervain_bad_args(fs, out, capacity);
-    return err ? err
-                 : doorvervain_raw_delta(fs, doorvervain_in(from), from_length, doorvervain_in(to), to_length,
-                       doorvervain_out(out), capacity, size);
+    if (err) return err;
+    struct doorvervain same = *fs;
+    return doorvervain_raw_delta(&same, doorvervain_in(from), from_length, doorvervain_in(to), to_length,
+        doorvervain_out(out), capacity, size);
 }
 
-// Applies a delta to the live tree. Afterwards the volume is like one that was just loaded: its snapshots are dropped. ENOENT: the
-// live tree is not the tree from which the delta was printed. EINVAL: the text is not a delta, and `line` is its first bad line; or
-// `line` is 0, and the result would not be a tree. ENOMEM. `line` is 0 in every other case.
-static inline uint8_t doorvervain_apply_delta(struct doorvervain *fs, const uint8_t *text, size_t length, uint64_t *line) {
+// Applies a delta to the live tree. Afterwards the volume is like one that was just loaded: its snapshots are dropped. Fails with ENOENT
+// if the live tree is not the tree from which the delta was made; with EINVAL if the text is not a delta, and `*line` is the number of its
+// first bad line; with EINVAL and a `*line` of 0 if the result would not be a tree; and with ENOMEM. `*line` is 0 in every other case.
+static inline uint8_t doorvervain_apply_delta(struct doorvervain *fs, const void *text, size_t length, uint64_t *line) {
     if (!line) return DOORVERVAIN_NULL;
     *line = 0;
     uint8_t err = doorvervain_bad_args(fs, text, length);
@@ -648,9 +813,11 @@ static inline uint8_t doorvervain_apply_delta(struct doorvervain *fs, const uint
 
 // ---- compaction
 
-// Compacts the trees: does at most `steps` steps, each of which moves pending changes down from the fullest slot. Returns
-// how many steps it tried, fewer than `steps` only if nothing is pending. It changes no result of any call. Call it now
-// and then, or never. Returns 0 for a closed volume or a null pointer.
+// Compacts the trees: does at most `steps` steps, each of which moves pending changes down from the fullest slot, or makes
+// room for that. Returns how many steps it did, fewer than `steps` only if nothing is pending or the next step cannot be
+// done: an allocation failed, or no step was found that has room, which can happen at the smallest shapes, and a later
+// change may end it. It changes no result of any call. Call it now and then, or never. Returns 0 for a closed volume or a
+// null pointer.
 static inline uint32_t doorvervain_compact(struct doorvervain *fs, uint32_t steps) {
     return doorvervain_bad_args(fs, NULL, 0) ? 0 : doorvervain_raw_compact(fs, steps);
 }
@@ -660,26 +827,26 @@ static inline uint32_t doorvervain_compact(struct doorvervain *fs, uint32_t step
 // unchanged: DOORVERVAIN_ERANGE, or DOORVERVAIN_DONE if `capacity` is 0, which asks for the size.
 
 // Whether a pointer to bytes, or one to a buffer, is null but must not be.
-static inline int doorvervain_has_null(const uint8_t *bytes, size_t length, const uint8_t *out, size_t capacity) {
+static inline int doorvervain_has_null(const void *bytes, size_t length, const void *out, size_t capacity) {
     return (!bytes && length) || (!out && capacity);
 }
 
 // Returns the directory for the attribute record of a path, below the reserved name: DOORVERVAIN_RESERVED, `tree`, and the names of
-// the path; a name that begins with a byte 1 gets one more byte 1 before it. It has at most 1,023 bytes. A text that is not a path:
-// ENOENT (empty), EINVAL or ENAMETOOLONG. EINVAL: the path is at or below the reserved name. ENAMETOOLONG: the result would have a
-// name of more than 255 bytes, or more than 1,023 bytes. ENOMEM.
+// the path; a name that begins with a byte 1 gets one more byte 1 before it. It has at most 1,023 bytes. Fails with ENOENT if the text is
+// empty, with EINVAL or ENAMETOOLONG if it is no path, with EINVAL if the path is at or below the reserved name, with ENAMETOOLONG if the
+// result would have a name of more than 255 bytes or more than 1,023 bytes, and with ENOMEM.
 static inline uint8_t doorvervain_attr_dir(
-    const uint8_t *path, size_t length, uint8_t *out, size_t capacity, size_t *size) {
+    const char *path, size_t length, void *out, size_t capacity, size_t *size) {
     if (!size) return DOORVERVAIN_NULL;
     *size = 0;
     if (doorvervain_has_null(path, length, out, capacity)) return DOORVERVAIN_NULL;
     return doorvervain_raw_attr_dir(doorvervain_in(path), length, doorvervain_out(out), capacity, size);
 }
 
-// Returns the path of the attribute record of a path: the result of doorvervain_attr_dir, and one more name, the byte 1. It fails as
+// Returns the path of the attribute record of a path: the result of doorvervain_attr_dir, and one more name, the byte 1. Fails as
 // doorvervain_attr_dir does, and also with ENAMETOOLONG if the result would have more than 1,023 bytes.
 static inline uint8_t doorvervain_attr_path(
-    const uint8_t *path, size_t length, uint8_t *out, size_t capacity, size_t *size) {
+    const char *path, size_t length, void *out, size_t capacity, size_t *size) {
     if (!size) return DOORVERVAIN_NULL;
     *size = 0;
     if (doorvervain_has_null(path, length, out, capacity)) return DOORVERVAIN_NULL;
@@ -688,10 +855,10 @@ static inline uint8_t doorvervain_attr_path(
 
 // Encodes an attribute record. `extended` has the extended attributes one after the other, in increasing byte order of their names: the
 // name of 1 to 255 bytes, a byte 0, the length of the value in four bytes, least significant first, and the value of at most 65,536
-// bytes. `link` is used with DOORVERVAIN_OTHER_NAME alone, `device` with devices, `modified` and `held` if `has_modified` is not 0.
-// EINVAL: no such kind, a mode of more than twelve bits, or malformed extended attributes. ENOMEM.
-static inline uint8_t doorvervain_attr_encode(const struct doorvervain_attributes *attributes, const uint8_t *extended,
-    size_t extended_length, uint8_t *out, size_t capacity, size_t *size) {
+// bytes. `link` is used with DOORVERVAIN_OTHER_NAME alone, `device` with devices, `modified` and `held` if `has_modified` is not 0. Fails
+// with EINVAL if there is no such kind, the mode has more than twelve bits, or the extended attributes are malformed; and with ENOMEM.
+static inline uint8_t doorvervain_attr_encode(const struct doorvervain_attributes *attributes, const void *extended,
+    size_t extended_length, void *out, size_t capacity, size_t *size) {
     if (!size) return DOORVERVAIN_NULL;
     *size = 0;
     if (!attributes || doorvervain_has_null(extended, extended_length, out, capacity)) return DOORVERVAIN_NULL;
@@ -700,10 +867,10 @@ static inline uint8_t doorvervain_attr_encode(const struct doorvervain_attribute
 }
 
 // Decodes an attribute record. Fields that its kind does not have are 0. The extended attributes are written one after the other, as
-// doorvervain_attr_encode takes them; they have no more bytes than the record. EINVAL: a text that doorvervain_attr_encode never writes.
-// ENOMEM. If it fails, each field is 0.
-static inline uint8_t doorvervain_attr_decode(const uint8_t *text, size_t length,
-    struct doorvervain_attributes *attributes, uint8_t *extended, size_t capacity, size_t *size) {
+// doorvervain_attr_encode takes them; they have no more bytes than the record. Fails with EINVAL if doorvervain_attr_encode never writes
+// the text, and with ENOMEM; each field is 0 then.
+static inline uint8_t doorvervain_attr_decode(const void *text, size_t length,
+    struct doorvervain_attributes *attributes, void *extended, size_t capacity, size_t *size) {
     static struct doorvervain_attributes none; // each field is 0
     if (attributes) *attributes = none;
     if (size) *size = 0;
@@ -720,34 +887,38 @@ static inline uint8_t doorvervain_attr_decode(const uint8_t *text, size_t length
 
 // Punches a hole: sets `count` bytes of a file from `offset` on to zero, up to the file's end. The tree is the same as after a
 // write of zeros there. The file keeps its size. Blocks that are entirely in the hole use no memory afterwards, and the call
-// allocates none for them. If no byte of the range is within the file, nothing changes, and the file keeps its mtime. ENOENT,
-// ENOTDIR, EISDIR.
+// allocates none for them. If no byte of the range is within the file, nothing changes, and the file keeps its mtime. Fails with
+// ENOENT or ENOTDIR if the path does not exist, with EISDIR if it is a directory, and with ENOMEM.
 static inline uint8_t doorvervain_punch(
-    struct doorvervain *fs, const uint8_t *path, size_t length, uint64_t offset, uint64_t count, uint64_t at) {
+    struct doorvervain *fs, const char *path, size_t length, uint64_t offset, uint64_t count, uint64_t at) {
     uint8_t err = doorvervain_bad_args(fs, path, length);
     return err ? err : doorvervain_raw_punch(fs, doorvervain_in(path), length, offset, count, at);
 }
 
-// Returns the next allocated extent of a file at or after `offset`: the bytes from `*from` to `*to`, without the latter,
-// within the file and not before `offset`. All bytes from `offset` to `*from` are zeros. If there is no such extent, both
-// are the file's size. ENOENT, ENOTDIR, EISDIR.
-static inline uint8_t doorvervain_next_extent(struct doorvervain *fs, const uint8_t *path, size_t length, uint64_t offset,
+// Returns the next allocated extent of a file at or after `offset`: the bytes from `*from` to `*to`, without the latter, within the
+// file and not before `offset`. All bytes from `offset` to `*from` are zeros. If there is no such extent, both are the file's size.
+// Fails with ENOENT or ENOTDIR if the path does not exist, and with EISDIR if it is a directory.
+static inline uint8_t doorvervain_next_extent(const struct doorvervain *fs, const char *path, size_t length, uint64_t offset,
     uint64_t *from, uint64_t *to) {
     if (from) *from = 0;
     if (to) *to = 0;
     if (!from || !to) return DOORVERVAIN_NULL;
     uint8_t err = doorvervain_bad_args(fs, path, length);
-    return err ? err : doorvervain_raw_next_extent(fs, doorvervain_in(path), length, offset, from, to);
+    if (err) return err;
+    struct doorvervain same = *fs;
+    return doorvervain_raw_next_extent(&same, doorvervain_in(path), length, offset, from, to);
 }
 
 // Returns the next allocated extent of a file of a frozen tree, as doorvervain_next_extent does for a volume.
-static inline uint8_t doorvervain_frozen_next_extent(struct doorvervain_frozen *tree, const uint8_t *path, size_t length,
+static inline uint8_t doorvervain_frozen_next_extent(const struct doorvervain_frozen *tree, const char *path, size_t length,
     uint64_t offset, uint64_t *from, uint64_t *to) {
     if (from) *from = 0;
     if (to) *to = 0;
     if (!from || !to) return DOORVERVAIN_NULL;
     uint8_t err = doorvervain_frozen_bad_args(tree, path, length);
-    return err ? err : doorvervain_raw_frozen_next_extent(tree, doorvervain_in(path), length, offset, from, to);
+    if (err) return err;
+    struct doorvervain_frozen same = *tree;
+    return doorvervain_raw_frozen_next_extent(&same, doorvervain_in(path), length, offset, from, to);
 }
 
 // ---- the write-ahead log (WAL) of a store
@@ -759,15 +930,16 @@ enum { DOORVERVAIN_WAL_HEADER = 24, DOORVERVAIN_WAL_TRAILER = 32, DOORVERVAIN_WA
 
 // The error for a text, a buffer or a size that is null; else 0.
 static inline uint8_t doorvervain_wal_bad_args(
-    const uint8_t *text, size_t length, const uint8_t *out, size_t capacity, size_t *size) {
+    const void *text, size_t length, const void *out, size_t capacity, size_t *size) {
     if (!size) return DOORVERVAIN_NULL;
     *size = 0;
     return doorvervain_has_null(text, length, out, capacity) ? DOORVERVAIN_NULL : DOORVERVAIN_DONE;
 }
 
-// Encodes the entry of a mkdir with the timestamp `at`. ENOENT, EINVAL, ENAMETOOLONG: a text that is not a path. ENOMEM.
+// Encodes the entry of a mkdir with the timestamp `at`. Fails with ENOENT, EINVAL or ENAMETOOLONG if the text is not a path, and with
+// ENOMEM.
 static inline uint8_t doorvervain_wal_mkdir(
-    const uint8_t *path, size_t length, uint64_t at, uint8_t *out, size_t capacity, size_t *size) {
+    const char *path, size_t length, uint64_t at, void *out, size_t capacity, size_t *size) {
     uint8_t err = doorvervain_wal_bad_args(path, length, out, capacity, size);
     return err ? err
                  : doorvervain_raw_wal_mkdir(doorvervain_in(path), length, at, doorvervain_out(out), capacity, size);
@@ -775,7 +947,7 @@ static inline uint8_t doorvervain_wal_mkdir(
 
 // Encodes the entry of a create, as doorvervain_wal_mkdir does.
 static inline uint8_t doorvervain_wal_create(
-    const uint8_t *path, size_t length, uint64_t at, uint8_t *out, size_t capacity, size_t *size) {
+    const char *path, size_t length, uint64_t at, void *out, size_t capacity, size_t *size) {
     uint8_t err = doorvervain_wal_bad_args(path, length, out, capacity, size);
     return err ? err
                  : doorvervain_raw_wal_create(doorvervain_in(path), length, at, doorvervain_out(out), capacity, size);
@@ -783,7 +955,7 @@ static inline uint8_t doorvervain_wal_create(
 
 // Encodes the entry of an unlink, as doorvervain_wal_mkdir does.
 static inline uint8_t doorvervain_wal_unlink(
-    const uint8_t *path, size_t length, uint64_t at, uint8_t *out, size_t capacity, size_t *size) {
+    const char *path, size_t length, uint64_t at, void *out, size_t capacity, size_t *size) {
     uint8_t err = doorvervain_wal_bad_args(path, length, out, capacity, size);
     return err ? err
                  : doorvervain_raw_wal_unlink(doorvervain_in(path), length, at, doorvervain_out(out), capacity, size);
@@ -791,7 +963,7 @@ static inline uint8_t doorvervain_wal_unlink(
 
 // Encodes the entry of an rmdir, as doorvervain_wal_mkdir does.
 static inline uint8_t doorvervain_wal_rmdir(
-    const uint8_t *path, size_t length, uint64_t at, uint8_t *out, size_t capacity, size_t *size) {
+    const char *path, size_t length, uint64_t at, void *out, size_t capacity, size_t *size) {
     uint8_t err = doorvervain_wal_bad_args(path, length, out, capacity, size);
     return err ? err
                  : doorvervain_raw_wal_rmdir(doorvervain_in(path), length, at, doorvervain_out(out), capacity, size);
@@ -799,15 +971,15 @@ static inline uint8_t doorvervain_wal_rmdir(
 
 // Encodes the entry of an rmtree, as doorvervain_wal_mkdir does.
 static inline uint8_t doorvervain_wal_rmtree(
-    const uint8_t *path, size_t length, uint64_t at, uint8_t *out, size_t capacity, size_t *size) {
+    const char *path, size_t length, uint64_t at, void *out, size_t capacity, size_t *size) {
     uint8_t err = doorvervain_wal_bad_args(path, length, out, capacity, size);
     return err ? err
                  : doorvervain_raw_wal_rmtree(doorvervain_in(path), length, at, doorvervain_out(out), capacity, size);
 }
 
-// Encodes the entry of a rename from the first path to the second.
-static inline uint8_t doorvervain_wal_rename(const uint8_t *from, size_t from_length, const uint8_t *to,
-    size_t to_length, uint64_t at, uint8_t *out, size_t capacity, size_t *size) {
+// Encodes the entry of a rename from the first path to the second. Fails as doorvervain_wal_mkdir does.
+static inline uint8_t doorvervain_wal_rename(const char *from, size_t from_length, const char *to,
+    size_t to_length, uint64_t at, void *out, size_t capacity, size_t *size) {
     uint8_t err = doorvervain_wal_bad_args(from, from_length, out, capacity, size);
     if (!err) err = doorvervain_wal_bad_args(to, to_length, out, capacity, size);
     return err ? err
@@ -815,18 +987,18 @@ static inline uint8_t doorvervain_wal_rename(const uint8_t *from, size_t from_le
                        doorvervain_out(out), capacity, size);
 }
 
-// Encodes the entry of a truncate to the given number of bytes.
-static inline uint8_t doorvervain_wal_truncate(const uint8_t *path, size_t length, uint64_t bytes, uint64_t at,
-    uint8_t *out, size_t capacity, size_t *size) {
+// Encodes the entry of a truncate to the given number of bytes. Fails as doorvervain_wal_mkdir does.
+static inline uint8_t doorvervain_wal_truncate(const char *path, size_t length, uint64_t bytes, uint64_t at,
+    void *out, size_t capacity, size_t *size) {
     uint8_t err = doorvervain_wal_bad_args(path, length, out, capacity, size);
     return err
                ? err
                : doorvervain_raw_wal_truncate(doorvervain_in(path), length, bytes, at, doorvervain_out(out), capacity, size);
 }
 
-// Encodes the entry of a write at `offset`.
-static inline uint8_t doorvervain_wal_write(const uint8_t *path, size_t length, uint64_t offset, const uint8_t *bytes,
-    size_t count, uint64_t at, uint8_t *out, size_t capacity, size_t *size) {
+// Encodes the entry of a write of `count` bytes at `offset`. Fails as doorvervain_wal_mkdir does.
+static inline uint8_t doorvervain_wal_write(const char *path, size_t length, uint64_t offset, const void *bytes,
+    size_t count, uint64_t at, void *out, size_t capacity, size_t *size) {
     uint8_t err = doorvervain_wal_bad_args(path, length, out, capacity, size);
     if (!err) err = doorvervain_wal_bad_args(bytes, count, out, capacity, size);
     return err ? err
@@ -834,67 +1006,67 @@ static inline uint8_t doorvervain_wal_write(const uint8_t *path, size_t length, 
                        doorvervain_out(out), capacity, size);
 }
 
-// Encodes the entry of a punch of `count` bytes at `offset`.
-static inline uint8_t doorvervain_wal_punch(const uint8_t *path, size_t length, uint64_t offset, uint64_t count,
-    uint64_t at, uint8_t *out, size_t capacity, size_t *size) {
+// Encodes the entry of a punch of `count` bytes at `offset`. Fails as doorvervain_wal_mkdir does.
+static inline uint8_t doorvervain_wal_punch(const char *path, size_t length, uint64_t offset, uint64_t count,
+    uint64_t at, void *out, size_t capacity, size_t *size) {
     uint8_t err = doorvervain_wal_bad_args(path, length, out, capacity, size);
     return err ? err
                  : doorvervain_raw_wal_punch(
                        doorvervain_in(path), length, offset, count, at, doorvervain_out(out), capacity, size);
 }
 
-// Encodes the entry of a snapshot that is taken. EINVAL: a text that is not a name. ENOMEM.
-static inline uint8_t doorvervain_wal_snapshot(const uint8_t *name, size_t length, uint8_t *out, size_t capacity, size_t *size) {
+// Encodes the entry of a snapshot that is taken. Fails with EINVAL if the text is not a name, and with ENOMEM.
+static inline uint8_t doorvervain_wal_snapshot(const char *name, size_t length, void *out, size_t capacity, size_t *size) {
     uint8_t err = doorvervain_wal_bad_args(name, length, out, capacity, size);
     return err ? err
                  : doorvervain_raw_wal_snapshot(doorvervain_in(name), length, doorvervain_out(out), capacity, size);
 }
 
 // Encodes the entry of a snapshot that is dropped, as doorvervain_wal_snapshot does.
-static inline uint8_t doorvervain_wal_drop(const uint8_t *name, size_t length, uint8_t *out, size_t capacity, size_t *size) {
+static inline uint8_t doorvervain_wal_drop(const char *name, size_t length, void *out, size_t capacity, size_t *size) {
     uint8_t err = doorvervain_wal_bad_args(name, length, out, capacity, size);
     return err ? err
                  : doorvervain_raw_wal_drop(doorvervain_in(name), length, doorvervain_out(out), capacity, size);
 }
 
 // Encodes the entry of a snapshot that is restored, as doorvervain_wal_snapshot does.
-static inline uint8_t doorvervain_wal_restore(const uint8_t *name, size_t length, uint8_t *out, size_t capacity, size_t *size) {
+static inline uint8_t doorvervain_wal_restore(const char *name, size_t length, void *out, size_t capacity, size_t *size) {
     uint8_t err = doorvervain_wal_bad_args(name, length, out, capacity, size);
     return err ? err
                  : doorvervain_raw_wal_restore(doorvervain_in(name), length, doorvervain_out(out), capacity, size);
 }
 
 // Encodes the frame of a body in the record of a number: the DOORVERVAIN_WAL_HEADER bytes before the body, and then the
-// DOORVERVAIN_WAL_TRAILER bytes after it. ENOMEM.
+// DOORVERVAIN_WAL_TRAILER bytes after it. Fails with ENOMEM.
 static inline uint8_t doorvervain_wal_frame(
-    uint64_t number, const uint8_t *body, size_t length, uint8_t *out, size_t capacity, size_t *size) {
+    uint64_t number, const void *body, size_t length, void *out, size_t capacity, size_t *size) {
     uint8_t err = doorvervain_wal_bad_args(body, length, out, capacity, size);
     return err ? err
                  : doorvervain_raw_wal_frame(number, doorvervain_in(body), length, doorvervain_out(out), capacity, size);
 }
 
-// Returns the length of the body of a log's first record, which must have the given number. ENOENT: the log does not begin with such
-// a record. If bytes are left there, the record is truncated or corrupt.
-static inline uint8_t doorvervain_wal_next(const uint8_t *log, size_t length, uint64_t number, size_t *size) {
+// Returns the length of the body of a log's first record, which must have the given number. Fails with ENOENT if the log does not begin
+// with such a record; if it has bytes then, its first record is truncated or corrupt.
+static inline uint8_t doorvervain_wal_next(const void *log, size_t length, uint64_t number, size_t *size) {
     uint8_t err = doorvervain_wal_bad_args(log, length, NULL, 0, size);
     return err ? err : doorvervain_raw_wal_next(doorvervain_in(log), length, number, size);
 }
 
 // Dumps a body as the lines of a script that makes its changes, in their order and each with its timestamp. A punch is a comment without
-// its timestamp, since scripts have no line for it: "# punch PATH OFFSET COUNT". EINVAL: the bytes are not a body. EFBIG: a write
-// reaches past 2^64. ENOMEM.
+// its timestamp, since scripts have no line for it: "# punch PATH OFFSET COUNT". Fails with EINVAL if the bytes are not a body, with
+// EFBIG if a write reaches past 2^64, and with ENOMEM.
 static inline uint8_t doorvervain_wal_dump(
-    const uint8_t *body, size_t length, uint8_t *out, size_t capacity, size_t *size) {
+    const void *body, size_t length, void *out, size_t capacity, size_t *size) {
     uint8_t err = doorvervain_wal_bad_args(body, length, out, capacity, size);
     return err ? err
                  : doorvervain_raw_wal_dump(doorvervain_in(body), length, doorvervain_out(out), capacity, size);
 }
 
 // Applies the changes of a body, up to the first that fails: the call returns its error, and `*done` is how many were applied before it.
-// `*done` is 0 if none fails, and if the body could not be decoded, so that nothing was applied: EINVAL, the bytes are not a body;
-// ENOMEM.
+// `*done` is 0 if none fails. Also fails with EINVAL if the bytes are not a body, and with ENOMEM if it could not be decoded; `*done` is 0
+// then, and nothing was applied.
 static inline uint8_t doorvervain_wal_apply(
-    struct doorvervain *fs, const uint8_t *body, size_t length, size_t *done) {
+    struct doorvervain *fs, const void *body, size_t length, size_t *done) {
     if (!done) return DOORVERVAIN_NULL;
     *done = 0;
     uint8_t err = doorvervain_bad_args(fs, body, length);
@@ -903,8 +1075,8 @@ static inline uint8_t doorvervain_wal_apply(
 
 // Replays the valid records of a log, the first of which has the given number. `*records` is how many records were replayed, and
 // `*size` how many bytes they have. If a change fails, the call returns its error, and `*done` is how many changes of its record were
-// applied. EINVAL: the body of a record is not valid, or a number of the log may exceed 2^64.
-static inline uint8_t doorvervain_wal_replay(struct doorvervain *fs, const uint8_t *log, size_t length,
+// applied. Also fails with EINVAL if the body of a record is not valid, or if a number of the log may exceed 2^64.
+static inline uint8_t doorvervain_wal_replay(struct doorvervain *fs, const void *log, size_t length,
     uint64_t number, size_t *records, size_t *done, size_t *size) {
     if (records) *records = 0;
     if (done) *done = 0;

@@ -41,6 +41,9 @@ doorvervain = doorvervain.fsspec:DoorvervainFileSystem
 
 [fs.opener]
 doorvervain = doorvervain.pyfilesystem:DoorvervainOpener
+
+[pytest11]
+doorvervain = doorvervain.pytest_plugin
 """
 
 
@@ -63,6 +66,8 @@ def metadata() -> str:
         'Requires-Dist: fsspec; extra == "fsspec"\n'
         "Provides-Extra: pyfilesystem\n"
         'Requires-Dist: fs; extra == "pyfilesystem"\n'
+        "Provides-Extra: pytest\n"
+        'Requires-Dist: pytest; extra == "pytest"\n'
     )
 
 

@@ -24,7 +24,9 @@ fn told_by_pkg_config() -> Option<PathBuf> {
 /// library or `make UNPROVED=1` the other.
 fn near() -> Vec<PathBuf> {
     let here = env::var_os("CARGO_MANIFEST_DIR").map_or_else(PathBuf::new, PathBuf::from);
-    ["../../../../lib", "../../out/lib", "../../out/unproved/lib"].map(|it| here.join(it)).to_vec()
+    ["../../../../lib", "../../out/lib", "../../out/unproved/lib"]
+        .map(|it| here.join(it))
+        .to_vec()
 }
 
 fn has_archive(folder: &Path) -> bool {
@@ -38,7 +40,10 @@ fn build_of(archive: &Path) -> Option<String> {
     let mut places = bytes.windows(BEFORE.len()).enumerate();
     places.find_map(|(at, it)| {
         let rest = &bytes[at + BEFORE.len()..];
-        let line = rest.split(|&byte| byte == 0).next().filter(|line| it == BEFORE && !line.is_empty())?;
+        let line = rest
+            .split(|&byte| byte == 0)
+            .next()
+            .filter(|line| it == BEFORE && !line.is_empty())?;
         String::from_utf8(line.to_vec()).ok()
     })
 }

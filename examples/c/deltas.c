@@ -16,15 +16,15 @@ static const uint8_t *bytes_of(const char *words) { return (const uint8_t *)word
 static uint8_t load(struct doorvervain *fs, const char *image) {
     uint64_t line = OLD;
     return doorvervain_load(
-        fs, DOORVERVAIN_FANOUT, DOORVERVAIN_PENDING, DOORVERVAIN_LEAF, bytes_of(image), strlen(image), &line);
+        fs, DOORVERVAIN_FANOUT, DOORVERVAIN_PENDING, DOORVERVAIN_LEAF, image, strlen(image), &line);
 }
 
 static uint8_t delta(struct doorvervain *fs, const char *from, const char *to, size_t capacity, size_t *size) {
-    return doorvervain_delta(fs, bytes_of(from), strlen(from), bytes_of(to), strlen(to), text, capacity, size);
+    return doorvervain_delta(fs, from, strlen(from), to, strlen(to), text, capacity, size);
 }
 
 static uint8_t apply(struct doorvervain *fs, const char *words, uint64_t *line) {
-    return doorvervain_apply_delta(fs, bytes_of(words), strlen(words), line);
+    return doorvervain_apply_delta(fs, words, strlen(words), line);
 }
 
 static void say_delta(struct doorvervain *fs, const char *from, const char *to) {
@@ -46,8 +46,8 @@ static void say_image(struct doorvervain *fs) {
 // A snapshot, a change after it, and the delta between them.
 static void differences(struct doorvervain *fs) {
     printf("load: %d\n", load(fs, "D / 5\nF /a 3 7\nb 0 616263\nD /d 8\nF /d/x 1 9\nb 0 31\nF /z 0 3\n"));
-    printf("snapshot: %d\n", doorvervain_snapshot(fs, bytes_of("s"), 1));
-    printf("write: %d\n", doorvervain_write(fs, bytes_of("/a"), 2, 2, bytes_of("d"), 1, 9));
+    printf("snapshot: %d\n", doorvervain_snapshot(fs, "s", 1));
+    printf("write: %d\n", doorvervain_write(fs, "/a", 2, 2, "d", 1, 9));
     say_delta(fs, "s", "s");
     say_delta(fs, "", "s");
     say_delta(fs, "s", "");
@@ -73,11 +73,11 @@ static void applied(struct doorvervain *fs) {
     printf("delta: %d\n", number);
     number = doorvervain_apply_delta(fs, text, size, &line);
     printf("to the tree that it makes: %d, line %llu\n", number, (unsigned long long)line);
-    printf("restore: %d\n", doorvervain_restore(fs, bytes_of("s"), 1));
+    printf("restore: %d\n", doorvervain_restore(fs, "s", 1));
     number = doorvervain_apply_delta(fs, text, size, &line);
     printf("to the tree that it is of: %d, line %llu\n", number, (unsigned long long)line);
     say_image(fs);
-    printf("restore: %d\n", doorvervain_restore(fs, bytes_of("s"), 1));
+    printf("restore: %d\n", doorvervain_restore(fs, "s", 1));
 }
 
 static void say_refusal(struct doorvervain *fs, const char *what, const char *words) {
@@ -129,7 +129,7 @@ void *__wrap_realloc(void *old, size_t size) { return refuses() ? NULL : __real_
 static int has(struct doorvervain *fs, uint64_t length) {
     uint8_t kind;
     uint64_t size = 0, modified;
-    return !doorvervain_stat(fs, bytes_of("/a"), 2, &kind, &size, &modified) && size == length;
+    return !doorvervain_stat(fs, "/a", 2, &kind, &size, &modified) && size == length;
 }
 
 // Makes each allocation of both calls fail in turn: they return ENOMEM, and the volume is unchanged.
@@ -140,8 +140,8 @@ static void refused_memory(struct doorvervain *fs) {
     long count = 0;
     uint8_t number = DOORVERVAIN_ENOMEM;
     printf("load: %d\n", load(fs, "D / 5\nF /a 3 7\nb 0 616263\n"));
-    printf("snapshot: %d\n", doorvervain_snapshot(fs, bytes_of("s"), 1));
-    printf("truncate: %d\n", doorvervain_truncate(fs, bytes_of("/a"), 2, 1, 9));
+    printf("snapshot: %d\n", doorvervain_snapshot(fs, "s", 1));
+    printf("truncate: %d\n", doorvervain_truncate(fs, "/a", 2, 1, 9));
     while (number == DOORVERVAIN_ENOMEM && right) {
         refused_request = ++count;
         number = delta(fs, "s", "", CAPACITY, &size);
@@ -149,7 +149,7 @@ static void refused_memory(struct doorvervain *fs) {
         right = number == DOORVERVAIN_DONE || (number == DOORVERVAIN_ENOMEM && !size);
     }
     printf("a difference with each request refused: %d, %s\n", number, right && count > 9 ? "as it should be" : "not so");
-    printf("restore: %d\n", doorvervain_restore(fs, bytes_of("s"), 1));
+    printf("restore: %d\n", doorvervain_restore(fs, "s", 1));
     number = DOORVERVAIN_ENOMEM;
     for (count = 0; number == DOORVERVAIN_ENOMEM && right;) {
         refused_request = ++count;

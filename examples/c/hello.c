@@ -13,17 +13,15 @@ enum { CAPACITY = 64, GUARD = 0xa5 };
 // A buffer with guard bytes after the capacity that a call gets.
 static uint8_t buffer[2 * CAPACITY];
 
-static const uint8_t *bytes_of(const char *text) { return (const uint8_t *)text; }
-
 // Prints what a call returned.
 static void say(const char *what, uint8_t number) { printf("%s: %d\n", what, number); }
 
 static uint8_t make(struct doorvervain *fs, const char *path) {
-    return doorvervain_create(fs, bytes_of(path), strlen(path), 0);
+    return doorvervain_create(fs, path, strlen(path), 0);
 }
 
 static uint8_t put(struct doorvervain *fs, const char *path, uint64_t offset, const char *text) {
-    return doorvervain_write(fs, bytes_of(path), strlen(path), offset, bytes_of(text), strlen(text), 0);
+    return doorvervain_write(fs, path, strlen(path), offset, text, strlen(text), 0);
 }
 
 // Whether all bytes of the buffer from here on are guards.
@@ -44,48 +42,48 @@ static void say_bytes(const char *what, uint8_t number, size_t count, size_t wri
 static void say_read(const char *what, struct doorvervain *fs, const char *path, uint64_t offset, size_t capacity) {
     size_t got = 99;
     memset(buffer, GUARD, sizeof buffer);
-    uint8_t number = doorvervain_read(fs, bytes_of(path), strlen(path), offset, buffer, capacity, &got);
+    uint8_t number = doorvervain_read(fs, path, strlen(path), offset, buffer, capacity, &got);
     say_bytes(what, number, got, got);
 }
 
 static void say_frozen_read(const char *what, struct doorvervain_frozen *tree, const char *path) {
     size_t got = 99;
     memset(buffer, GUARD, sizeof buffer);
-    uint8_t number = doorvervain_frozen_read(tree, bytes_of(path), strlen(path), 0, buffer, CAPACITY, &got);
+    uint8_t number = doorvervain_frozen_read(tree, path, strlen(path), 0, buffer, CAPACITY, &got);
     say_bytes(what, number, got, got);
 }
 
 static void say_entries(const char *what, struct doorvervain *fs, const char *path, size_t capacity) {
     size_t size = 99;
     memset(buffer, GUARD, sizeof buffer);
-    uint8_t number = doorvervain_readdir(fs, bytes_of(path), strlen(path), buffer, capacity, &size);
+    uint8_t number = doorvervain_readdir(fs, path, strlen(path), buffer, capacity, &size);
     say_bytes(what, number, size, size <= capacity ? size : 0);
 }
 
 static void say_stat(const char *what, struct doorvervain *fs, const char *path) {
     uint8_t kind = 99;
     uint64_t size = 99, modified = 99;
-    uint8_t number = doorvervain_stat(fs, bytes_of(path), strlen(path), &kind, &size, &modified);
+    uint8_t number = doorvervain_stat(fs, path, strlen(path), &kind, &size, &modified);
     printf("%s: %d, kind %d, %llu bytes, mtime %llu\n", what, number, kind, (unsigned long long)size,
         (unsigned long long)modified);
 }
 
 // The eleven calls, on one volume while the other stays empty.
 static void calls(struct doorvervain *one, struct doorvervain *other) {
-    say("mkdir /d", doorvervain_mkdir(one, bytes_of("/d"), 2, 0));
-    say("mkdir /d again", doorvervain_mkdir(one, bytes_of("/d"), 2, 0));
+    say("mkdir /d", doorvervain_mkdir(one, "/d", 2, 0));
+    say("mkdir /d again", doorvervain_mkdir(one, "/d", 2, 0));
     say("create /d/x", make(one, "/d/x"));
     say("write /d/x", put(one, "/d/x", 0, "hello, world"));
     say_stat("stat /d/x", one, "/d/x");
     say_stat("stat /d/x of the other", other, "/d/x");
     say_entries("readdir / of the other", other, "/", CAPACITY);
-    say("rename /d/x /y", doorvervain_rename(one, bytes_of("/d/x"), 4, bytes_of("/y"), 2, 7));
-    say("truncate /y", doorvervain_truncate(one, bytes_of("/y"), 2, 5, 9));
+    say("rename /d/x /y", doorvervain_rename(one, "/d/x", 4, "/y", 2, 7));
+    say("truncate /y", doorvervain_truncate(one, "/y", 2, 5, 9));
     say_read("read /y", one, "/y", 0, CAPACITY);
-    say("unlink /d", doorvervain_unlink(one, bytes_of("/d"), 2, 0));
-    say("unlink /y", doorvervain_unlink(one, bytes_of("/y"), 2, 0));
-    say("rmdir /d", doorvervain_rmdir(one, bytes_of("/d"), 2, 0));
-    say("rmtree /d", doorvervain_rmtree(one, bytes_of("/d"), 2, 0));
+    say("unlink /d", doorvervain_unlink(one, "/d", 2, 0));
+    say("unlink /y", doorvervain_unlink(one, "/y", 2, 0));
+    say("rmdir /d", doorvervain_rmdir(one, "/d", 2, 0));
+    say("rmtree /d", doorvervain_rmtree(one, "/d", 2, 0));
     say_entries("readdir /", one, "/", CAPACITY);
 }
 
@@ -110,14 +108,14 @@ static void refusals(struct doorvervain *one) {
     size_t got = 99;
     say("a null path", doorvervain_mkdir(one, NULL, 3, 0));
     say("a null path of no bytes", doorvervain_mkdir(one, NULL, 0, 0));
-    say("a null buffer", doorvervain_read(one, bytes_of("/long"), 5, 0, NULL, 9, &got));
-    say("a null buffer without capacity", doorvervain_read(one, bytes_of("/long"), 5, 0, NULL, 0, &got));
-    say("a null count", doorvervain_read(one, bytes_of("/long"), 5, 0, buffer, 9, NULL));
-    say("no volume", doorvervain_mkdir(NULL, bytes_of("/d"), 2, 0));
-    say("a closed volume", doorvervain_mkdir(&closed, bytes_of("/d"), 2, 0));
-    say("a closed tree", doorvervain_frozen_read(&closed_tree, bytes_of("/long"), 5, 0, buffer, 9, &got));
-    say("no path", doorvervain_mkdir(one, bytes_of("d"), 1, 0));
-    say("no name", doorvervain_snapshot(one, bytes_of("a/b"), 3));
+    say("a null buffer", doorvervain_read(one, "/long", 5, 0, NULL, 9, &got));
+    say("a null buffer without capacity", doorvervain_read(one, "/long", 5, 0, NULL, 0, &got));
+    say("a null count", doorvervain_read(one, "/long", 5, 0, buffer, 9, NULL));
+    say("no volume", doorvervain_mkdir(NULL, "/d", 2, 0));
+    say("a closed volume", doorvervain_mkdir(&closed, "/d", 2, 0));
+    say("a closed tree", doorvervain_frozen_read(&closed_tree, "/long", 5, 0, buffer, 9, &got));
+    say("no path", doorvervain_mkdir(one, "d", 1, 0));
+    say("no name", doorvervain_snapshot(one, "a/b", 3));
     say("no shape", doorvervain_open(&closed, 1, DOORVERVAIN_PENDING, DOORVERVAIN_LEAF));
     say("as errno", (uint8_t)(doorvervain_errno(DOORVERVAIN_NULL) == EFAULT && doorvervain_errno(11) == ENOMEM));
     doorvervain_close(&closed);
@@ -127,20 +125,20 @@ static void refusals(struct doorvervain *one) {
 // A snapshot and a frozen tree stay as they were while the volume goes on.
 static void moments(struct doorvervain *one, struct doorvervain *other) {
     struct doorvervain_frozen live = {0}, kept = {0};
-    say("snapshot s", doorvervain_snapshot(one, bytes_of("s"), 1));
-    say("snapshot s again", doorvervain_snapshot(one, bytes_of("s"), 1));
+    say("snapshot s", doorvervain_snapshot(one, "s", 1));
+    say("snapshot s again", doorvervain_snapshot(one, "s", 1));
     say("write", put(one, "/long", 0, "THE FIRST"));
     say("freeze", doorvervain_freeze(one, &live));
-    say("unlink", doorvervain_unlink(one, bytes_of("/long"), 5, 0));
-    say("frozen s", doorvervain_open_snapshot(one, bytes_of("s"), 1, &kept));
-    say("frozen s of the other", doorvervain_open_snapshot(other, bytes_of("s"), 1, &(struct doorvervain_frozen){0}));
+    say("unlink", doorvervain_unlink(one, "/long", 5, 0));
+    say("frozen s", doorvervain_open_snapshot(one, "s", 1, &kept));
+    say("frozen s of the other", doorvervain_open_snapshot(other, "s", 1, &(struct doorvervain_frozen){0}));
     say_frozen_read("read of s", &kept, "/long");
     say_frozen_read("read of what was frozen", &live, "/long");
     say_stat("stat", one, "/long");
-    say("restore s", doorvervain_restore(one, bytes_of("s"), 1));
+    say("restore s", doorvervain_restore(one, "s", 1));
     say_read("read", one, "/long", 0, CAPACITY);
-    say("drop s", doorvervain_drop_snapshot(one, bytes_of("s"), 1));
-    say("restore s again", doorvervain_restore(one, bytes_of("s"), 1));
+    say("drop s", doorvervain_drop_snapshot(one, "s", 1));
+    say("restore s again", doorvervain_restore(one, "s", 1));
     say_frozen_read("read of s that was dropped", &kept, "/long");
     doorvervain_frozen_close(&kept);
     doorvervain_frozen_close(&live);
@@ -157,7 +155,7 @@ static void many(struct doorvervain *one) {
     }
     for (int i = 0; i < 2000; i++) {
         size_t got = 0, length = (size_t)snprintf(path, sizeof path, "/f%d", i);
-        uint8_t number = doorvervain_read(one, bytes_of(path), length, 0, buffer, CAPACITY, &got);
+        uint8_t number = doorvervain_read(one, path, length, 0, buffer, CAPACITY, &got);
         found += !number && got == length && !memcmp(buffer, path, length);
     }
     printf("many: %d refused, %d found\n", refused, found);
@@ -188,7 +186,7 @@ static void refused_memory(struct doorvervain *one) {
         refused_request = request;
         number = put(one, "/long", 0, "WITHOUT MEMORY");
         refused_request = 0;
-        uint8_t read = doorvervain_read(one, bytes_of("/long"), 5, 0, buffer, CAPACITY, &got);
+        uint8_t read = doorvervain_read(one, "/long", 5, 0, buffer, CAPACITY, &got);
         if (number == DOORVERVAIN_ENOMEM)
             refusals++, changed += read || got != 32 || memcmp(buffer, "the first", 9);
     }
@@ -203,7 +201,7 @@ static void refused_memory(struct doorvervain *one) {
 }
 #endif
 
-static uint8_t load(struct doorvervain *fs, const uint8_t *text, size_t length, uint64_t *line) {
+static uint8_t load(struct doorvervain *fs, const void *text, size_t length, uint64_t *line) {
     return doorvervain_load(fs, DOORVERVAIN_FANOUT, DOORVERVAIN_PENDING, DOORVERVAIN_LEAF, text, length, line);
 }
 
@@ -214,7 +212,7 @@ static void images(void) {
     struct doorvervain_frozen tree = {0};
     uint64_t line = 0;
     size_t size = 0;
-    say("load", load(&fs, bytes_of(text), strlen(text), &line));
+    say("load", load(&fs, text, strlen(text), &line));
     say_read("read", &fs, "/a/f", 0, CAPACITY);
     say("freeze", doorvervain_freeze(&fs, &tree));
     uint8_t number = doorvervain_image(&tree, buffer, CAPACITY, &size);
@@ -222,7 +220,7 @@ static void images(void) {
     printf("image: %d, %s\n", number, is_same ? "the same" : "another one");
     doorvervain_frozen_close(&tree);
     doorvervain_close(&fs);
-    say("load of no image", load(&fs, bytes_of("d /\nx\n"), 6, &line));
+    say("load of no image", load(&fs, "d /\nx\n", 6, &line));
     printf("at line %d\n", (int)line);
 }
 
@@ -239,7 +237,7 @@ int main(void) {
     many(&other);
     doorvervain_close(&one);
     say_read("read of the other, alone", &other, "/long", 0, CAPACITY);
-    say("mkdir in one that is closed", doorvervain_mkdir(&one, bytes_of("/d"), 2, 0));
+    say("mkdir in one that is closed", doorvervain_mkdir(&one, "/d", 2, 0));
     doorvervain_close(&other);
     doorvervain_close(&other);
     return 0;

@@ -12,14 +12,14 @@ enum { BLOCK = 4096, LENGTH = 3 * BLOCK + 10, OLD = 99 };
 static const uint8_t *bytes_of(const char *text) { return (const uint8_t *)text; }
 
 static uint8_t hole(struct doorvervain *fs, const char *path, uint64_t offset, uint64_t count) {
-    return doorvervain_punch(fs, bytes_of(path), strlen(path), offset, count, 7);
+    return doorvervain_punch(fs, path, strlen(path), offset, count, 7);
 }
 
 // Prints the allocated extents of a file.
 static void say_runs(const char *what, struct doorvervain *fs, const char *path) {
     uint64_t from = 0, to = 0;
     printf("%s:", what);
-    while (!doorvervain_next_extent(fs, bytes_of(path), strlen(path), to, &from, &to) && from < to)
+    while (!doorvervain_next_extent(fs, path, strlen(path), to, &from, &to) && from < to)
         printf(" %llu to %llu", (unsigned long long)from, (unsigned long long)to);
     printf(", size %llu\n", (unsigned long long)to);
 }
@@ -27,7 +27,7 @@ static void say_runs(const char *what, struct doorvervain *fs, const char *path)
 static void say_frozen_runs(const char *what, struct doorvervain_frozen *tree, const char *path) {
     uint64_t from = 0, to = 0;
     printf("%s:", what);
-    while (!doorvervain_frozen_next_extent(tree, bytes_of(path), strlen(path), to, &from, &to) && from < to)
+    while (!doorvervain_frozen_next_extent(tree, path, strlen(path), to, &from, &to) && from < to)
         printf(" %llu to %llu", (unsigned long long)from, (unsigned long long)to);
     printf(", size %llu\n", (unsigned long long)to);
 }
@@ -38,14 +38,14 @@ static void say_bytes(struct doorvervain *fs, const char *path) {
     size_t got = 0;
     uint8_t kind;
     uint64_t size, modified;
-    uint8_t number = doorvervain_read(fs, bytes_of(path), strlen(path), 0, buffer, sizeof buffer, &got);
+    uint8_t number = doorvervain_read(fs, path, strlen(path), 0, buffer, sizeof buffer, &got);
     printf("  read %d:", number);
     for (size_t from = 0, to = 0; from < got; from = to) {
         while (to < got && buffer[to] == buffer[from])
             to++;
         printf(" %zu of %c", to - from, buffer[from] ? buffer[from] : '0');
     }
-    number = doorvervain_stat(fs, bytes_of(path), strlen(path), &kind, &size, &modified);
+    number = doorvervain_stat(fs, path, strlen(path), &kind, &size, &modified);
     printf("; stat %d, mtime %llu\n", number, (unsigned long long)modified);
 }
 
@@ -56,8 +56,8 @@ static uint8_t fill(struct doorvervain *fs, const char *path) {
     memset(bytes + BLOCK, 'b', BLOCK);
     memset(bytes + 2 * BLOCK, 'c', BLOCK);
     memset(bytes + 3 * BLOCK, 'd', 10);
-    uint8_t number = doorvervain_create(fs, bytes_of(path), strlen(path), 2);
-    return number ? number : doorvervain_write(fs, bytes_of(path), strlen(path), 0, bytes, sizeof bytes, 3);
+    uint8_t number = doorvervain_create(fs, path, strlen(path), 2);
+    return number ? number : doorvervain_write(fs, path, strlen(path), 0, bytes, sizeof bytes, 3);
 }
 
 static void say_hole(struct doorvervain *fs, const char *path, uint64_t offset, uint64_t count) {
@@ -72,25 +72,25 @@ static void holes(struct doorvervain *fs) {
     struct doorvervain_frozen kept = {0};
     printf("fill: %d\n", fill(fs, "/f"));
     say_runs("stored", fs, "/f");
-    printf("snapshot: %d\n", doorvervain_snapshot(fs, bytes_of("s"), 1));
+    printf("snapshot: %d\n", doorvervain_snapshot(fs, "s", 1));
     say_hole(fs, "/f", LENGTH, 5);
     say_hole(fs, "/f", BLOCK, BLOCK);
     say_hole(fs, "/f", 10, 20);
     say_hole(fs, "/f", 2 * BLOCK - 1, 2);
     say_hole(fs, "/f", 2 * BLOCK, UINT64_MAX);
     say_hole(fs, "/f", 0, (uint64_t)1 << 40);
-    printf("frozen: %d\n", doorvervain_open_snapshot(fs, bytes_of("s"), 1, &kept));
+    printf("frozen: %d\n", doorvervain_open_snapshot(fs, "s", 1, &kept));
     say_frozen_runs("stored of the snapshot", &kept, "/f");
     doorvervain_frozen_close(&kept);
-    printf("restore: %d\n", doorvervain_restore(fs, bytes_of("s"), 1));
+    printf("restore: %d\n", doorvervain_restore(fs, "s", 1));
     say_bytes(fs, "/f");
 }
 
 // A file of 2^40 bytes of which one is stored.
 static void sparse(struct doorvervain *fs) {
     uint64_t last = ((uint64_t)1 << 40) - 1;
-    printf("create: %d\n", doorvervain_create(fs, bytes_of("/large"), 6, 1));
-    printf("write: %d\n", doorvervain_write(fs, bytes_of("/large"), 6, last, bytes_of("x"), 1, 2));
+    printf("create: %d\n", doorvervain_create(fs, "/large", 6, 1));
+    printf("write: %d\n", doorvervain_write(fs, "/large", 6, last, "x", 1, 2));
     say_runs("stored", fs, "/large");
     printf("hole: %d\n", hole(fs, "/large", 1, last));
     say_runs("stored", fs, "/large");
@@ -108,19 +108,19 @@ static void refusals(struct doorvervain *fs) {
     struct doorvervain closed = {0};
     struct doorvervain_frozen closed_tree = {0};
     uint64_t from = OLD, to = OLD;
-    printf("mkdir: %d\n", doorvervain_mkdir(fs, bytes_of("/d"), 2, 1));
+    printf("mkdir: %d\n", doorvervain_mkdir(fs, "/d", 2, 1));
     say_refusal(fs, "/");
     say_refusal(fs, "/d");
     say_refusal(fs, "/d/x");
     say_refusal(fs, "/f/x");
     say_refusal(fs, "f");
-    printf("no volume: %d, %d\n", hole(NULL, "/f", 0, 1), doorvervain_next_extent(NULL, bytes_of("/f"), 2, 0, &from, &to));
+    printf("no volume: %d, %d\n", hole(NULL, "/f", 0, 1), doorvervain_next_extent(NULL, "/f", 2, 0, &from, &to));
     printf("a closed volume: %d, %d\n", hole(&closed, "/f", 0, 1),
-        doorvervain_next_extent(&closed, bytes_of("/f"), 2, 0, &from, &to));
-    printf("a closed tree: %d\n", doorvervain_frozen_next_extent(&closed_tree, bytes_of("/f"), 2, 0, &from, &to));
+        doorvervain_next_extent(&closed, "/f", 2, 0, &from, &to));
+    printf("a closed tree: %d\n", doorvervain_frozen_next_extent(&closed_tree, "/f", 2, 0, &from, &to));
     printf("a null path: %d, %d\n", doorvervain_punch(fs, NULL, 2, 0, 1, 7), doorvervain_next_extent(fs, NULL, 2, 0, &from, &to));
-    printf("a null result: %d, %d\n", doorvervain_next_extent(fs, bytes_of("/f"), 2, 0, NULL, &to),
-        doorvervain_next_extent(fs, bytes_of("/f"), 2, 0, &from, NULL));
+    printf("a null result: %d, %d\n", doorvervain_next_extent(fs, "/f", 2, 0, NULL, &to),
+        doorvervain_next_extent(fs, "/f", 2, 0, &from, NULL));
 }
 
 #ifdef REFUSE
@@ -145,14 +145,14 @@ static void refused_memory(struct doorvervain *fs) {
         refused_request = request;
         number = hole(fs, "/f", 10, 2 * BLOCK);
         refused_request = 0;
-        changed += number && (doorvervain_next_extent(fs, bytes_of("/f"), 2, 0, &from, &to) || from != 0 || to != LENGTH);
+        changed += number && (doorvervain_next_extent(fs, "/f", 2, 0, &from, &to) || from != 0 || to != LENGTH);
         refusals += number != 0;
     }
     printf("a hole without memory: %s, %d changed, then %d\n", refusals ? "refused" : "not refused", changed, number);
     number = DOORVERVAIN_ENOMEM;
     for (long request = 1; number == DOORVERVAIN_ENOMEM; request++) {
         refused_request = request;
-        number = doorvervain_next_extent(fs, bytes_of("/f"), 2, 0, &from, &to);
+        number = doorvervain_next_extent(fs, "/f", 2, 0, &from, &to);
         refused_request = 0;
         changed += number && (from || to);
     }

@@ -10,8 +10,6 @@
 
 enum { FIRST = 5, RECORDS = 3, CAPACITY = 512, OLD = 99 };
 
-static const uint8_t *bytes_of(const char *text) { return (const uint8_t *)text; }
-
 // A log in memory.
 struct log {
     uint8_t at[CAPACITY];
@@ -38,13 +36,13 @@ static uint8_t write_log(struct log *log) {
     uint8_t body[CAPACITY];
     size_t size, more;
     *log = (struct log){.next = FIRST};
-    uint8_t number = doorvervain_wal_mkdir(bytes_of("/a"), 2, 7, body, sizeof body, &size);
+    uint8_t number = doorvervain_wal_mkdir("/a", 2, 7, body, sizeof body, &size);
     if (!number) number = append(log, body, size);
-    if (!number) number = doorvervain_wal_create(bytes_of("/a/x"), 4, 8, body, sizeof body, &size);
+    if (!number) number = doorvervain_wal_create("/a/x", 4, 8, body, sizeof body, &size);
     if (!number)
-        number = doorvervain_wal_write(bytes_of("/a/x"), 4, 2, bytes_of("hi"), 2, 9, body + size, sizeof body - size, &more);
+        number = doorvervain_wal_write("/a/x", 4, 2, "hi", 2, 9, body + size, sizeof body - size, &more);
     if (!number) number = append(log, body, size + more);
-    if (!number) number = doorvervain_wal_snapshot(bytes_of("s"), 1, body, sizeof body, &size);
+    if (!number) number = doorvervain_wal_snapshot("s", 1, body, sizeof body, &size);
     return number ? number : append(log, body, size);
 }
 
@@ -66,7 +64,7 @@ static struct found replay(const uint8_t *log, size_t length, uint64_t first) {
     uint64_t modified;
     if (new_volume(&fs)) return found;
     found.number = doorvervain_wal_replay(&fs, log, length, first, &found.records, &found.done, &found.size);
-    doorvervain_stat(&fs, bytes_of("/a/x"), 4, &kind, &found.length, &modified);
+    doorvervain_stat(&fs, "/a/x", 4, &kind, &found.length, &modified);
     doorvervain_close(&fs);
     return found;
 }
@@ -125,12 +123,12 @@ static void say_all_lines(const struct log *log) {
         say_lines("lines", log->at + at + DOORVERVAIN_WAL_HEADER, size, CAPACITY);
         at += DOORVERVAIN_WAL_HEADER + size + DOORVERVAIN_WAL_TRAILER;
     }
-    doorvervain_wal_punch(bytes_of("/a b"), 4, 3, 4, 5, body, sizeof body, &size);
+    doorvervain_wal_punch("/a b", 4, 3, 4, 5, body, sizeof body, &size);
     say_lines("a hole", body, size, CAPACITY);
     say_lines("one byte too few", body, size, 18);
     say_lines("no capacity", body, size, 0);
     say_lines("no body", body, size - 1, CAPACITY);
-    doorvervain_wal_write(bytes_of("/a"), 2, UINT64_MAX, bytes_of("x"), 1, 5, body, sizeof body, &size);
+    doorvervain_wal_write("/a", 2, UINT64_MAX, "x", 1, 5, body, sizeof body, &size);
     say_lines("too far", body, size, CAPACITY);
 }
 
@@ -146,26 +144,26 @@ static void say_refusals(void) {
     uint8_t out[CAPACITY] = {OLD};
     struct doorvervain fs = {0};
     size_t size = OLD, done = OLD;
-    int number = doorvervain_wal_rmdir(bytes_of(""), 0, 1, out, sizeof out, &size);
+    int number = doorvervain_wal_rmdir("", 0, 1, out, sizeof out, &size);
     printf("no text: %d, size %zu", number, size);
-    number = doorvervain_wal_rename(bytes_of("/a"), 2, bytes_of("b"), 1, 1, out, sizeof out, &size);
+    number = doorvervain_wal_rename("/a", 2, "b", 1, 1, out, sizeof out, &size);
     printf("; no path: %d, size %zu", number, size);
-    number = doorvervain_wal_drop(bytes_of("/"), 1, out, sizeof out, &size);
+    number = doorvervain_wal_drop("/", 1, out, sizeof out, &size);
     printf("; no name: %d, size %zu, first byte %d\n", number, size, out[0]);
-    number = doorvervain_wal_truncate(bytes_of("/a"), 2, 3, 4, out, 49, &size);
+    number = doorvervain_wal_truncate("/a", 2, 3, 4, out, 49, &size);
     printf("short: %d, size %zu, first byte %d", number, size, out[0]);
-    number = doorvervain_wal_punch(bytes_of("/a"), 2, 3, 4, 5, NULL, 0, &size);
+    number = doorvervain_wal_punch("/a", 2, 3, 4, 5, NULL, 0, &size);
     printf("; no capacity: %d, size %zu", number, size);
-    number = doorvervain_wal_unlink(bytes_of("/a"), 2, 3, NULL, 1, &size);
+    number = doorvervain_wal_unlink("/a", 2, 3, NULL, 1, &size);
     printf("; null: %d\n", number);
     if (new_volume(&fs)) return;
-    number = doorvervain_wal_apply(&fs, bytes_of("none"), 4, &done);
+    number = doorvervain_wal_apply(&fs, "none", 4, &done);
     printf("no body: %d, done %zu", number, done);
-    doorvervain_wal_mkdir(bytes_of("/a"), 2, 7, out, sizeof out, &size);
-    doorvervain_wal_rmtree(bytes_of("/b"), 2, 7, out + size, sizeof out - size, &size);
+    doorvervain_wal_mkdir("/a", 2, 7, out, sizeof out, &size);
+    doorvervain_wal_rmtree("/b", 2, 7, out + size, sizeof out - size, &size);
     number = doorvervain_wal_apply(&fs, out, 50 + size, &done);
     printf("; refused: %d, done %zu\n", number, done);
-    doorvervain_wal_restore(bytes_of("s"), 1, out, sizeof out, &size);
+    doorvervain_wal_restore("s", 1, out, sizeof out, &size);
     number = doorvervain_wal_apply(&fs, out, size, &done);
     printf("no snapshot: %d, done %zu\n", number, done);
     doorvervain_close(&fs);
@@ -194,7 +192,7 @@ static int keeps_its_word(const struct log *log, long grant, uint8_t *number) {
     left = grant;
     *number = doorvervain_wal_replay(&fs, log->at, log->length, FIRST, &records, &done, &size);
     left = -1;
-    uint8_t stands = doorvervain_stat(&fs, bytes_of("/a/x"), 4, &kind, &length, &modified);
+    uint8_t stands = doorvervain_stat(&fs, "/a/x", 4, &kind, &length, &modified);
     int has_file = records > 1 || (records == 1 && done > 0);
     doorvervain_close(&fs);
     return (*number == 0 || *number == DOORVERVAIN_ENOMEM) && (stands == 0) == has_file;

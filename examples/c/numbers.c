@@ -123,7 +123,7 @@ static void read_numbers(struct doorvervain *fs) {
     READ_REFUSAL(ENOSPC, one_snapshot_more(fs));
     READ_REFUSAL(ERANGE, list_into_a_byte(fs));
     read_outcome("NULL", DOORVERVAIN_NULL, EFAULT, doorvervain_mkdir(fs, NULL, 3, 0));
-    read_outcome("CLOSED", DOORVERVAIN_CLOSED, EBADF, doorvervain_mkdir(&closed, bytes_of("/e"), 2, 0));
+    read_outcome("CLOSED", DOORVERVAIN_CLOSED, EBADF, doorvervain_mkdir(&closed, "/e", 2, 0));
     read_number("DIRECTORY", DOORVERVAIN_DIRECTORY, kind_of(fs, "/d"));
     read_number("FILE", DOORVERVAIN_FILE, kind_of(fs, "/d/f"));
 }
@@ -374,12 +374,12 @@ static void leave_out(struct doorvervain *fs) {
     struct doorvervain loaded = {&loaded};
     uint8_t kind = OLD;
     uint64_t size = OLD, line = OLD;
-    uint8_t number = doorvervain_stat(fs, bytes_of("/d"), 2, &kind, &size, NULL);
+    uint8_t number = doorvervain_stat(fs, "/d", 2, &kind, &size, NULL);
     printf("stat without a mtime: %d, kind %d, %llu bytes\n", number, kind, (unsigned long long)size);
     number = doorvervain_load(&loaded, 16, 256, 256, NULL, 9, &line);
     printf("load of a null text: %d at line %llu, %s\n", number, (unsigned long long)line, state_of(loaded.ptr));
     loaded.ptr = &loaded;
-    number = doorvervain_load(&loaded, 16, 256, 256, bytes_of("D / 5\n"), 6, NULL);
+    number = doorvervain_load(&loaded, 16, 256, 256, "D / 5\n", 6, NULL);
     printf("load without a line: %d, %s\n", number, state_of(loaded.ptr));
 }
 
@@ -389,8 +389,8 @@ static void lack(void) {
     struct doorvervain_frozen closed_tree = {0};
     uint8_t buffer[CAPACITY];
     size_t size = OLD;
-    printf("no volume: %d and %u steps, and a closed one: %d and %u steps\n", doorvervain_snapshot(NULL, buffer, 1),
-        doorvervain_compact(NULL, 1), doorvervain_snapshot(&closed, buffer, 1), doorvervain_compact(&closed, 1));
+    printf("no volume: %d and %u steps, and a closed one: %d and %u steps\n", doorvervain_snapshot(NULL, "x", 1),
+        doorvervain_compact(NULL, 1), doorvervain_snapshot(&closed, "x", 1), doorvervain_compact(&closed, 1));
     printf("no tree: %d, and a closed one: %d\n", doorvervain_image(NULL, buffer, CAPACITY, &size),
         doorvervain_image(&closed_tree, buffer, CAPACITY, &size));
     printf("name in a closed volume: %d, %zu bytes\n", doorvervain_snapshot_name(&closed, 0, buffer, CAPACITY, &size), size);

@@ -14,8 +14,6 @@ struct text {
     size_t length, at, most;
 };
 
-static const uint8_t *bytes_of(const char *text) { return (const uint8_t *)text; }
-
 static int put(void *context, const uint8_t *bytes, size_t count) {
     struct text *text = context;
     if (text->length + count > text->most) return STOPPED;
@@ -37,10 +35,10 @@ static int get(void *context, uint8_t *out, size_t capacity, size_t *got) {
 static uint8_t fill(struct doorvervain *fs) {
     static uint8_t bytes[LONG];
     memset(bytes, 'x', sizeof bytes);
-    uint8_t number = doorvervain_mkdir(fs, bytes_of("/a"), 2, 1);
-    if (!number) number = doorvervain_create(fs, bytes_of("/a/f"), 4, 2);
-    if (!number) number = doorvervain_write(fs, bytes_of("/a/f"), 4, 0, bytes, sizeof bytes, 3);
-    return number ? number : doorvervain_create(fs, bytes_of("/z"), 2, 4);
+    uint8_t number = doorvervain_mkdir(fs, "/a", 2, 1);
+    if (!number) number = doorvervain_create(fs, "/a/f", 4, 2);
+    if (!number) number = doorvervain_write(fs, "/a/f", 4, 0, bytes, sizeof bytes, 3);
+    return number ? number : doorvervain_create(fs, "/z", 2, 4);
 }
 
 // The image of the live tree in pieces of the given number of bytes.
@@ -107,17 +105,17 @@ static void refusals(void) {
     uint8_t number = doorvervain_load_begin(&loading, 3, 256, 256);
     printf("a bad shape: %d, %s\n", number, loading.ptr ? "open" : "closed");
     printf("begin: %d", doorvervain_load_begin(&loading, 16, 256, 256));
-    number = doorvervain_load_feed(&loading, bytes_of("D / 0\nD /"), 9, &line);
+    number = doorvervain_load_feed(&loading, "D / 0\nD /", 9, &line);
     printf(", a piece: %d at line %llu", number, (unsigned long long)line);
-    number = doorvervain_load_feed(&loading, bytes_of("a 0\nx\nD"), 7, &line);
+    number = doorvervain_load_feed(&loading, "a 0\nx\nD", 7, &line);
     printf(", a bad one: %d at line %llu", number, (unsigned long long)line);
-    number = doorvervain_load_feed(&loading, bytes_of("D / 0\n"), 6, &line);
+    number = doorvervain_load_feed(&loading, "D / 0\n", 6, &line);
     printf(", one behind it: %d at line %llu", number, (unsigned long long)line);
     number = doorvervain_load_finish(&fs, &loading, &line);
     printf(", the end: %d at line %llu, %s, %s\n", number, (unsigned long long)line, fs.ptr ? "open" : "closed",
         loading.ptr ? "open" : "closed");
     (void)doorvervain_load_begin(&loading, 16, 256, 256);
-    (void)doorvervain_load_feed(&loading, bytes_of("D / 0\nD /a"), 10, &line);
+    (void)doorvervain_load_feed(&loading, "D / 0\nD /a", 10, &line);
     number = doorvervain_load_finish(&fs, &loading, &line);
     printf("a line that is cut: %d at line %llu\n", number, (unsigned long long)line);
     (void)doorvervain_load_begin(&loading, 16, 256, 256);

@@ -25,10 +25,10 @@ static bool is_private(const char *path) {
     return !strncmp(path, PRIVATE_PATH, length) && path[length] == '/';
 }
 
-static int form_path(uint8_t (*form)(const uint8_t *, size_t, uint8_t *, size_t, size_t *), const char *path,
+static int form_path(uint8_t (*form)(const char *, size_t, void *, size_t, size_t *), const char *path,
                      char out[LONGEST_PATH + 1]) {
     size_t size = 0;
-    uint8_t number = form((const uint8_t *)path, strlen(path), (uint8_t *)out, LONGEST_PATH, &size);
+    uint8_t number = form(path, strlen(path), out, LONGEST_PATH, &size);
     out[size < LONGEST_PATH ? size : LONGEST_PATH] = 0;
     return doorvervain_errno(number);
 }

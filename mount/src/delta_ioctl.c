@@ -16,13 +16,11 @@
 
 enum { REST = 100000, MOST_AT_ONCE = 1 << 17 }; // nanoseconds, bytes
 
-static const uint8_t *text(const char *word) { return (const uint8_t *)word; }
-
 // ---- a difference is printed
 
 static int open_tree(struct mount *mount, const char *name, struct doorvervain_printer *out) {
     struct doorvervain_frozen tree;
-    uint8_t number = doorvervain_open_snapshot(mount->backend.tree, text(name), strlen(name), &tree);
+    uint8_t number = doorvervain_open_snapshot(mount->backend.tree, name, strlen(name), &tree);
     return doorvervain_errno(number ? number : doorvervain_print_begin(out, &tree));
 }
 

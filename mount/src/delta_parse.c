@@ -251,7 +251,7 @@ static int read_all(struct delta_parser *parser, struct doorvervain *tree) {
 // The library is asked to apply the text to a tree that the mount has not: so it tells the first line that is bad, and
 // does no more.
 int delta_find_bad_line(const struct bytes *given, uint64_t *line) {
-    static const uint8_t other[] = "/another-tree";
+    static const char other[] = "/another-tree";
     struct doorvervain tree;
     *line = 0;
     uint8_t number = doorvervain_open(&tree, DOORVERVAIN_FANOUT, DOORVERVAIN_PENDING, DOORVERVAIN_LEAF);

@@ -30,8 +30,6 @@ struct library {
     char snapshot[LONGEST_SNAPSHOT + 1];
 };
 
-static const uint8_t *text(const char *word) { return (const uint8_t *)word; }
-
 // What a call's number says in <errno.h>. Behind some changes steps of the tree are due: a step that moves one change
 // down takes about as long as one that moves many.
 static int done_many(struct library *library, uint8_t number, size_t changes) {
@@ -46,28 +44,28 @@ static int done_many(struct library *library, uint8_t number, size_t changes) {
 static int done(struct library *library, uint8_t number) { return done_many(library, number, 1); }
 
 static int library_change(void *self, enum path_call what, const char *path, uint64_t at) {
-    static uint8_t (*const calls[])(struct doorvervain *, const uint8_t *, size_t, uint64_t) = {
+    static uint8_t (*const calls[])(struct doorvervain *, const char *, size_t, uint64_t) = {
         [CALL_MKDIR] = doorvervain_mkdir, [CALL_CREATE] = doorvervain_create, [CALL_UNLINK] = doorvervain_unlink,
         [CALL_RMDIR] = doorvervain_rmdir, [CALL_RMTREE] = doorvervain_rmtree,
     };
     struct library *library = self;
-    return done(library, calls[what](&library->volume, text(path), strlen(path), at));
+    return done(library, calls[what](&library->volume, path, strlen(path), at));
 }
 
 static int library_rename(void *self, const char *from, const char *to, uint64_t at) {
     struct library *library = self;
-    return done(library, doorvervain_rename(&library->volume, text(from), strlen(from), text(to), strlen(to), at));
+    return done(library, doorvervain_rename(&library->volume, from, strlen(from), to, strlen(to), at));
 }
 
 static int library_truncate(void *self, const char *path, uint64_t length, uint64_t at) {
     struct library *library = self;
-    return done(library, doorvervain_truncate(&library->volume, text(path), strlen(path), length, at));
+    return done(library, doorvervain_truncate(&library->volume, path, strlen(path), length, at));
 }
 
 static int library_write(void *self, const char *path, uint64_t offset, const char *bytes, size_t count, uint64_t at,
                          size_t *written) {
     struct library *library = self;
-    uint8_t number = doorvervain_write(&library->volume, text(path), strlen(path), offset, text(bytes), count, at);
+    uint8_t number = doorvervain_write(&library->volume, path, strlen(path), offset, bytes, count, at);
     int err = done_many(library, number, 1 + count / BLOCK);
     *written = err ? 0 : count;
     return err;
@@ -83,7 +81,7 @@ static int look_into(struct library *library, const char *snapshot) {
     if (!strcmp(library->snapshot, snapshot)) return 0;
     if (strlen(snapshot) > LONGEST_SNAPSHOT) return ENOENT;
     forget_tree(library);
-    uint8_t number = doorvervain_open_snapshot(&library->volume, text(snapshot), strlen(snapshot), &library->tree);
+    uint8_t number = doorvervain_open_snapshot(&library->volume, snapshot, strlen(snapshot), &library->tree);
     if (number) return doorvervain_errno(number);
     text_copy(library->snapshot, sizeof library->snapshot, snapshot);
     return 0;
@@ -96,9 +94,9 @@ static int library_read(void *self, struct path_ref ref, uint64_t offset, char *
     if (err) return err;
     if (ref.snapshot)
         return doorvervain_errno(
-            doorvervain_frozen_read(&library->tree, text(ref.path), length, offset, (uint8_t *)out, capacity, got));
+            doorvervain_frozen_read(&library->tree, ref.path, length, offset, (uint8_t *)out, capacity, got));
     return doorvervain_errno(
-        doorvervain_read(&library->volume, text(ref.path), length, offset, (uint8_t *)out, capacity, got));
+        doorvervain_read(&library->volume, ref.path, length, offset, (uint8_t *)out, capacity, got));
 }
 
 static int library_stat(void *self, struct path_ref ref, struct node_stat *out) {
@@ -108,8 +106,8 @@ static int library_stat(void *self, struct path_ref ref, struct node_stat *out) 
     int err = ref.snapshot ? look_into(library, ref.snapshot) : 0;
     if (err) return err;
     if (ref.snapshot)
-        number = doorvervain_frozen_stat(&library->tree, text(ref.path), length, &kind, &out->length, &out->mtime_ns);
-    else number = doorvervain_stat(&library->volume, text(ref.path), length, &kind, &out->length, &out->mtime_ns);
+        number = doorvervain_frozen_stat(&library->tree, ref.path, length, &kind, &out->length, &out->mtime_ns);
+    else number = doorvervain_stat(&library->volume, ref.path, length, &kind, &out->length, &out->mtime_ns);
     out->is_directory = kind == 1;
     return doorvervain_errno(number);
 }
@@ -118,8 +116,8 @@ static int library_stat(void *self, struct path_ref ref, struct node_stat *out) 
 static uint8_t list_once(struct library *library, struct path_ref ref, struct bytes *out, size_t *size) {
     uint8_t *to = (uint8_t *)out->at + out->length;
     size_t length = strlen(ref.path), capacity = out->capacity - out->length;
-    if (ref.snapshot) return doorvervain_frozen_readdir(&library->tree, text(ref.path), length, to, capacity, size);
-    return doorvervain_readdir(&library->volume, text(ref.path), length, to, capacity, size);
+    if (ref.snapshot) return doorvervain_frozen_readdir(&library->tree, ref.path, length, to, capacity, size);
+    return doorvervain_readdir(&library->volume, ref.path, length, to, capacity, size);
 }
 
 static int library_readdir(void *self, struct path_ref ref, struct bytes *out) {
@@ -137,19 +135,19 @@ static int library_readdir(void *self, struct path_ref ref, struct bytes *out) {
 }
 
 static int library_snapshot(void *self, enum snapshot_call what, const char *snapshot) {
-    static uint8_t (*const calls[])(struct doorvervain *, const uint8_t *, size_t) = {
+    static uint8_t (*const calls[])(struct doorvervain *, const char *, size_t) = {
         [TAKE_SNAPSHOT] = doorvervain_snapshot,
         [DROP_SNAPSHOT] = doorvervain_drop_snapshot,
         [RESTORE_SNAPSHOT] = doorvervain_restore,
     };
     struct library *library = self;
     if (what == DROP_SNAPSHOT && !strcmp(library->snapshot, snapshot)) forget_tree(library);
-    return done(library, calls[what](&library->volume, text(snapshot), strlen(snapshot)));
+    return done(library, calls[what](&library->volume, snapshot, strlen(snapshot)));
 }
 
 static int library_punch(void *self, const char *path, uint64_t offset, uint64_t count, uint64_t at) {
     struct library *library = self;
-    return done(library, doorvervain_punch(&library->volume, text(path), strlen(path), offset, count, at));
+    return done(library, doorvervain_punch(&library->volume, path, strlen(path), offset, count, at));
 }
 
 static int library_next_extent(void *self, struct path_ref ref, uint64_t offset, struct extent *out) {
@@ -159,9 +157,9 @@ static int library_next_extent(void *self, struct path_ref ref, uint64_t offset,
     if (err) return err;
     if (ref.snapshot)
         return doorvervain_errno(
-            doorvervain_frozen_next_extent(&library->tree, text(ref.path), length, offset, &out->from, &out->to));
+            doorvervain_frozen_next_extent(&library->tree, ref.path, length, offset, &out->from, &out->to));
     return doorvervain_errno(
-        doorvervain_next_extent(&library->volume, text(ref.path), length, offset, &out->from, &out->to));
+        doorvervain_next_extent(&library->volume, ref.path, length, offset, &out->from, &out->to));
 }
 
 static int put(void *image, const uint8_t *bytes, size_t count) { return image_put(image, (const char *)bytes, count); }

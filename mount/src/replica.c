@@ -14,7 +14,7 @@
 #include <unistd.h>
 
 // The snapshot of the library by which the tree is kept that is taken back. No user's has it.
-static const uint8_t KEPT[] = "kept";
+static const char KEPT[] = "kept";
 enum { KEPT_LENGTH = sizeof KEPT - 1 };
 
 // ---- the tree before a pass

@@ -92,7 +92,7 @@ int store_find_snapshots(struct store *store) {
 // ---- their trees at one moment
 
 static int freeze(struct store *store, const char *name, struct doorvervain_frozen *out) {
-    return doorvervain_errno(doorvervain_open_snapshot(store->volume, (const uint8_t *)name, strlen(name), out));
+    return doorvervain_errno(doorvervain_open_snapshot(store->volume, name, strlen(name), out));
 }
 
 int store_freeze_snapshots(struct store *store, struct frozen_snapshots *out) {

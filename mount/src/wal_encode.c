@@ -10,8 +10,6 @@
 // What an entry takes beside its texts.
 enum { ENTRY = DOORVERVAIN_WAL_ENTRY };
 
-static const uint8_t *text(const char *word) { return (const uint8_t *)word; }
-
 static uint8_t *end_of(struct bytes *out) { return (uint8_t *)out->at + out->length; }
 
 // The room for an entry whose texts have so many bytes.
@@ -24,35 +22,35 @@ static int put(struct bytes *out, uint8_t number, const size_t *size) {
 }
 
 int wal_encode_change(struct bytes *out, enum path_call what, const char *path, uint64_t at) {
-    static uint8_t (*const calls[])(const uint8_t *, size_t, uint64_t, uint8_t *, size_t, size_t *) = {
+    static uint8_t (*const calls[])(const char *, size_t, uint64_t, void *, size_t, size_t *) = {
         [CALL_MKDIR] = doorvervain_wal_mkdir,   [CALL_CREATE] = doorvervain_wal_create,
         [CALL_UNLINK] = doorvervain_wal_unlink, [CALL_RMDIR] = doorvervain_wal_rmdir,
         [CALL_RMTREE] = doorvervain_wal_rmtree,
     };
     size_t length = strlen(path), size = 0;
     if (reserve(out, length)) return ENOMEM;
-    return put(out, calls[what](text(path), length, at, end_of(out), ENTRY + length, &size), &size);
+    return put(out, calls[what](path, length, at, end_of(out), ENTRY + length, &size), &size);
 }
 
 int wal_encode_rename(struct bytes *out, const char *from, const char *to, uint64_t at) {
     size_t length = strlen(from), other = strlen(to), size = 0;
     if (reserve(out, length + other)) return ENOMEM;
     uint8_t number =
-        doorvervain_wal_rename(text(from), length, text(to), other, at, end_of(out), ENTRY + length + other, &size);
+        doorvervain_wal_rename(from, length, to, other, at, end_of(out), ENTRY + length + other, &size);
     return put(out, number, &size);
 }
 
 int wal_encode_truncate(struct bytes *out, const char *path, uint64_t bytes, uint64_t at) {
     size_t length = strlen(path), size = 0;
     if (reserve(out, length)) return ENOMEM;
-    return put(out, doorvervain_wal_truncate(text(path), length, bytes, at, end_of(out), ENTRY + length, &size), &size);
+    return put(out, doorvervain_wal_truncate(path, length, bytes, at, end_of(out), ENTRY + length, &size), &size);
 }
 
 int wal_encode_write(struct bytes *out, const char *path, uint64_t offset, const char *bytes, size_t count,
                      uint64_t at) {
     size_t length = strlen(path), size = 0;
     if (reserve(out, length + count)) return ENOMEM;
-    uint8_t number = doorvervain_wal_write(text(path), length, offset, text(bytes), count, at, end_of(out),
+    uint8_t number = doorvervain_wal_write(path, length, offset, bytes, count, at, end_of(out),
                                            ENTRY + length + count, &size);
     return put(out, number, &size);
 }
@@ -60,24 +58,24 @@ int wal_encode_write(struct bytes *out, const char *path, uint64_t offset, const
 int wal_encode_punch(struct bytes *out, const char *path, uint64_t offset, uint64_t count, uint64_t at) {
     size_t length = strlen(path), size = 0;
     if (reserve(out, length)) return ENOMEM;
-    uint8_t number = doorvervain_wal_punch(text(path), length, offset, count, at, end_of(out), ENTRY + length, &size);
+    uint8_t number = doorvervain_wal_punch(path, length, offset, count, at, end_of(out), ENTRY + length, &size);
     return put(out, number, &size);
 }
 
 int wal_encode_snapshot(struct bytes *out, enum snapshot_call what, const char *snapshot) {
-    static uint8_t (*const calls[])(const uint8_t *, size_t, uint8_t *, size_t, size_t *) = {
+    static uint8_t (*const calls[])(const char *, size_t, void *, size_t, size_t *) = {
         [TAKE_SNAPSHOT] = doorvervain_wal_snapshot,
         [DROP_SNAPSHOT] = doorvervain_wal_drop,
         [RESTORE_SNAPSHOT] = doorvervain_wal_restore,
     };
     size_t length = strlen(snapshot), size = 0;
     if (reserve(out, length)) return ENOMEM;
-    return put(out, calls[what](text(snapshot), length, end_of(out), ENTRY + length, &size), &size);
+    return put(out, calls[what](snapshot, length, end_of(out), ENTRY + length, &size), &size);
 }
 
 int wal_frame(struct record_frame *out, uint64_t number, const char *calls, size_t length) {
     size_t size = 0;
-    return doorvervain_errno(doorvervain_wal_frame(number, text(calls), length, out->ends, sizeof out->ends, &size));
+    return doorvervain_errno(doorvervain_wal_frame(number, calls, length, out->ends, sizeof out->ends, &size));
 }
 
 int wal_put_record(struct bytes *out, const struct record_frame *frame, const char *calls, size_t length) {
@@ -104,7 +102,7 @@ bool wal_find_sync_marker(const char *log, size_t length, uint64_t number) {
     size_t left = length, count;
     while (left >= whole && (at = memchr(at, 'd', left - whole + 1))) {
         left = length - (size_t)(at - log);
-        if (sync_marker_at(at) > number && !doorvervain_wal_next(text(at), left, sync_marker_at(at), &count))
+        if (sync_marker_at(at) > number && !doorvervain_wal_next(at, left, sync_marker_at(at), &count))
             return true;
         at++, left--;
     }

@@ -6,7 +6,7 @@ Nothing else counts. Where a function that no edit touched is refused too, each 
 changes more than bodies, where no goal of its function is named, and where one half is that one edit, it is tried by itself, by
 `rt must-fail`.
 
-Where `rt ci` kept the proof of the crate as it stands (`cache.py`), that is not checked first: the first check of edits begins with
+Where the crate as it stands is known to be proved (`cache.py`), it is not checked first: the first check of edits begins with
 nothing, and the others with what that one left.
 """
 from __future__ import annotations
@@ -108,21 +108,6 @@ def together(edits: list[Edit], bodies: Bodies) -> tuple[list[list[Edit]], list[
     return [it[0] for it in batches], alone
 
 
-def linked(folder: Path, to: Path) -> None:
-    """Copies kept work, what was proved by links: a check replaces such a file and never writes into it."""
-
-    def copy(one: str, other: str) -> None:
-        if one.endswith(".oantt"):
-            try:
-                os.link(one, other)
-                return
-            except OSError:
-                pass
-        shutil.copy2(one, other)
-
-    shutil.copytree(folder, to, symlinks=True, copy_function=copy)
-
-
 def places() -> int:
     """How many checks the machine holds at once."""
     with open("/proc/meminfo", encoding="ascii") as file:
@@ -147,28 +132,31 @@ class Trial:
         self.room, self.repository, self.crate, self.say = room, repository, crate, say
         self.work, self.seed = crate.folder / "out/incremental", room / "seed"
         self.bodies = Bodies(crate)
-        self.is_kept = False
+        # whether the libraries of `rt ci` are at hand, and whether `rt ci` passes by what it kept
+        self.is_kept, self.passes = False, False
 
     def run(self, *words: str, where: Path) -> subprocess.CompletedProcess:
         how = {"stdin": subprocess.DEVNULL, "stdout": subprocess.PIPE, "stderr": subprocess.STDOUT, "text": True, "errors": "replace"}
         return subprocess.run(["nice", "-n", "5", *words], cwd=where, env={**os.environ, "RT_JOBS": "1"}, **how)
 
     def begin(self) -> None:
-        """Takes what `rt ci` kept. Else it checks the crate as it stands, over what checks kept, and keeps what that check leaves."""
-        self.is_kept = cache.is_given(self.repository.top)
+        """Takes what has been proved. Else it checks the crate as it stands, over what checks kept, and keeps what that check leaves."""
+        is_taken = cache.is_taken(self.repository, self.crate)
+        self.passes = not is_taken and not os.environ.get("PROVED") and cache.is_given(self.repository.top)
+        self.is_kept = is_taken or self.passes
         if self.is_kept:
             self.say(f"{self.crate.name}: its proof is kept, so it is not checked as it stands")
             return
         ran = self.check()
         if ran.returncode:
             raise NotProved("\n".join(["the crate as it stands is not proved:", *ran.stdout.rstrip().split("\n")[-12:]]))
-        linked(self.work, self.seed)
+        cache.linked(self.work, self.seed)
 
     def again(self) -> None:
         """Lets the next check begin with what the first one left, of the crate as it stands or of edits; the first with nothing."""
         shutil.rmtree(self.work, ignore_errors=True)
         if self.seed.is_dir():
-            linked(self.seed, self.work)
+            cache.linked(self.seed, self.work)
         else:
             self.work.mkdir(parents=True)
 
@@ -182,7 +170,7 @@ class Trial:
         self.again()
         said = self.check(*flags).stdout
         if not self.seed.is_dir() and ENDED in said:
-            linked(self.work, self.seed)
+            cache.linked(self.work, self.seed)
         return said
 
     def checked(self, edits: list[Edit], *flags: str) -> tuple[str, list[Edit]]:
@@ -231,8 +219,21 @@ class Trial:
 
     def alone(self, edits: list[Edit]) -> Refused:
         """The edits that are refused where each is tried by itself. It tells of the others."""
-        if not edits:
-            return {}
+        if self.is_kept and not self.passes:
+            return {edit: goals for edit in edits if (goals := self.goals_alone(edit))}
+        return self.alone_by_rt(edits) if edits else {}
+
+    def goals_alone(self, edit: Edit) -> frozenset[str]:
+        """The goals at which a check over the libraries of `rt ci` refuses one edit, of whatever functions."""
+        said, _ = self.checked([edit])
+        every = frozenset(self.bodies.all)
+        goals = verdict_of(said, self.bodies, every).goals(every) if NO_PROOF in said else frozenset()
+        if not goals:
+            self.say("\n".join([f"{edit.label}: NOT REFUSED by itself:", *said.rstrip().split("\n")[-3:]]))
+        return goals
+
+    def alone_by_rt(self, edits: list[Edit]) -> Refused:
+        """The same by `rt`, in one run."""
         folder = self.crate.folder / "must-fail"
         shutil.rmtree(folder, ignore_errors=True)
         folder.mkdir()
@@ -257,7 +258,7 @@ class Trial:
 
     def must_fail(self) -> str:
         """What is said of the edits in must-fail/: by `rt ci` where it kept the proof, else by `rt must-fail`, which builds libraries."""
-        if self.is_kept:
+        if self.passes:
             return self.run("rt", "ci", where=self.repository.top).stdout
         self.again()
         return self.run("rt", "must-fail", self.crate.name, where=self.repository.top).stdout

@@ -84,7 +84,8 @@ else:
     check(here / "out/incremental")
 '''
 # The lines of `low` on which the bodies stand.
-DOUBLE, HIDDEN, TRIPLE = (LOW[: LOW.index(it)].count("\n") + 1 for it in ("hidden(n, 'x') * 2", "if c == '{'", "n * 3"))
+AT = ("hidden(n, 'x') * 2", "if c == '{'", "n * 3", "b'}'")
+DOUBLE, HIDDEN, TRIPLE, MOST = (LOW[: LOW.index(it)].count("\n") + 1 for it in AT)
 ADDS_TWO = "file: src/lib.rt\nold: hidden(n, 'x') * 2\nnew: hidden(n, 'x') + 2\n"
 OF_A_CONSTANT = "file: src/lib.rt\nold: b'}'\nnew: b'{'\n"
 # The sample's edits of `low`, with the goals at which they are refused.
@@ -99,6 +100,9 @@ class Try:
     edits: dict[str, str]
     refused: dict[str, str]
     log: list[str]
+    # whether PROVED names a checkout of the same sources in which `rt ci` has passed, and with which text in place of another
+    is_proved: bool = False
+    other: tuple[str, str] = ("", "")
 
 
 TRIES = [
@@ -151,6 +155,31 @@ TRIES = [
         BOTH | {"most_is_another": ""},
         ["rt ci", "rattle check over nothing", "rt ci", "rt ci of most_is_another.edit"],
     ),
+    Try(
+        "a try over the libraries of another checkout",
+        {},
+        {"double_adds_two": ADDS_TWO},
+        BOTH | {"double_adds_two": "double:returns"},
+        ["rattle check over nothing", "rattle check over work-1"],
+        is_proved=True,
+    ),
+    Try(
+        "a try of a constant over the libraries of another checkout",
+        {"also": f"{MOST} {DOUBLE}\n"},
+        {"most_is_another": OF_A_CONSTANT},
+        BOTH | {"most_is_another": "double:returns"},
+        ["rattle check over nothing", "rattle check over work-1"],
+        is_proved=True,
+    ),
+    Try(
+        "a try over another checkout with other sources",
+        {},
+        {},
+        BOTH,
+        ["rt check over nothing", "rt check over work-1"],
+        is_proved=True,
+        other=("n * 3", "n * 4"),
+    ),
 ]
 
 
@@ -165,6 +194,14 @@ def make(room: Path, case: Try) -> None:
     for name in ("rt", "rattle"):
         (room / "kit/bin" / name).write_text(f"#!{sys.executable} -S\n{TOOL}", encoding="utf-8")
         (room / "kit/bin" / name).chmod(0o755)
+
+
+def make_proved(room: Path, other: tuple[str, str]) -> None:
+    """Makes a checkout with the libraries of `rt ci`, whose `low` has one text in place of another."""
+    shutil.copytree(room / "clone", room / "proved")
+    for name in ("ground", "base"):
+        (room / f"proved/crates/{name}/out/rlib/{name}.rlib").mkdir(parents=True)
+    (room / "proved/crates/low/src/lib.rt").write_text(LOW.replace(*other), encoding="utf-8")
 
 
 def lacking(room: Path) -> list[str]:
@@ -185,6 +222,9 @@ def wrong_try(case: Try) -> str:
     with tempfile.TemporaryDirectory(prefix="mutants-selftest-") as name:
         room = Path(name).resolve()
         make(room, case)
+        if case.is_proved:
+            make_proved(room, case.other)
+            os.environ["PROVED"] = str(room / "proved")
         repository = Repository(room / "clone")
         crate = repository.crates["low"]
         said: list[str] = []
@@ -197,6 +237,7 @@ def wrong_try(case: Try) -> str:
             said.append(f"{why}")
         finally:
             os.environ["PATH"] = path
+            os.environ.pop("PROVED", None)
         log = (room / "kit/log").read_text(encoding="utf-8").splitlines()
         left = (crate.folder / "src/lib.rt").read_text(encoding="utf-8") == LOW
         is_well = refused == case.refused and log == case.log and left and not lacking(room)

@@ -1,10 +1,17 @@
 // Arguments and results of calls.
 #include "core.h"
 
+#include <string.h>
 #include <time.h>
 
+// A path or a name as `str` or `bytes`: a path of a tree by its text, all else by os.fspath. Null with an exception.
+static PyObject *plain_of(PyObject *given) {
+    int is_path = PyUnicode_CheckExact(given) ? 0 : PyObject_IsInstance(given, known.path);
+    return is_path < 0 ? NULL : is_path ? PyObject_Str(given) : PyOS_FSPath(given);
+}
+
 int text_of(PyObject *given, struct text *text) {
-    PyObject *plain = PyOS_FSPath(given);
+    PyObject *plain = plain_of(given);
     if (!plain) return -1;
     if (PyUnicode_Check(plain)) {
         PyObject *encoded = PyUnicode_AsUTF8String(plain);
@@ -17,26 +24,103 @@ int text_of(PyObject *given, struct text *text) {
         plain = encoded;
     }
     text->owner = plain;
-    text->at = (const uint8_t *)PyBytes_AsString(plain);
+    text->at = PyBytes_AsString(plain);
     text->length = (size_t)PyBytes_Size(plain);
     return 0;
 }
 
-PyObject *refuse(uint8_t number, PyObject *path, PyObject *other) {
-    if (number == DOORVERVAIN_CLOSED) {
-        PyObject *value = Py_BuildValue("is", EBADF, "the volume or tree is closed");
-        if (value) PyErr_SetObject(PyExc_OSError, value);
-        Py_XDECREF(value);
+// ---- errors
+
+// What is wrong with a name of a path for that error; null if nothing is.
+static const char *name_fault(uint8_t number, const char *name, size_t length) {
+    if (number == DOORVERVAIN_ENAMETOOLONG) return length > 255 ? "a name has at most 255 bytes" : NULL;
+    if (!length) return "a path has no empty name";
+    if (length == 1 && name[0] == '.') return "a path has no name '.'";
+    if (length == 2 && name[0] == '.' && name[1] == '.') return "a path has no name '..'";
+    return memchr(name, 0, length) ? "a path has no null byte" : NULL;
+}
+
+// What is wrong with the text of a path, if that is why it was refused by EINVAL or ENAMETOOLONG; null if nothing is.
+static const char *path_fault(uint8_t number, const struct text *path) {
+    const char *at = path->at, *end = at + path->length;
+    if (path->length == 1 && *at == '/') return NULL;
+    if (number == DOORVERVAIN_EINVAL && path->length && *at != '/') return "a path begins with '/'";
+    if (number == DOORVERVAIN_EINVAL && path->length && end[-1] == '/') return "a path does not end with '/'";
+    while (at < end) {
+        const char *name = at + 1, *slash = memchr(name, '/', (size_t)(end - name));
+        at = slash ? slash : end;
+        const char *fault = name_fault(number, name, (size_t)(at - name));
+        if (fault) return fault;
+    }
+    return number == DOORVERVAIN_ENAMETOOLONG && path->length > 1023 ? "a path has at most 1023 bytes" : NULL;
+}
+
+// What is wrong with one path of a call; null if the system's text for the number says it, or the path is not why.
+static const char *fault_of(uint8_t number, PyObject *given) {
+    struct text path;
+    const char *fault = NULL;
+    if (!given) return NULL;
+    if (text_of(given, &path)) {
+        PyErr_Clear();
         return NULL;
     }
-    PyObject *first = path ? PyOS_FSPath(path) : NULL, *second = other ? PyOS_FSPath(other) : NULL;
-    if ((!path || first) && (!other || second)) {
-        errno = doorvervain_errno(number);
+    if (number == DOORVERVAIN_ENOENT && !path.length) fault = "the path is empty";
+    if (number == DOORVERVAIN_EBUSY && path.length == 1 && *path.at == '/') fault = "the root is neither removed nor moved";
+    if (number == DOORVERVAIN_EINVAL || number == DOORVERVAIN_ENAMETOOLONG) fault = path_fault(number, &path);
+    Py_DECREF(path.owner);
+    return fault;
+}
+
+// What is wrong with two paths that are each well; null if the system's text for the number says it.
+static const char *fault_of_both(uint8_t number) {
+    if (number == DOORVERVAIN_EINVAL) return "a directory is not moved below itself";
+    return number == DOORVERVAIN_ENAMETOOLONG ? "a path below the new one would have more than 1023 bytes" : NULL;
+}
+
+// Raises an OSError of a number and a text, or the system's text if that is null, with the paths that are not null.
+static void raise_os_error(int number, const char *text, PyObject *first, PyObject *second) {
+    errno = number;
+    if (!text) {
         PyErr_SetFromErrnoWithFilenameObjects(PyExc_OSError, first, second);
+        return;
     }
+    PyObject *error = second ? PyObject_CallFunction(PyExc_OSError, "isOOO", number, text, first, Py_None, second)
+                    : first  ? PyObject_CallFunction(PyExc_OSError, "isO", number, text, first)
+                             : PyObject_CallFunction(PyExc_OSError, "is", number, text);
+    if (error) PyErr_SetObject((PyObject *)Py_TYPE(error), error);
+    Py_XDECREF(error);
+}
+
+PyObject *refuse_as(uint8_t number, const char *text, PyObject *path, PyObject *other) {
+    PyObject *first = path ? plain_of(path) : NULL, *second = other ? plain_of(other) : NULL;
+    if ((!path || first) && (!other || second)) raise_os_error(doorvervain_errno(number), text, first, second);
     Py_XDECREF(first);
     Py_XDECREF(second);
     return NULL;
+}
+
+PyObject *refuse(uint8_t number, PyObject *path, PyObject *other) {
+    if (number == DOORVERVAIN_CLOSED) {
+        raise_os_error(EBADF, "the volume or tree is closed", NULL, NULL);
+        return NULL;
+    }
+    const char *fault = fault_of(number, path);
+    if (!fault) fault = fault_of(number, other);
+    if (!fault && other) fault = fault_of_both(number);
+    return refuse_as(number, fault, path, other);
+}
+
+PyObject *refuse_name(uint8_t number, PyObject *name, PyObject *other) {
+    switch (number) {
+    case DOORVERVAIN_EINVAL:
+        return refuse_as(number, "a snapshot's name has 1 to 64 letters, digits, '.', '_' and '-'", name, other);
+    case DOORVERVAIN_ENOENT: return refuse_as(number, "no such snapshot", name, other);
+    case DOORVERVAIN_EEXIST: return refuse_as(number, "a snapshot of that name exists", name, other);
+    case DOORVERVAIN_ENOSPC:
+        return refuse_as(
+            number, "a volume has at most 64 named snapshots; frozen trees and forks have no such limit", name, other);
+    default: return refuse(number, name, other);
+    }
 }
 
 PyObject *answer(uint8_t number, PyObject *path) {
@@ -121,6 +205,6 @@ int place_of_bytes(PyObject *given, PyObject *path, uint64_t *place) {
     int below = 0;
     *place = 0;
     if (given && bytes_of(given, place, &below)) return -1;
-    if (below) refuse(DOORVERVAIN_EINVAL, path, NULL);
+    if (below) refuse_as(DOORVERVAIN_EINVAL, "an offset or a size is not negative", path, NULL);
     return below ? -1 : 0;
 }

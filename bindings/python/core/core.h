@@ -27,24 +27,35 @@ enum { FEW = 1 << 14 };
 // Volumes and frozen trees are visited as what they have in common says.
 enum { MORE = Py_TPFLAGS_DEFAULT | Py_TPFLAGS_BASETYPE, COMMON = MORE | Py_TPFLAGS_HAVE_GC };
 
-// The types of `_types.py` for results and errors, `time.time_ns`, and the types of the module. They live as long as the
-// module, which is never unloaded.
+// The types of `_types.py` for results and errors, its two truth values, `time.time_ns`, the type of paths, and the types of
+// the module. They live as long as the module, which is never unloaded.
 struct known {
-    PyObject *stat, *entry, *bad_image, *bad_delta, *time_ns;
-    PyTypeObject *lock, *volume;
+    PyObject *stat, *entry, *yes, *no, *bad_image, *bad_delta, *time_ns, *path;
+    PyTypeObject *lock, *tree, *volume, *frozen;
 };
 extern struct known known;
 
-// A reentrant lock. `holder` and `depth` are read and written by who holds the interpreter.
+// A reentrant lock. `holder`, `depth` and `forks` are read and written by who holds the interpreter.
+//
+// In the forked child of a process with threads a lock of the parent may be held by a thread that the child does not have,
+// and its volume may be in the middle of a call. So each lock knows how many forks lie above the process that last took it:
+// in such a child the locks of before raise an error, for good.
 typedef struct {
     PyObject_HEAD
     PyThread_type_lock gate;
     unsigned long holder;
-    size_t depth;
+    size_t depth, forks;
 } Lock;
 
-void lock_take(Lock *lock);
+// -1 with a RuntimeError if the lock is of before such a fork.
+int lock_take(Lock *lock);
 void lock_give(Lock *lock);
+
+// Whether a lock is of before such a fork.
+int lock_is_lost(Lock *lock);
+
+// Has this module told of each fork of the process. -1 with an exception.
+int watch_forks(PyObject *module);
 
 // A volume, or a tree that was frozen from one: one of the two handles is closed. `lock` is null until it is begun. `clock`
 // is null for the system's.
@@ -54,11 +65,17 @@ typedef struct {
     struct doorvervain_frozen frozen;
     Lock *lock;
     PyObject *clock;
+    uint16_t shape[3];
 } Tree;
 
-// Takes the lock of a tree. -1 with an exception if it was never begun.
+// Takes the lock of a tree. -1 with an exception if it was never begun, or is lost by a fork.
 int enter(Tree *tree);
 void leave(Tree *tree);
+
+// Takes the locks of two trees, which may be one: that with the lower address first, so that two threads that take the same
+// two never wait for each other. -1 with an exception if one was never begun.
+int enter_both(Tree *one, Tree *other);
+void leave_both(Tree *one, Tree *other);
 int is_open(const Tree *tree);
 
 // Initialises a tree: it gets a lock, which is `lock` if that is not null. -1 with an exception.
@@ -69,12 +86,13 @@ int begin(Tree *tree, Lock *lock);
 // The bytes of a path or a name, which `owner` owns.
 struct text {
     PyObject *owner;
-    const uint8_t *at;
+    const char *at;
     size_t length;
 };
 
 // The bytes of a path or a name: those of `str` in UTF-8, whatever the locale, with lone surrogates for bytes that are not
-// text; those of `bytes`; and those of what os.fspath returns. -1 with an exception if there are none.
+// text; those of `bytes`; those of a path of a tree; and those of what os.fspath returns. -1 with an exception if there are
+// none.
 int text_of(PyObject *given, struct text *text);
 
 // The parameters of a call: how many are required, how many may be given by position, and the names of all.
@@ -102,8 +120,14 @@ int bytes_of(PyObject *given, uint64_t *bytes, int *below);
 int place_of_bytes(PyObject *given, PyObject *path, uint64_t *place);
 
 // Raises the exception of an error: an OSError of the subclass of its number, with the path or both paths if they are not
-// null. Returns null.
+// null. Its text says what is wrong with a path, if that is the reason, and is else the system's. Returns null.
 PyObject *refuse(uint8_t number, PyObject *path, PyObject *other);
+
+// The same for the names of snapshots.
+PyObject *refuse_name(uint8_t number, PyObject *name, PyObject *other);
+
+// The same with a text of the caller's.
+PyObject *refuse_as(uint8_t number, const char *text, PyObject *path, PyObject *other);
 
 // None for DOORVERVAIN_DONE, else the exception of the error.
 PyObject *answer(uint8_t number, PyObject *path);

@@ -1,14 +1,33 @@
 // The lock of a volume and of the trees frozen from it.
 #include "core.h"
 
+// How many forks lie above this process; the last of them that a process with other threads made, or 0; and whether the
+// process has other threads as it forks.
+static size_t forks, last_lost;
+static int has_threads;
+
 static int lock_is_mine(const Lock *lock) {
     return lock->depth && lock->holder == PyThread_get_thread_ident();
 }
 
-void lock_take(Lock *lock) {
+int lock_is_lost(Lock *lock) {
+    if (lock->forks == forks) return 0;
+    // (a thread that began after it was asked whether there are others)
+    if (lock->forks < last_lost || (lock->depth && !lock_is_mine(lock))) return 1;
+    lock->forks = forks;
+    return 0;
+}
+
+int lock_take(Lock *lock) {
+    if (lock_is_lost(lock)) {
+        PyErr_SetString(PyExc_RuntimeError,
+            "the volume is of before a fork of this process, which had other threads then: use it in the parent, and here "
+            "a volume that is made here, or run the child by the start method 'spawn' or 'forkserver'");
+        return -1;
+    }
     if (lock_is_mine(lock)) {
         lock->depth++;
-        return;
+        return 0;
     }
     if (!PyThread_acquire_lock(lock->gate, NOWAIT_LOCK)) {
         Py_BEGIN_ALLOW_THREADS
@@ -17,17 +36,59 @@ void lock_take(Lock *lock) {
     }
     lock->holder = PyThread_get_thread_ident();
     lock->depth = 1;
+    return 0;
 }
 
 void lock_give(Lock *lock) {
     if (--lock->depth == 0) PyThread_release_lock(lock->gate);
 }
 
+// ---- forks
+
+// Whether other threads of Python are there, which may be in a call.
+static PyObject *before_fork(PyObject *module, PyObject *unused) {
+    (void)module, (void)unused;
+    PyObject *sys = PyImport_ImportModule("sys");
+    PyObject *frames = sys ? PyObject_CallMethod(sys, "_current_frames", NULL) : NULL;
+    has_threads = !frames || PyDict_Size(frames) > 1;
+    Py_XDECREF(sys);
+    Py_XDECREF(frames);
+    if (!frames) return NULL;
+    Py_RETURN_NONE;
+}
+
+static PyObject *after_fork(PyObject *module, PyObject *unused) {
+    (void)module, (void)unused;
+    forks++;
+    if (has_threads) last_lost = forks;
+    Py_RETURN_NONE;
+}
+
+static PyMethodDef before = {"before_fork", before_fork, METH_NOARGS, NULL};
+static PyMethodDef after = {"after_fork", after_fork, METH_NOARGS, NULL};
+
+int watch_forks(PyObject *module) {
+    PyObject *os = PyImport_ImportModule("os"), *done = NULL;
+    PyObject *registers = os ? PyObject_GetAttrString(os, "register_at_fork") : NULL, *none = PyTuple_New(0);
+    PyObject *named = Py_BuildValue("{sNsN}", "before", PyCFunction_NewEx(&before, module, NULL), "after_in_child",
+        PyCFunction_NewEx(&after, module, NULL));
+    if (registers && none && named) done = PyObject_Call(registers, none, named);
+    Py_XDECREF(os);
+    Py_XDECREF(registers);
+    Py_XDECREF(none);
+    Py_XDECREF(named);
+    Py_XDECREF(done);
+    return done ? 0 : -1;
+}
+
+// ---- the type
+
 static PyObject *lock_new(PyTypeObject *type, PyObject *words, PyObject *named) {
     (void)words, (void)named;
     allocfunc allocate = (allocfunc)PyType_GetSlot(type, Py_tp_alloc);
     Lock *lock = (Lock *)allocate(type, 0);
     if (!lock) return NULL;
+    lock->forks = forks;
     lock->gate = PyThread_allocate_lock();
     if (lock->gate) return (PyObject *)lock;
     Py_DECREF(lock);
@@ -37,14 +98,15 @@ static PyObject *lock_new(PyTypeObject *type, PyObject *words, PyObject *named) 
 static void lock_dealloc(PyObject *self) {
     PyTypeObject *type = Py_TYPE(self);
     Lock *lock = (Lock *)self;
-    if (lock->gate) PyThread_free_lock(lock->gate);
+    // (one that a thread of the parent holds stays as it is)
+    if (lock->gate && !lock_is_lost(lock)) PyThread_free_lock(lock->gate);
     ((freefunc)PyType_GetSlot(type, Py_tp_free))(self);
     Py_DECREF(type);
 }
 
 static PyObject *lock_enter(PyObject *self, PyObject *unused) {
     (void)unused;
-    lock_take((Lock *)self);
+    if (lock_take((Lock *)self)) return NULL;
     Py_INCREF(self);
     return self;
 }

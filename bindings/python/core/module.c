@@ -24,18 +24,21 @@ static PyObject *imported(const char *module, const char *name) {
 static int add_all(PyObject *module) {
     known.stat = imported("doorvervain._types", "Stat");
     known.entry = imported("doorvervain._types", "Entry");
+    known.yes = imported("doorvervain._types", "YES");
+    known.no = imported("doorvervain._types", "NO");
     known.bad_image = imported("doorvervain._types", "BadImage");
     known.bad_delta = imported("doorvervain._types", "BadDelta");
     known.time_ns = imported("time", "time_ns");
-    if (!known.stat || !known.entry || !known.bad_image || !known.bad_delta || !known.time_ns) return -1;
+    known.path = imported("doorvervain._path", "Path");
+    if (!known.stat || !known.entry || !known.yes || !known.no || !known.bad_image || !known.bad_delta) return -1;
+    if (!known.time_ns || !known.path || watch_forks(module)) return -1;
     known.lock = (PyTypeObject *)add_type(module, "Lock", &lock_spec, NULL);
-    PyObject *tree = known.lock ? add_type(module, "Tree", &tree_spec, NULL) : NULL;
-    if (!tree) return -1;
+    known.tree = known.lock ? (PyTypeObject *)add_type(module, "Tree", &tree_spec, NULL) : NULL;
+    if (!known.tree) return -1;
+    PyObject *tree = (PyObject *)known.tree;
     known.volume = (PyTypeObject *)add_type(module, "Volume", &volume_spec, tree);
-    PyObject *frozen = known.volume ? add_type(module, "Frozen", &frozen_spec, tree) : NULL;
-    Py_DECREF(tree);
-    Py_XDECREF(frozen);
-    if (!frozen || PyModule_AddStringConstant(module, "RELEASE", DOORVERVAIN_VERSION)) return -1;
+    known.frozen = known.volume ? (PyTypeObject *)add_type(module, "Frozen", &frozen_spec, tree) : NULL;
+    if (!known.frozen || PyModule_AddStringConstant(module, "RELEASE", DOORVERVAIN_VERSION)) return -1;
     return PyModule_AddStringConstant(module, "BUILD", doorvervain_build());
 }
 

@@ -12,11 +12,23 @@ int enter(Tree *tree) {
         refuse(DOORVERVAIN_CLOSED, NULL, NULL);
         return -1;
     }
-    lock_take(tree->lock);
-    return 0;
+    return lock_take(tree->lock);
 }
 
 void leave(Tree *tree) { lock_give(tree->lock); }
+
+int enter_both(Tree *one, Tree *other) {
+    Tree *first = (uintptr_t)one->lock < (uintptr_t)other->lock ? one : other;
+    if (enter(first)) return -1;
+    if (!enter(first == one ? other : one)) return 0;
+    leave(first);
+    return -1;
+}
+
+void leave_both(Tree *one, Tree *other) {
+    leave(one);
+    leave(other);
+}
 
 int is_open(const Tree *tree) { return tree->volume.ptr || tree->frozen.ptr; }
 
@@ -112,6 +124,29 @@ static PyObject *tree_read(PyObject *self, PyObject *const *words, Py_ssize_t co
     }
     Py_DECREF(path.owner);
     return bytes;
+}
+
+static uint8_t look_extent(Tree *tree, const struct text *path, uint64_t offset, uint64_t *from, uint64_t *to) {
+    return tree->frozen.ptr ? doorvervain_frozen_next_extent(&tree->frozen, path->at, path->length, offset, from, to)
+                            : doorvervain_next_extent(&tree->volume, path->at, path->length, offset, from, to);
+}
+
+static const struct signature extent_signature = {"_next_extent", 2, 2, {"path", "offset"}};
+
+static PyObject *tree_next_extent(PyObject *self, PyObject *const *words, Py_ssize_t count, PyObject *named) {
+    Tree *tree = (Tree *)self;
+    PyObject *args[4], *done = NULL;
+    struct text path;
+    uint64_t offset, from, to;
+    if (words_of(&extent_signature, words, count, named, args) || place_of_bytes(args[1], args[0], &offset)) return NULL;
+    if (text_of(args[0], &path)) return NULL;
+    if (!enter(tree)) {
+        uint8_t number = look_extent(tree, &path, offset, &from, &to);
+        leave(tree);
+        done = number ? refuse(number, args[0], NULL) : Py_BuildValue("KK", (unsigned long long)from, (unsigned long long)to);
+    }
+    Py_DECREF(path.owner);
+    return done;
 }
 
 // ---- looking
@@ -229,7 +264,8 @@ static PyObject *name_at(const uint8_t **at) {
 }
 
 static PyObject *entry_at(const uint8_t **at) {
-    PyObject *is_dir = PyBool_FromLong(**at == 'd');
+    PyObject *is_dir = **at == 'd' ? known.yes : known.no;
+    Py_INCREF(is_dir);
     PyObject *items[] = {name_at(at), is_dir};
     return tuple_of(known.entry, items, 2);
 }
@@ -278,14 +314,17 @@ static PyObject *tree_scandir(PyObject *self, PyObject *const *words, Py_ssize_t
 
 // ---- closing
 
-// Frees a tree under its lock, without the interpreter's lock. A closed one is left unchanged.
+// Frees a tree under its lock, without the interpreter's lock. A closed one is left unchanged. What is lost by a fork is not
+// freed: the parent's threads may be in the middle of it.
 static void close_tree(Tree *tree) {
     if (!is_open(tree)) return;
-    lock_take(tree->lock);
+    int is_lost = lock_is_lost(tree->lock);
+    if (!is_lost) lock_take(tree->lock);
     struct doorvervain volume = tree->volume;
     struct doorvervain_frozen frozen = tree->frozen;
     tree->volume.ptr = NULL;
     tree->frozen.ptr = NULL;
+    if (is_lost) return;
     Py_BEGIN_ALLOW_THREADS
     doorvervain_close(&volume);
     doorvervain_frozen_close(&frozen);
@@ -310,6 +349,12 @@ static PyObject *tree_lock(PyObject *self, void *unused) {
     if (!lock) return refuse(DOORVERVAIN_CLOSED, NULL, NULL);
     Py_INCREF(lock);
     return (PyObject *)lock;
+}
+
+static PyObject *tree_shape(PyObject *self, void *unused) {
+    (void)unused;
+    const uint16_t *shape = ((Tree *)self)->shape;
+    return Py_BuildValue("iii", shape[0], shape[1], shape[2]);
 }
 
 static int tree_traverse(PyObject *self, visitproc visit, void *arg) {
@@ -357,13 +402,15 @@ static int frozen_of(Tree *frozen, Tree *volume, PyObject *name) {
         number = name ? doorvervain_open_snapshot(&volume->volume, text.at, text.length, &made)
                       : doorvervain_freeze(&volume->volume, &made);
         leave(volume);
-        if (number) refuse(number, name, NULL);
+        if (number) refuse_name(number, name, NULL);
         failed = number || begin(frozen, volume->lock);
         if (failed) doorvervain_frozen_close(&made);
     }
     Py_XDECREF(text.owner);
-    if (!failed) frozen->frozen = made;
-    return failed ? -1 : 0;
+    if (failed) return -1;
+    frozen->frozen = made;
+    memcpy(frozen->shape, volume->shape, sizeof frozen->shape);
+    return 0;
 }
 
 static int frozen_init(PyObject *self, PyObject *words, PyObject *named) {
@@ -397,6 +444,10 @@ static PyMethodDef tree_methods[] = {
         ">>> _ = volume.write_bytes(\"/greeting\", b\"hello, world\")\n"
         ">>> volume.read(\"/greeting\"), volume.read(\"/greeting\", 5, 7)\n"
         "(b'hello, world', b'world')\n"},
+    {"_next_extent", FAST(tree_next_extent),
+        "_next_extent($self, /, path, offset)\n--\n\n"
+        "The bytes of a file that are stored from the offset on, up to the next hole: the first, and that after the last. Both are\n"
+        "the file's size if there are none."},
     {"stat", tree_stat, METH_O,
         "stat($self, path, /)\n--\n\n"
         "The kind, size and mtime of the entry at a path.\n\n"
@@ -424,6 +475,7 @@ static PyMethodDef tree_methods[] = {
 
 static PyGetSetDef tree_properties[] = {
     {"closed", tree_closed, NULL, "Whether it is closed.", NULL},
+    {"_shape", tree_shape, NULL, "The shape of its trees.", NULL},
     {"_lock", tree_lock, NULL, "The lock that each call of the volume and of its frozen trees holds.", NULL},
     {NULL, NULL, NULL, NULL, NULL},
 };

@@ -1,6 +1,8 @@
 // Volumes: calls that change them, snapshots and compaction.
 #include "core.h"
 
+#include <string.h>
+
 // The most bytes that the name of a snapshot has.
 enum { NAME = 64 };
 
@@ -29,9 +31,10 @@ static void refuse_shape(uint8_t number, PyObject *shape) {
     Py_XDECREF(value);
 }
 
-// Takes ownership of a clock and an opened volume.
-static void volume_begins(Tree *tree, struct doorvervain opened, PyObject *clock) {
+// Takes ownership of an opened volume, and keeps its shape and its clock.
+static void volume_begins(Tree *tree, struct doorvervain opened, const uint16_t *shape, PyObject *clock) {
     tree->volume = opened;
+    memcpy(tree->shape, shape, sizeof tree->shape);
     if (clock == known.time_ns || clock == Py_None) return;
     Py_INCREF(clock);
     tree->clock = clock;
@@ -49,7 +52,7 @@ static int volume_init(PyObject *self, PyObject *words, PyObject *named) {
         refuse_shape(number, shape);
         return -1;
     }
-    volume_begins((Tree *)self, opened, clock);
+    volume_begins((Tree *)self, opened, numbers, clock);
     return 0;
 }
 
@@ -77,11 +80,19 @@ static PyObject *volume_load(PyObject *self, PyObject *words) {
     if (number && line) refuse_text(known.bad_image, line);
     else if (number) refuse_shape(number, shape);
     if (number) return NULL;
-    volume_begins((Tree *)self, opened, clock);
+    volume_begins((Tree *)self, opened, numbers, clock);
     Py_RETURN_NONE;
 }
 
-typedef uint8_t (*path_fn)(struct doorvervain *fs, const uint8_t *path, size_t length, uint64_t at);
+static PyObject *volume_clock(PyObject *self, void *unused) {
+    (void)unused;
+    PyObject *clock = ((Tree *)self)->clock;
+    if (!clock) clock = known.time_ns;
+    Py_INCREF(clock);
+    return clock;
+}
+
+typedef uint8_t (*path_fn)(struct doorvervain *fs, const char *path, size_t length, uint64_t at);
 
 // Makes a call that changes the entry at one path.
 static PyObject *path_call(
@@ -124,7 +135,7 @@ static PyObject *volume_rmtree(PyObject *self, PyObject *const *words, Py_ssize_
 }
 
 // Creates an empty file, or truncates the one that exists.
-static uint8_t emptied(struct doorvervain *fs, const uint8_t *path, size_t length, uint64_t at) {
+static uint8_t emptied(struct doorvervain *fs, const char *path, size_t length, uint64_t at) {
     uint8_t number = doorvervain_create(fs, path, length, at);
     return number == DOORVERVAIN_EEXIST ? doorvervain_truncate(fs, path, length, 0, at) : number;
 }
@@ -262,7 +273,7 @@ static PyObject *volume_write_bytes(PyObject *self, PyObject *const *words, Py_s
 
 // ---- snapshots
 
-typedef uint8_t (*snapshot_fn)(struct doorvervain *fs, const uint8_t *name, size_t length);
+typedef uint8_t (*snapshot_fn)(struct doorvervain *fs, const char *name, size_t length);
 
 // Makes a call that takes the name of a snapshot, without the interpreter's lock if it may free a tree.
 static PyObject *snapshot_call(PyObject *self, PyObject *name, snapshot_fn call, int is_long) {
@@ -275,7 +286,7 @@ static PyObject *snapshot_call(PyObject *self, PyObject *name, snapshot_fn call,
         uint8_t number = call(&tree->volume, text.at, text.length);
         if (state) PyEval_RestoreThread(state);
         leave(tree);
-        done = answer(number, name);
+        done = number ? refuse_name(number, name, NULL) : answer(0, NULL);
     }
     Py_DECREF(text.owner);
     return done;
@@ -283,7 +294,37 @@ static PyObject *snapshot_call(PyObject *self, PyObject *name, snapshot_fn call,
 
 static PyObject *volume_snapshot(PyObject *self, PyObject *name) { return snapshot_call(self, name, doorvervain_snapshot, 0); }
 static PyObject *volume_drop_snapshot(PyObject *self, PyObject *name) { return snapshot_call(self, name, doorvervain_drop_snapshot, 1); }
-static PyObject *volume_restore(PyObject *self, PyObject *name) { return snapshot_call(self, name, doorvervain_restore, 1); }
+
+// Restores a frozen tree, which may be one of another volume. The tree that was there may be freed.
+static PyObject *restore_frozen(Tree *tree, Tree *frozen) {
+    uint8_t number;
+    if (enter_both(tree, frozen)) return NULL;
+    Py_BEGIN_ALLOW_THREADS
+    number = doorvervain_restore_frozen(&tree->volume, &frozen->frozen);
+    Py_END_ALLOW_THREADS
+    leave_both(tree, frozen);
+    return answer(number, NULL);
+}
+
+static PyObject *volume_restore(PyObject *self, PyObject *from) {
+    if (PyObject_TypeCheck(from, known.frozen)) return restore_frozen((Tree *)self, (Tree *)from);
+    return snapshot_call(self, from, doorvervain_restore, 1);
+}
+
+// Initialises a volume as the fork of a volume or a frozen tree.
+static PyObject *volume_fork_of(PyObject *self, PyObject *words) {
+    PyObject *given, *clock;
+    struct doorvervain made = {NULL};
+    if (!PyArg_ParseTuple(words, "O!O:fork", known.tree, &given, &clock)) return NULL;
+    Tree *from = (Tree *)given;
+    if (begin((Tree *)self, NULL) || enter(from)) return NULL;
+    uint8_t number =
+        from->frozen.ptr ? doorvervain_frozen_fork(&from->frozen, &made) : doorvervain_fork(&from->volume, &made);
+    leave(from);
+    if (number) return refuse(number, NULL, NULL);
+    volume_begins((Tree *)self, made, from->shape, clock == Py_None && from->clock ? from->clock : clock);
+    Py_RETURN_NONE;
+}
 
 // The list of the names of all snapshots, under the lock.
 static PyObject *names_of(struct doorvervain *fs) {
@@ -328,7 +369,7 @@ static PyObject *delta_of(Tree *tree, const struct text *names) {
     number = filled(tree, names, look_delta, &it);
     Py_END_ALLOW_THREADS
     leave(tree);
-    if (number) refuse(number, names[0].owner, names[1].owner);
+    if (number) refuse_name(number, names[0].owner, names[1].owner);
     else text = PyBytes_FromStringAndSize((const char *)it.at, (Py_ssize_t)it.size);
     listing_free(&it);
     return text;
@@ -357,9 +398,28 @@ static PyObject *volume_apply_delta(PyObject *self, PyObject *given) {
     number = doorvervain_apply_delta(&tree->volume, (const uint8_t *)text, (size_t)length, &line);
     Py_END_ALLOW_THREADS
     leave(tree);
+    if (number == DOORVERVAIN_ENOENT) return refuse_as(number, "the delta begins with another tree", NULL, NULL);
     if (number != DOORVERVAIN_EINVAL) return answer(number, NULL);
     refuse_text(known.bad_delta, line);
     return NULL;
+}
+
+// How many steps are done between two looks at signals: some milliseconds.
+enum { STEPS_AT_ONCE = 1000 };
+
+// Compacts piece by piece, under the lock; handlers of signals run in between. -1 with the exception of one.
+static int compact_pieces(Tree *tree, uint64_t steps, uint64_t *done) {
+    uint32_t piece, got;
+    *done = 0;
+    do {
+        piece = steps - *done < STEPS_AT_ONCE ? (uint32_t)(steps - *done) : STEPS_AT_ONCE;
+        Py_BEGIN_ALLOW_THREADS
+        got = doorvervain_compact(&tree->volume, piece);
+        Py_END_ALLOW_THREADS
+        *done += got;
+        if (PyErr_CheckSignals()) return -1;
+    } while (got == piece && *done < steps);
+    return 0;
 }
 
 static const struct signature compact_signature = {"compact", 0, 1, {"steps"}};
@@ -367,26 +427,24 @@ static const struct signature compact_signature = {"compact", 0, 1, {"steps"}};
 static PyObject *volume_compact(PyObject *self, PyObject *const *words, Py_ssize_t count, PyObject *named) {
     Tree *tree = (Tree *)self;
     PyObject *args[4];
-    uint64_t steps = UINT32_MAX;
+    uint64_t steps = UINT64_MAX, done = 0;
     int below = 0;
-    uint32_t done;
     if (words_of(&compact_signature, words, count, named, args) || enter(tree)) return NULL;
     if (args[0] && args[0] != Py_None && bytes_of(args[0], &steps, &below)) {
         leave(tree);
         return NULL;
     }
-    int open = is_open(tree);
-    Py_BEGIN_ALLOW_THREADS
-    done = doorvervain_compact(&tree->volume, steps < UINT32_MAX ? (uint32_t)steps : UINT32_MAX);
-    Py_END_ALLOW_THREADS
+    int open = is_open(tree), interrupted = compact_pieces(tree, steps, &done);
     leave(tree);
-    return open ? PyLong_FromUnsignedLong(done) : refuse(DOORVERVAIN_CLOSED, NULL, NULL);
+    if (interrupted) return NULL;
+    return open ? PyLong_FromUnsignedLongLong(done) : refuse(DOORVERVAIN_CLOSED, NULL, NULL);
 }
 
 // ---- the type
 
 static PyMethodDef volume_methods[] = {
     {"_load", volume_load, METH_VARARGS, "Initialises the volume from an image."},
+    {"_fork_of", volume_fork_of, METH_VARARGS, "Initialises the volume as the fork of a volume or a frozen tree."},
     {"mkdir", FAST(volume_mkdir), "mkdir($self, /, path, *, at=None)\n--\n\nCreates an empty directory."},
     {"create", FAST(volume_create),
         "create($self, /, path, *, at=None)\n--\n\nCreates an empty file."},
@@ -413,7 +471,8 @@ static PyMethodDef volume_methods[] = {
         "_empty($self, /, path, *, at=None)\n--\n\nCreates an empty file, or truncates the one that exists."},
     {"snapshot", volume_snapshot, METH_O,
         "snapshot($self, name, /)\n--\n\n"
-        "Takes a snapshot under a name: 1 to 64 letters, digits, `.`, `_` and `-`. A volume has at most 64.\n\n"
+        "Takes a snapshot under a name: 1 to 64 letters, digits, `.`, `_` and `-`. A volume has at most 64, and one more is an\n"
+        "OSError with ENOSPC. Frozen trees and forks have no such limit.\n\n"
         ">>> volume = Volume()\n"
         ">>> volume.snapshot(\"empty\")\n"
         ">>> volume.create(\"/x\")\n"
@@ -422,7 +481,9 @@ static PyMethodDef volume_methods[] = {
         "([], ['empty'])\n"},
     {"drop_snapshot", volume_drop_snapshot, METH_O, "drop_snapshot($self, name, /)\n--\n\nDrops a snapshot."},
     {"restore", volume_restore, METH_O,
-        "restore($self, name, /)\n--\n\nRestores the volume's tree from a snapshot, which is kept."},
+        "restore($self, source, /)\n--\n\n"
+        "Restores the volume's tree from the snapshot of that name, or from a frozen tree, also one of another volume. Either is\n"
+        "kept."},
     {"snapshots", volume_snapshots, METH_NOARGS, "snapshots($self, /)\n--\n\nThe names of the snapshots, in order."},
     {"delta", FAST(volume_delta),
         "delta($self, /, old, new='')\n--\n\n"
@@ -440,15 +501,21 @@ static PyMethodDef volume_methods[] = {
         "of another tree is a FileNotFoundError, and a text that is not a delta a `BadDelta`."},
     {"compact", FAST(volume_compact),
         "compact($self, /, steps=None)\n--\n\n"
-        "Compacts the trees: moves pending changes down, by at most `steps` steps, or all of them. Returns how many steps it\n"
-        "tried. No result changes, but later read-only calls take less time."},
+        "Compacts the trees: moves pending changes down, by at most `steps` steps, or all of them. Returns how many steps it did:\n"
+        "fewer if nothing is pending, or if no step has room. No result changes, but later read-only calls take less time."},
     {NULL, NULL, 0, NULL},
+};
+
+static PyGetSetDef volume_properties[] = {
+    {"_clock", volume_clock, NULL, "Its clock.", NULL},
+    {NULL, NULL, NULL, NULL, NULL},
 };
 
 static PyType_Slot volume_slots[] = {
     {Py_tp_doc, "A tree of directories and files in memory, with snapshots."},
     {Py_tp_init, volume_init},
     {Py_tp_methods, volume_methods},
+    {Py_tp_getset, volume_properties},
     {0, NULL},
 };
 

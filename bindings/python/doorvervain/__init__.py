@@ -15,8 +15,9 @@ The package is a binding of the C library `doorvervain`. `docs/PYTHON.md` descri
 """
 from ._core import BUILD as __build__
 from ._file import File
+from ._path import Path
 from ._types import BadDelta, BadImage, Entry, Stat
 from ._volume import LARGE, USUAL, Frozen, Shape, Volume
 
 __version__ = "0.2.0"
-__all__ = ["BadDelta", "BadImage", "Entry", "File", "Frozen", "LARGE", "Shape", "Stat", "USUAL", "Volume"]
+__all__ = ["BadDelta", "BadImage", "Entry", "File", "Frozen", "LARGE", "Path", "Shape", "Stat", "USUAL", "Volume"]

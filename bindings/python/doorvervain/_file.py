@@ -6,10 +6,10 @@ import io
 import os
 from typing import IO, TYPE_CHECKING, Any, Optional, Union, cast
 
-from ._types import os_error
+from ._path import StrPath, os_error, plain
 
 if TYPE_CHECKING:
-    from ._volume import StrPath, Tree, Volume
+    from ._volume import Tree, Volume
 
 # How many bytes a buffered file asks for at once.
 _BUFFER = 1 << 16
@@ -21,12 +21,11 @@ class File(io.RawIOBase):
     Threads may share it: each call holds the volume's lock throughout.
     """
 
-    def __init__(self, tree: "Tree", path: "StrPath", mode: str = "r") -> None:
+    def __init__(self, tree: "Tree", path: StrPath, mode: str = "r") -> None:
         """`mode` is one of r, w, x and a, with or without +."""
         action, updating = mode[0], "+" in mode
-        self.name = os.fspath(path)
+        self.name = self._path = plain(path)
         self._tree = tree
-        self._path = path
         self._reads = action == "r" or updating
         self._writes = action != "r" or updating
         self._appends = action == "a"
@@ -130,7 +129,7 @@ class File(io.RawIOBase):
         else:
             raise ValueError(f"invalid whence: {whence}")
         if base + offset < 0:
-            raise os_error(errno.EINVAL, self._path)
+            raise os_error(errno.EINVAL, self._path, "an offset is not negative")
         self._at = base + offset
         return self._at
 
@@ -154,7 +153,7 @@ class File(io.RawIOBase):
 
 def open_file(
     tree: "Tree",
-    path: "StrPath",
+    path: StrPath,
     mode: str,
     buffering: int = -1,
     encoding: Optional[str] = None,

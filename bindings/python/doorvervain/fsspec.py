@@ -25,7 +25,8 @@ from typing import Any, Dict, List, Optional, Union
 from fsspec import AbstractFileSystem
 
 from ._file import File
-from ._types import Entry, os_error
+from ._path import os_error
+from ._types import Entry
 from ._volume import Volume
 
 _volumes: Dict[str, Volume] = {}

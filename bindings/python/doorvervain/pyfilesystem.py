@@ -138,7 +138,7 @@ class DoorvervainFS(FS):
             if page is not None:
                 entries = entries[page[0] : page[1]]
             if not namespaces:
-                infos = [Info({"basic": {"name": entry.name, "is_dir": entry.is_dir}}) for entry in entries]
+                infos = [Info({"basic": {"name": entry.name, "is_dir": entry.is_dir()}}) for entry in entries]
             else:
                 before = "/" if at == "/" else at + "/"
                 infos = [

@@ -6,7 +6,7 @@ import sys
 import unittest
 
 # What a file of tests needs beside the package.
-NEEDS = {"test_fsspec": "fsspec", "test_pyfilesystem": "fs", "test_types": "mypy"}
+NEEDS = {"test_fsspec": "fsspec", "test_pyfilesystem": "fs", "test_pytest_plugin": "pytest", "test_types": "mypy"}
 
 
 def main() -> int:

@@ -20,7 +20,7 @@ def lacks(names):
 
 class Examples(unittest.TestCase):
     def test_modules(self):
-        for name in ["doorvervain", "doorvervain._core", "doorvervain._volume", "doorvervain._file", *NEEDS]:
+        for name in ["doorvervain", *(f"doorvervain.{name}" for name in ["_core", "_file", "_path", "_types", "_volume"]), *NEEDS]:
             if lacks(NEEDS.get(name, [])):
                 continue
             with self.subTest(module=name):

@@ -4,7 +4,10 @@ import errno
 import gc
 import os
 import pathlib
+import pickle
 import re
+import signal
+import stat
 import threading
 import time
 import unittest
@@ -62,6 +65,47 @@ class Refusals(unittest.TestCase):
             with self.subTest(call=call.__name__, words=words):
                 self.assertEqual(refused(self, kind, number, call, *words).filename, words[0])
 
+    def test_the_text_says_what_is_wrong_with_a_path(self):
+        long = "/" + "/".join(["n" * 100] * 11)
+        volume = self.volume
+        for text, number, call, *words in [
+            ("the path is empty", errno.ENOENT, volume.stat, ""),
+            ("a path begins with '/'", errno.EINVAL, volume.read, "d/f"),
+            ("a path begins with '/'", errno.EINVAL, volume.read, b"./f"),
+            ("a path does not end with '/'", errno.EINVAL, volume.mkdir, "/d/"),
+            ("a path has no empty name", errno.EINVAL, volume.exists, "/d//e"),
+            ("a path has no name '.'", errno.EINVAL, volume.listdir, "/d/./f"),
+            ("a path has no name '..'", errno.EINVAL, volume.listdir, "/d/.."),
+            ("a path has no null byte", errno.EINVAL, volume.mkdir, "/a\0b"),
+            ("a name has at most 255 bytes", errno.ENAMETOOLONG, volume.mkdir, "/d/" + 128 * "ö"),
+            ("a path has at most 1023 bytes", errno.ENAMETOOLONG, volume.mkdir, long),
+            ("the root is neither removed nor moved", errno.EBUSY, volume.rmtree, "/"),
+            ("an offset or a size is not negative", errno.EINVAL, volume.truncate, "/d/f", -1),
+            ("a snapshot's name has 1 to 64 letters, digits, '.', '_' and '-'", errno.EINVAL, volume.snapshot, "/d"),
+            ("no such snapshot", errno.ENOENT, volume.restore, "none"),
+            ("no such snapshot", errno.ENOENT, volume.open_snapshot, "none"),
+        ]:
+            with self.subTest(text=text), self.assertRaises(OSError) as caught:
+                call(*words)
+            error = caught.exception
+            self.assertEqual((error.errno, error.strerror, error.filename), (number, text, words[0]))
+            self.assertEqual(str(error), f"[Errno {number}] {text}: {words[0]!r}")
+
+    def test_the_text_says_which_path_of_two_is_wrong(self):
+        deep = "/" + "/".join(["n" * 200] * 5)
+        self.volume.makedirs(deep)
+        self.volume.makedirs("/d/" + "m" * 200)
+        for text, number, old, new in [
+            ("a path has no name '..'", errno.EINVAL, "/d/..", "/e"), ("a path begins with '/'", errno.EINVAL, "/d/f", "e"),
+            ("a directory is not moved below itself", errno.EINVAL, "/d", "/d/e"),
+            ("a name has at most 255 bytes", errno.ENAMETOOLONG, "/d/f", "/" + 256 * "n"),
+            ("a path below the new one would have more than 1023 bytes", errno.ENAMETOOLONG, "/d", deep + "/x"),
+        ]:
+            with self.subTest(text=text), self.assertRaises(OSError) as caught:
+                self.volume.rename(old, new)
+            error = caught.exception
+            self.assertEqual((error.errno, error.strerror, error.filename, error.filename2), (number, text, old, new))
+
     def test_a_rename_tells_both_paths(self):
         for kind, number, old, new in [
             (FileNotFoundError, errno.ENOENT, "/x", "/y"),
@@ -115,14 +159,15 @@ class Refusals(unittest.TestCase):
             (volume.rmtree, "/d"), (volume.rename, "/d", "/e"), (volume.truncate, "/d/f", 1),
             (volume.write, "/d/f", b"x"), (volume.write_bytes, "/d/f", b"x"), (volume.read, "/d/f"),
             (volume.stat, "/d"), (volume.listdir, "/"), (volume.snapshot, "t"), (volume.drop_snapshot, "s"),
-            (volume.restore, "s"), (volume.freeze,), (volume.open_snapshot, "s"), (volume.image,), (volume.compact, 1),
+            (volume.restore, "s"), (volume.restore, tree), (volume.freeze,), (volume.fork,), (volume.open_snapshot, "s"), (volume.image,),
+            (volume.compact, 1),
             (volume.makedirs, "/e/f"), (volume.open, "/d/f"), (file.read, 1), (file.readall,),
         ]:
             with self.subTest(call=call.__name__):
                 refused(self, OSError, errno.EBADF, call, *words)
         self.assertEqual(tree.listdir("/d"), ["f"])
         tree.close()
-        for call, *words in [(tree.read, "/d/f"), (tree.stat, "/d"), (tree.listdir, "/"), (tree.image,)]:
+        for call, *words in [(tree.read, "/d/f"), (tree.stat, "/d"), (tree.listdir, "/"), (tree.image,), (tree.fork,), (Volume().restore, tree)]:
             refused(self, OSError, errno.EBADF, call, *words)
 
     def test_shapes(self):
@@ -198,6 +243,7 @@ class Files(unittest.TestCase):
         self.volume.mkdir("/d/a")
         self.assertEqual(self.volume.listdir("/d"), ["a"] + names)
         self.assertEqual([entry.name for entry in self.volume.scandir("/d") if entry.is_dir], ["a"])
+        self.assertEqual([entry.name for entry in self.volume.scandir("/d") if entry.is_dir()], ["a"])
         self.volume.rmtree("/d")
         self.assertEqual(self.volume.listdir(), [])
 
@@ -207,7 +253,7 @@ class Files(unittest.TestCase):
         refused(self, FileExistsError, errno.EEXIST, self.volume.makedirs, "/a/b/c")
         self.volume.create("/a/f")
         refused(self, FileExistsError, errno.EEXIST, self.volume.makedirs, "/a/f", exist_ok=True)
-        refused(self, FileExistsError, errno.EEXIST, self.volume.makedirs, "/a/f/x/y")
+        refused(self, NotADirectoryError, errno.ENOTDIR, self.volume.makedirs, "/a/f/x/y")
 
     def test_walks(self):
         for path in ["/b/x", "/a/y", "/a-"]:
@@ -226,6 +272,25 @@ class Files(unittest.TestCase):
         self.assertEqual(sum(1 for _ in self.volume.walk("/e")), 511)
 
 
+    def test_entries_are_as_those_of_os_and_as_tuples(self):
+        self.volume.mkdir("/d")
+        self.volume.create("/f")
+        folder, file = self.volume.scandir()
+        self.assertEqual((folder.is_dir(), folder.is_file(), file.is_dir(), file.is_file()), (True, False, False, True))
+        for entry in [folder, file]:
+            self.assertIs(type(entry.is_dir()), bool)
+            self.assertEqual((entry.is_symlink(), bool(entry.is_dir)), (False, entry.is_dir()))
+            self.assertEqual(pickle.loads(pickle.dumps(entry)), entry)
+        name, is_dir = folder
+        self.assertEqual((name, is_dir, folder, repr(folder)), ("d", True, ("d", True), "Entry(name='d', is_dir=True)"))
+
+    def test_a_stat_has_what_that_of_os_has(self):
+        self.volume.write_bytes("/f", b"abc", at=1_500_000_000)
+        told, folder = self.volume.stat("/f"), self.volume.stat("/")
+        self.assertEqual((told.st_size, told.st_mtime, told.st_mtime_ns), (3, 1.5, 1_500_000_000))
+        self.assertTrue(stat.S_ISREG(told.st_mode) and stat.S_ISDIR(folder.st_mode))
+
+
 class Snapshots(unittest.TestCase):
     def test_names_in_order(self):
         volume = Volume()
@@ -238,7 +303,8 @@ class Snapshots(unittest.TestCase):
         refused(self, FileNotFoundError, errno.ENOENT, volume.drop_snapshot, "a")
         for number in range(64 - 5):
             volume.snapshot(f"n{number}")
-        refused(self, OSError, errno.ENOSPC, volume.snapshot, "more")
+        error = refused(self, OSError, errno.ENOSPC, volume.snapshot, "more")
+        self.assertEqual(error.strerror, "a volume has at most 64 named snapshots; frozen trees and forks have no such limit")
         self.assertEqual(len(volume.snapshots()), 64)
 
     def test_a_snapshot_stands_still(self):
@@ -265,6 +331,39 @@ class Snapshots(unittest.TestCase):
             volume.restore(name)
             self.assertEqual(volume.listdir(), names)
             volume.create("/z")
+
+    def test_a_fork_is_a_volume_of_its_own(self):
+        volume = Volume(clock=lambda: 7)
+        volume.create("/a")
+        volume.snapshot("s")
+        tree = volume.freeze()
+        fork, other = volume.fork(), tree.fork(clock=lambda: 9)
+        fork.create("/b")
+        other.create("/c")
+        volume.unlink("/a")
+        self.assertEqual([it.listdir() for it in (volume, fork, other, tree)], [[], ["a", "b"], ["a", "c"], ["a"]])
+        self.assertEqual([it.snapshots() for it in (volume, fork, other)], [["s"], [], []])
+        self.assertEqual([it.stat("/").modified for it in (volume, fork, other)], [7, 7, 9])
+        volume.close()
+        tree.close()
+        self.assertEqual([it.fork().listdir() for it in (fork, other)], [["a", "b"], ["a", "c"]])
+
+    def test_a_frozen_tree_is_restored(self):
+        volume, other = Volume(clock=lambda: 0), Volume(shape=(4, 4, 4), clock=lambda: 0)
+        volume.create("/mine")
+        volume.snapshot("s")
+        for number in range(300):
+            other.create(f"/f{number}")
+        for of in [other, volume]:
+            with of.freeze() as tree:
+                image = tree.image()
+                of.create("/more")
+                volume.create("/z")
+                volume.restore(tree)
+                self.assertEqual((volume.image(), tree.image()), (image, image))
+        self.assertEqual((volume.snapshots(), other.exists("/more")), (["s"], True))
+        volume.restore("s")
+        self.assertEqual(volume.listdir(), ["mine"])
 
     def test_images(self):
         volume = Volume(clock=lambda: 9)
@@ -333,6 +432,25 @@ class Snapshots(unittest.TestCase):
         self.assertEqual(volume.image(), before)
 
 
+    def test_a_signal_ends_a_compaction(self):
+        volume = Volume(clock=lambda: 0)
+        for number in range(100_000):
+            volume.create(f"/f{number}")
+
+        def interrupt(number, frame):
+            raise InterruptedError
+
+        before = signal.signal(signal.SIGALRM, interrupt)
+        try:
+            with self.assertRaises(InterruptedError):
+                signal.setitimer(signal.ITIMER_REAL, 0.001)
+                volume.compact()
+                time.sleep(1)
+        finally:
+            signal.signal(signal.SIGALRM, before)
+        self.assertGreater(volume.compact(), 0)
+
+
 class Words(unittest.TestCase):
     """How calls take their words."""
 
@@ -389,6 +507,29 @@ class Words(unittest.TestCase):
 
 
 class Threads(unittest.TestCase):
+    def test_threads_change_forks(self):
+        first, faults = Volume(clock=lambda: 0), []
+        for number in range(200):
+            first.write_bytes(f"/f{number}", b"x")
+
+        def work(number):
+            try:
+                with first.fork() as volume:
+                    for turn in range(200):
+                        volume.write_bytes(f"/f{turn}", b"%d" % number)
+                        first.freeze().fork().close()
+                    assert {volume.read(f"/f{turn}") for turn in range(200)} == {b"%d" % number}
+            except Exception as fault:
+                faults.append(fault)
+
+        workers = [threading.Thread(target=work, args=(number,)) for number in range(8)]
+        for worker in workers:
+            worker.start()
+        for worker in workers:
+            worker.join()
+        self.assertEqual(faults, [])
+        self.assertEqual({first.read(f"/f{number}") for number in range(200)}, {b"x"})
+
     def test_threads_share_a_volume(self):
         volume, faults = Volume(), []
 

@@ -8,8 +8,8 @@ use std::{fmt, io};
 /// use doorvervain::{Errno, Volume};
 /// use std::io;
 ///
-/// let mut volume = Volume::new()?;
-/// let refused = volume.mkdir("/a/b", 0).unwrap_err();
+/// let volume = Volume::new()?;
+/// let refused = volume.mkdir("/a/b").unwrap_err();
 /// assert_eq!(refused, Errno::ENOENT);
 /// assert_eq!(refused.to_string(), "ENOENT: no such file or directory");
 /// assert_eq!(io::Error::from(refused).kind(), io::ErrorKind::NotFound);
@@ -123,6 +123,12 @@ impl fmt::Display for LoadError {
             LoadError::BadLine(line) => write!(f, "bad image at line {line}"),
             LoadError::Refused(refused) => refused.fmt(f),
         }
+    }
+}
+
+impl From<Errno> for LoadError {
+    fn from(error: Errno) -> LoadError {
+        LoadError::Refused(error)
     }
 }
 

@@ -2,15 +2,15 @@
 #![deny(unsafe_code, missing_docs)]
 
 mod errno;
+mod file;
 mod listing;
-mod path;
 mod raw;
 mod volume;
 
 pub use errno::{DeltaError, Errno, LoadError};
-pub use listing::{Entries, Entry, Kind, Listing, Stat, Walk, WalkEntry};
-pub use path::AsPath;
-pub use volume::{Frozen, Shape, Volume};
+pub use file::File;
+pub use listing::{Entry, Kind, Listing, Stat, Walk, WalkEntry};
+pub use volume::{At, Frozen, Shape, Volume};
 
 /// What the linked library was built from: the release, the commit, and `proved` or `unproved`, as
 /// `0.2.0, commit 0123456789ab, proved`.

@@ -3,14 +3,16 @@
 //! The obligations of a caller of the library, and how they are met:
 //! - *No null pointer, and no volume that is closed*: a handle owns a volume from its creation to its drop, and a slice is never
 //!   null.
-//! - *One thread at a time in a volume and in the trees frozen from it*: they share one lock, which each call holds.
+//! - *One thread at a time in a volume and in the trees frozen from it*: they share one lock, which each call holds. A fork has a
+//!   lock of its own: volumes that share nodes may be used by different threads at once.
 //! - *Bytes that a call writes overlap no others*: they are borrowed by `&mut`.
 #![allow(unsafe_code)]
 
-use crate::errno::{Errno, SHORT};
+use crate::errno::{Errno, LoadError, SHORT};
 use crate::listing::{Kind, Stat};
 use std::ffi::c_void;
-use std::ptr::{null_mut, NonNull};
+use std::mem::ManuallyDrop;
+use std::ptr::{self, null_mut, NonNull};
 use std::sync::{Arc, Mutex, MutexGuard, PoisonError};
 
 /// The most bytes that one call reads.
@@ -37,9 +39,6 @@ type List = unsafe extern "C" fn(*mut RawHandle, *const u8, usize, *mut u8, usiz
 #[rustfmt::skip]
 extern "C" {
     fn doorvervain_raw_open(fanout: u16, pending: u16, leaf: u16, out: *mut RawHandle) -> u8;
-    fn doorvervain_raw_load(
-        fanout: u16, pending: u16, leaf: u16, text: *const u8, length: usize, line: *mut u64, out: *mut RawHandle,
-    ) -> u8;
     fn doorvervain_raw_close(fs: RawHandle);
     fn doorvervain_raw_mkdir(fs: *mut RawHandle, path: *const u8, length: usize, at: u64) -> u8;
     fn doorvervain_raw_create(fs: *mut RawHandle, path: *const u8, length: usize, at: u64) -> u8;
@@ -62,11 +61,22 @@ extern "C" {
     fn doorvervain_raw_readdir(
         fs: *mut RawHandle, path: *const u8, length: usize, out: *mut u8, capacity: usize, size: *mut usize,
     ) -> u8;
+    fn doorvervain_raw_punch(fs: *mut RawHandle, path: *const u8, length: usize, offset: u64, count: u64, at: u64) -> u8;
     fn doorvervain_raw_snapshot(fs: *mut RawHandle, name: *const u8, length: usize) -> u8;
     fn doorvervain_raw_drop_snapshot(fs: *mut RawHandle, name: *const u8, length: usize) -> u8;
     fn doorvervain_raw_restore(fs: *mut RawHandle, name: *const u8, length: usize) -> u8;
     fn doorvervain_raw_snapshot_name(fs: *mut RawHandle, index: usize, out: *mut u8, capacity: usize, size: *mut usize) -> u8;
+    fn doorvervain_raw_print_begin(tree: RawHandle, out: *mut RawHandle) -> u8;
+    fn doorvervain_raw_print_next(printer: *mut RawHandle, out: *mut u8, capacity: usize, size: *mut usize) -> u8;
+    fn doorvervain_raw_print_end(printer: RawHandle);
+    fn doorvervain_raw_load_begin(fanout: u16, pending: u16, leaf: u16, out: *mut RawHandle) -> u8;
+    fn doorvervain_raw_load_feed(loader: *mut RawHandle, text: *const u8, length: usize, line: *mut u64) -> u8;
+    fn doorvervain_raw_load_finish(loader: RawHandle, line: *mut u64, out: *mut RawHandle) -> u8;
+    fn doorvervain_raw_load_abort(loader: RawHandle);
     fn doorvervain_raw_freeze(fs: *mut RawHandle, out: *mut RawHandle) -> u8;
+    fn doorvervain_raw_fork(fs: *mut RawHandle, out: *mut RawHandle) -> u8;
+    fn doorvervain_raw_frozen_fork(tree: *mut RawHandle, out: *mut RawHandle) -> u8;
+    fn doorvervain_raw_restore_frozen(fs: *mut RawHandle, tree: *mut RawHandle) -> u8;
     fn doorvervain_raw_open_snapshot(fs: *mut RawHandle, name: *const u8, length: usize, out: *mut RawHandle) -> u8;
     fn doorvervain_raw_frozen_read(
         tree: *mut RawHandle, path: *const u8, length: usize, offset: u64, out: *mut u8, capacity: usize, got: *mut usize,
@@ -284,44 +294,40 @@ impl VolumeHandle {
         Ok(VolumeHandle(Held::new(&out, Arc::default())?))
     }
 
-    /// Loads a volume from an image; or returns the error, with the first bad line of the text.
-    pub(crate) fn load(fanout: u16, pending: u16, leaf: u16, text: &[u8]) -> Result<VolumeHandle, (Errno, u64)> {
-        let (mut out, mut line) = (CLOSED, 0);
-        // SAFETY: the out-parameters can be written, and the text is a slice.
-        let number =
-            unsafe { doorvervain_raw_load(fanout, pending, leaf, text.as_ptr(), text.len(), &mut line, &mut out) };
-        let held = done(number).and_then(|()| Held::new(&out, Arc::default()));
-        held.map(VolumeHandle).map_err(|refused| (refused, line))
-    }
-
-    pub(crate) fn path_call(&mut self, call: PathCall, path: &[u8], at: u64) -> Result<(), Errno> {
+    pub(crate) fn path_call(&self, call: PathCall, path: &[u8], at: u64) -> Result<(), Errno> {
         let held = &self.0;
         let _lock = held.locked();
         // SAFETY: the volume is there, under its lock; the bytes are those of a slice. So in the calls below.
         done(unsafe { call.call()(&mut held.raw(), path.as_ptr(), path.len(), at) })
     }
 
-    pub(crate) fn rename(&mut self, from: &[u8], to: &[u8], at: u64) -> Result<(), Errno> {
+    pub(crate) fn rename(&self, from: &[u8], to: &[u8], at: u64) -> Result<(), Errno> {
         let held = &self.0;
         let _lock = held.locked();
         let (from_at, to_at) = (from.as_ptr(), to.as_ptr());
         done(unsafe { doorvervain_raw_rename(&mut held.raw(), from_at, from.len(), to_at, to.len(), at) })
     }
 
-    pub(crate) fn truncate(&mut self, path: &[u8], size: u64, at: u64) -> Result<(), Errno> {
+    pub(crate) fn truncate(&self, path: &[u8], size: u64, at: u64) -> Result<(), Errno> {
         let held = &self.0;
         let _lock = held.locked();
         done(unsafe { doorvervain_raw_truncate(&mut held.raw(), path.as_ptr(), path.len(), size, at) })
     }
 
-    pub(crate) fn write(&mut self, path: &[u8], offset: u64, bytes: &[u8], at: u64) -> Result<(), Errno> {
+    pub(crate) fn write(&self, path: &[u8], offset: u64, bytes: &[u8], at: u64) -> Result<(), Errno> {
         let held = &self.0;
         let _lock = held.locked();
         let (mut raw, from) = (held.raw(), bytes.as_ptr());
         done(unsafe { doorvervain_raw_write(&mut raw, path.as_ptr(), path.len(), offset, from, bytes.len(), at) })
     }
 
-    pub(crate) fn snapshot_call(&mut self, call: SnapshotCall, name: &[u8]) -> Result<(), Errno> {
+    pub(crate) fn punch(&self, path: &[u8], offset: u64, count: u64, at: u64) -> Result<(), Errno> {
+        let held = &self.0;
+        let _lock = held.locked();
+        done(unsafe { doorvervain_raw_punch(&mut held.raw(), path.as_ptr(), path.len(), offset, count, at) })
+    }
+
+    pub(crate) fn snapshot_call(&self, call: SnapshotCall, name: &[u8]) -> Result<(), Errno> {
         let held = &self.0;
         let _lock = held.locked();
         done(unsafe { call.call()(&mut held.raw(), name.as_ptr(), name.len()) })
@@ -345,6 +351,21 @@ impl VolumeHandle {
         let mut out = CLOSED;
         done(unsafe { doorvervain_raw_freeze(&mut held.raw(), &mut out) })?;
         Ok(FrozenHandle(Held::new(&out, Arc::clone(&held.lock))?))
+    }
+
+    pub(crate) fn fork(&self) -> Result<VolumeHandle, Errno> {
+        let held = &self.0;
+        let _lock = held.locked();
+        let mut out = CLOSED;
+        done(unsafe { doorvervain_raw_fork(&mut held.raw(), &mut out) })?;
+        Ok(VolumeHandle(Held::new(&out, Arc::default())?))
+    }
+
+    /// The frozen tree is borrowed, so it is not closed meanwhile. Its own lock is not needed: the call only looks at it.
+    pub(crate) fn restore_frozen(&self, tree: &FrozenHandle) -> Result<(), Errno> {
+        let held = &self.0;
+        let _lock = held.locked();
+        done(unsafe { doorvervain_raw_restore_frozen(&mut held.raw(), &mut tree.0.raw()) })
     }
 
     pub(crate) fn open_snapshot(&self, name: &[u8]) -> Result<FrozenHandle, Errno> {
@@ -375,7 +396,7 @@ impl VolumeHandle {
     }
 
     /// Applies a delta; or returns the error, with the first bad line of the text.
-    pub(crate) fn apply_delta(&mut self, text: &[u8]) -> Result<(), (Errno, u64)> {
+    pub(crate) fn apply_delta(&self, text: &[u8]) -> Result<(), (Errno, u64)> {
         let held = &self.0;
         let _lock = held.locked();
         let mut line = 0;
@@ -383,7 +404,7 @@ impl VolumeHandle {
         done(number).map_err(|refused| (refused, line))
     }
 
-    pub(crate) fn compact(&mut self, steps: u32) -> u32 {
+    pub(crate) fn compact(&self, steps: u32) -> u32 {
         let held = &self.0;
         let _lock = held.locked();
         unsafe { doorvervain_raw_compact(&mut held.raw(), steps) }
@@ -391,6 +412,15 @@ impl VolumeHandle {
 }
 
 impl FrozenHandle {
+    pub(crate) fn fork(&self) -> Result<VolumeHandle, Errno> {
+        let held = &self.0;
+        let _lock = held.locked();
+        let mut out = CLOSED;
+        // SAFETY: the tree is there, under its lock; the out-parameter can be written.
+        done(unsafe { doorvervain_raw_frozen_fork(&mut held.raw(), &mut out) })?;
+        Ok(VolumeHandle(Held::new(&out, Arc::default())?))
+    }
+
     pub(crate) fn image(&self) -> Result<Vec<u8>, Errno> {
         let held = &self.0;
         let _lock = held.locked();
@@ -399,6 +429,94 @@ impl FrozenHandle {
         filled(1024, |out, size| unsafe {
             doorvervain_raw_image(&mut raw, out.as_mut_ptr(), out.len(), size)
         })
+    }
+}
+
+/// Prints the image of a frozen tree, one piece at a time. It has the tree, and its lock.
+pub(crate) struct Printer(Held);
+
+impl Printer {
+    /// Takes the tree.
+    pub(crate) fn begin(tree: FrozenHandle) -> Result<Printer, Errno> {
+        let tree = ManuallyDrop::new(tree);
+        // SAFETY: the tree is not dropped, so this is its one owner.
+        let held = unsafe { ptr::read(&tree.0) };
+        let mut out = CLOSED;
+        let number = {
+            let _lock = held.locked();
+            // SAFETY: the tree is there, under its lock; the call closes it, whatever it returns.
+            unsafe { doorvervain_raw_print_begin(held.raw(), &mut out) }
+        };
+        done(number)?;
+        Ok(Printer(Held::new(&out, held.lock)?))
+    }
+
+    /// Writes the next bytes into the buffer, and returns how many, 0 only at the end of the image.
+    pub(crate) fn next(&mut self, piece: &mut [u8]) -> Result<usize, Errno> {
+        let held = &self.0;
+        let _lock = held.locked();
+        let (mut raw, mut size) = (held.raw(), 0);
+        // SAFETY: the printer is there, under the lock of its tree; the bytes are those of a slice.
+        done(unsafe { doorvervain_raw_print_next(&mut raw, piece.as_mut_ptr(), piece.len(), &mut size) })?;
+        Ok(size)
+    }
+}
+
+/// Loads a volume from an image, one piece at a time.
+pub(crate) struct LoaderHandle(Held);
+
+impl LoaderHandle {
+    pub(crate) fn begin(fanout: u16, pending: u16, leaf: u16) -> Result<LoaderHandle, LoadError> {
+        let mut out = CLOSED;
+        // SAFETY: the out-parameter can be written.
+        let number = unsafe { doorvervain_raw_load_begin(fanout, pending, leaf, &mut out) };
+        loaded(number, 0)?;
+        Held::new(&out, Arc::default())
+            .map(LoaderHandle)
+            .map_err(LoadError::Refused)
+    }
+
+    /// Feeds the next bytes of the text.
+    pub(crate) fn feed(&mut self, text: &[u8]) -> Result<(), LoadError> {
+        let (mut raw, mut line) = (self.0.raw(), 0);
+        // SAFETY: the loader is there, and no other thread has it; the bytes are those of a slice.
+        let number = unsafe { doorvervain_raw_load_feed(&mut raw, text.as_ptr(), text.len(), &mut line) };
+        loaded(number, line)
+    }
+
+    /// Ends the text.
+    pub(crate) fn finish(self) -> Result<VolumeHandle, LoadError> {
+        let (loader, mut out, mut line) = (ManuallyDrop::new(self), CLOSED, 0);
+        // SAFETY: the loader is not dropped, so this is its one owner, and its lock is that of the volume then.
+        let held = unsafe { ptr::read(&loader.0) };
+        // SAFETY: the loader is there; the call closes it, whatever it returns.
+        let number = unsafe { doorvervain_raw_load_finish(held.raw(), &mut line, &mut out) };
+        loaded(number, line)?;
+        Held::new(&out, held.lock).map(VolumeHandle).map_err(LoadError::Refused)
+    }
+}
+
+/// The result of a call that loads, by its number and the first bad line.
+fn loaded(number: u8, line: u64) -> Result<(), LoadError> {
+    done(number).map_err(|error| match line {
+        0 => LoadError::Refused(error),
+        line => LoadError::BadLine(line),
+    })
+}
+
+impl Drop for Printer {
+    fn drop(&mut self) {
+        let held = &self.0;
+        let _lock = held.locked();
+        // SAFETY: the owner is dropped, so nobody uses the printer again.
+        unsafe { doorvervain_raw_print_end(held.raw()) };
+    }
+}
+
+impl Drop for LoaderHandle {
+    fn drop(&mut self) {
+        // SAFETY: the owner is dropped, so nobody uses the loader again.
+        unsafe { doorvervain_raw_load_abort(self.0.raw()) };
     }
 }
 

@@ -1,9 +1,12 @@
 //! Volumes and frozen trees.
 use crate::errno::{DeltaError, Errno, LoadError};
-use crate::listing::{Kind, Listing, Lists, Stat, Walk};
-use crate::path::AsPath;
-use crate::raw::{FrozenHandle, PathCall, Reads, SnapshotCall, VolumeHandle};
-use std::fmt;
+use crate::listing::{Listing, Lists, Stat, Walk};
+use crate::raw::{FrozenHandle, LoaderHandle, PathCall, Printer, Reads, SnapshotCall, VolumeHandle};
+use std::os::unix::ffi::OsStrExt;
+use std::path::Path;
+use std::sync::Arc;
+use std::time::{SystemTime, UNIX_EPOCH};
+use std::{fmt, io};
 
 /// The shape of a volume's trees. It changes no result, only time.
 #[derive(Clone, Copy, Debug, PartialEq, Eq, Hash)]
@@ -38,9 +41,43 @@ impl Default for Shape {
     }
 }
 
+/// How many bytes of an image are read or written at a time.
+const PIECE: usize = 1 << 16;
+
+/// What returns the timestamp of a change.
+type Clock = Arc<dyn Fn() -> u64 + Send + Sync>;
+
+/// The time of the system in nanoseconds since 1970; 0 before that.
+fn system_time() -> u64 {
+    let since = SystemTime::now().duration_since(UNIX_EPOCH).unwrap_or_default();
+    u64::try_from(since.as_nanos()).unwrap_or(u64::MAX)
+}
+
+/// The bytes of a path, which are used unchanged.
+fn bytes_of(path: &Path) -> &[u8] {
+    path.as_os_str().as_bytes()
+}
+
 /// A tree of directories and files in memory, with snapshots. It is freed when it is dropped.
 ///
-/// It may be moved to another thread (`Send`), as a frozen tree may:
+/// A path is whatever [`std::fs`] takes for one, `AsRef<Path>`: text, an [`OsStr`](std::ffi::OsStr) or a [`Path`]. It begins with a slash,
+/// and its bytes are used unchanged, also those that are no UTF-8.
+///
+/// Each change has a timestamp, which becomes the mtime of what it changes: the time of the system in nanoseconds since 1970. For
+/// another, [`Volume::at`] makes one change at a given number, and [`Volume::set_clock`] sets the clock.
+///
+/// ```
+/// # use doorvervain::{Errno, Volume};
+/// let volume = Volume::new()?;
+/// volume.create_dir_all("/notes/2026")?;
+/// volume.write("/notes/2026/monday", "rain")?;
+/// volume.at(7).write_at("/notes/2026/monday", 4, b" and sun")?;
+/// assert_eq!(volume.read("/notes/2026/monday")?, b"rain and sun");
+/// assert_eq!(volume.stat("/notes/2026/monday")?.modified, 7);
+/// # Ok::<(), Errno>(())
+/// ```
+///
+/// A volume may be moved to another thread (`Send`), as a frozen tree may:
 ///
 /// ```
 /// fn moved<T: Send>() {}
@@ -56,6 +93,7 @@ impl Default for Shape {
 /// ```
 pub struct Volume {
     handle: VolumeHandle,
+    clock: Clock,
 }
 
 /// A frozen tree: later changes of its volume do not affect it. It outlives its volume, and is freed when it is dropped.
@@ -63,10 +101,10 @@ pub struct Volume {
 /// ```
 /// use doorvervain::{Errno, Volume};
 ///
-/// let mut volume = Volume::new()?;
-/// volume.create("/x", 0)?;
+/// let volume = Volume::new()?;
+/// volume.create("/x")?;
 /// let tree = volume.freeze()?;
-/// volume.unlink("/x", 0)?;
+/// volume.unlink("/x")?;
 /// let seen = std::thread::spawn(move || tree.exists("/x")).join();
 /// assert_eq!(seen.unwrap(), Ok(true));
 /// assert_eq!(volume.exists("/x"), Ok(false));
@@ -83,25 +121,23 @@ pub struct Frozen {
     handle: FrozenHandle,
 }
 
+/// A volume whose changes have one given timestamp: [`Volume::at`].
+#[derive(Clone, Copy)]
+pub struct At<'a> {
+    volume: &'a Volume,
+    timestamp: u64,
+}
+
 /// The read-only calls, which a volume and a frozen tree have in common.
 macro_rules! read_only_calls {
     ($Tree:ty) => {
         impl $Tree {
-            /// Reads a file from `offset` on into `out`. Returns how many bytes, fewer than the length of `out` only at the end of
-            /// the file. The rest of `out` is unchanged.
+            /// Returns all bytes of a file.
             ///
             /// # Errors
-            /// `ENOENT`, `ENOTDIR`, `EISDIR`.
-            pub fn read<P: AsPath + ?Sized>(&self, path: &P, offset: u64, out: &mut [u8]) -> Result<usize, Errno> {
-                self.handle.read(path.as_path_bytes(), offset, out)
-            }
-
-            /// All bytes of a file.
-            ///
-            /// # Errors
-            /// `ENOENT`, `ENOTDIR`, `EISDIR`; `ENOMEM`: the file is longer than memory.
-            pub fn read_all<P: AsPath + ?Sized>(&self, path: &P) -> Result<Vec<u8>, Errno> {
-                let path = path.as_path_bytes();
+            /// `ENOENT`, `ENOTDIR`: the path does not exist; `EISDIR`: it is a directory; `ENOMEM`: the file is longer than memory.
+            pub fn read<P: AsRef<Path>>(&self, path: P) -> Result<Vec<u8>, Errno> {
+                let path = bytes_of(path.as_ref());
                 let stat = self.handle.stat(path)?;
                 let size = usize::try_from(stat.size).map_err(|_| Errno::ENOMEM)?;
                 let mut out = Vec::new();
@@ -112,39 +148,58 @@ macro_rules! read_only_calls {
                 Ok(out)
             }
 
+            /// Returns a file as text.
+            ///
+            /// # Errors
+            /// As [`read`](Self::read), as an [`io::Error`]; of the kind [`InvalidData`](io::ErrorKind::InvalidData) if the bytes are not
+            /// UTF-8.
+            pub fn read_to_string<P: AsRef<Path>>(&self, path: P) -> io::Result<String> {
+                let bytes = self.read(path)?;
+                String::from_utf8(bytes).map_err(|error| io::Error::new(io::ErrorKind::InvalidData, error))
+            }
+
+            /// Reads a file from `offset` on, in bytes, into `out`. Returns how many bytes, fewer than the length of `out` only at the
+            /// end of the file. The rest of `out` is unchanged.
+            ///
+            /// # Errors
+            /// `ENOENT`, `ENOTDIR`: the path does not exist; `EISDIR`: it is a directory.
+            pub fn read_at<P: AsRef<Path>>(&self, path: P, offset: u64, out: &mut [u8]) -> Result<usize, Errno> {
+                self.handle.read(bytes_of(path.as_ref()), offset, out)
+            }
+
             /// Returns the kind, size and mtime of an entry.
             ///
             /// # Errors
-            /// `ENOENT`, `ENOTDIR`.
-            pub fn stat<P: AsPath + ?Sized>(&self, path: &P) -> Result<Stat, Errno> {
-                self.handle.stat(path.as_path_bytes())
+            /// `ENOENT`, `ENOTDIR`: the path does not exist.
+            pub fn stat<P: AsRef<Path>>(&self, path: P) -> Result<Stat, Errno> {
+                self.handle.stat(bytes_of(path.as_ref()))
             }
 
             /// Whether a path exists.
             ///
             /// # Errors
             /// `EINVAL`, `ENAMETOOLONG`: the text is not a path.
-            pub fn exists<P: AsPath + ?Sized>(&self, path: &P) -> Result<bool, Errno> {
+            pub fn exists<P: AsRef<Path>>(&self, path: P) -> Result<bool, Errno> {
                 match self.stat(path) {
                     Ok(_) => Ok(true),
                     Err(Errno::ENOENT | Errno::ENOTDIR) => Ok(false),
-                    Err(refused) => Err(refused),
+                    Err(error) => Err(error),
                 }
             }
 
-            /// The entries of a directory, in byte order of their names.
+            /// Lists a directory, in byte order of the names.
             ///
             /// # Errors
-            /// `ENOENT`, `ENOTDIR`.
-            pub fn readdir<P: AsPath + ?Sized>(&self, path: &P) -> Result<Listing, Errno> {
-                self.list(path.as_path_bytes())
+            /// `ENOENT`: the path does not exist; `ENOTDIR`: it is a file.
+            pub fn readdir<P: AsRef<Path>>(&self, path: P) -> Result<Listing, Errno> {
+                self.list(bytes_of(path.as_ref()))
             }
 
             /// Iterates over the entry at a path and everything below it, each directory right before its entries. If the path does
             /// not exist, the error is the only item.
-            pub fn walk<P: AsPath + ?Sized>(&self, path: &P) -> Walk<'_> {
-                let path = path.as_path_bytes();
-                Walk::new(self, path, self.handle.stat(path))
+            pub fn walk<P: AsRef<Path>>(&self, path: P) -> Walk<'_> {
+                let path = path.as_ref();
+                Walk::new(self, path, self.handle.stat(bytes_of(path)))
             }
         }
 
@@ -159,7 +214,177 @@ macro_rules! read_only_calls {
 read_only_calls!(Volume);
 read_only_calls!(Frozen);
 
+/// The calls that change a tree: those of a volume at the time of its clock, and those at a given timestamp.
+macro_rules! changing_calls {
+    ($Target:ty) => {
+        impl $Target {
+            /// Creates an empty directory.
+            ///
+            /// # Errors
+            /// `ENOENT`, `ENOTDIR`: the parent is not a directory; `EEXIST`: the path exists already; `ENOMEM`.
+            pub fn mkdir<P: AsRef<Path>>(&self, path: P) -> Result<(), Errno> {
+                self.path_call(PathCall::Mkdir, path.as_ref())
+            }
+
+            /// Creates a directory, and those above it that do not exist. Does nothing if it exists.
+            ///
+            /// # Errors
+            /// `ENOTDIR`: a path above is a file; `EEXIST`: the path is a file; `EINVAL`, `ENAMETOOLONG`: the text is not a path; `ENOMEM`.
+            /// Directories that were created before the error stay.
+            pub fn create_dir_all<P: AsRef<Path>>(&self, path: P) -> Result<(), Errno> {
+                let path = path.as_ref();
+                match self.mkdir(path) {
+                    Err(Errno::EEXIST) if self.volume().stat(path)?.is_dir() => Ok(()),
+                    Err(Errno::ENOENT) => match path.parent() {
+                        Some(parent) => {
+                            self.create_dir_all(parent)?;
+                            self.mkdir(path)
+                        }
+                        None => Err(Errno::ENOENT),
+                    },
+                    ended => ended,
+                }
+            }
+
+            /// Creates an empty file.
+            ///
+            /// # Errors
+            /// `ENOENT`, `ENOTDIR`: the parent is not a directory; `EEXIST`: the path exists already; `ENOMEM`.
+            pub fn create<P: AsRef<Path>>(&self, path: P) -> Result<(), Errno> {
+                self.path_call(PathCall::Create, path.as_ref())
+            }
+
+            /// Removes a file.
+            ///
+            /// # Errors
+            /// `ENOENT`, `ENOTDIR`: the path does not exist; `EPERM`: it is a directory; `ENOMEM`.
+            pub fn unlink<P: AsRef<Path>>(&self, path: P) -> Result<(), Errno> {
+                self.path_call(PathCall::Unlink, path.as_ref())
+            }
+
+            /// Removes an empty directory.
+            ///
+            /// # Errors
+            /// `ENOENT`: the path does not exist; `ENOTDIR`: it is a file; `ENOTEMPTY`: it has entries; `EBUSY`: it is the root; `ENOMEM`.
+            pub fn rmdir<P: AsRef<Path>>(&self, path: P) -> Result<(), Errno> {
+                self.path_call(PathCall::Rmdir, path.as_ref())
+            }
+
+            /// Removes a file, or a directory with everything below it.
+            ///
+            /// # Errors
+            /// `ENOENT`, `ENOTDIR`: the path does not exist; `EBUSY`: it is the root; `ENOMEM`.
+            pub fn rmtree<P: AsRef<Path>>(&self, path: P) -> Result<(), Errno> {
+                self.path_call(PathCall::Rmtree, path.as_ref())
+            }
+
+            /// Renames a file, or a directory with everything below it. A file may replace a file, and a directory an empty directory.
+            ///
+            /// # Errors
+            /// `ENOENT`, `ENOTDIR`: the old path or the parent of the new one does not exist, or a directory would replace a file; `EISDIR`:
+            /// a file would replace a directory; `ENOTEMPTY`: the directory at the new path has entries; `EINVAL`: the new path is below the
+            /// old one; `EBUSY`: the old path is the root; `ENAMETOOLONG`: a path at or below the new one would be too long; `ENOMEM`.
+            pub fn rename<P: AsRef<Path>, Q: AsRef<Path>>(&self, from: P, to: Q) -> Result<(), Errno> {
+                let (from, to) = (bytes_of(from.as_ref()), bytes_of(to.as_ref()));
+                self.volume().handle.rename(from, to, self.timestamp())
+            }
+
+            /// Truncates a file to `size` bytes, or extends it to them with zeros.
+            ///
+            /// # Errors
+            /// `ENOENT`, `ENOTDIR`: the path does not exist; `EISDIR`: it is a directory; `EFBIG`: more than 2^40 bytes; `ENOMEM`.
+            pub fn truncate<P: AsRef<Path>>(&self, path: P, size: u64) -> Result<(), Errno> {
+                let path = bytes_of(path.as_ref());
+                self.volume().handle.truncate(path, size, self.timestamp())
+            }
+
+            /// Makes a file of these bytes: creates it, or replaces all that it has.
+            ///
+            /// # Errors
+            /// `ENOENT`, `ENOTDIR`: the parent is not a directory; `EISDIR`: the path is a directory; `EFBIG`: more than 2^40 bytes; `ENOMEM`:
+            /// the file may be empty then.
+            pub fn write<P: AsRef<Path>, B: AsRef<[u8]>>(&self, path: P, bytes: B) -> Result<(), Errno> {
+                let path = path.as_ref();
+                match self.create(path) {
+                    Err(Errno::EEXIST) => self.truncate(path, 0)?,
+                    ended => ended?,
+                }
+                self.write_at(path, 0, bytes)
+            }
+
+            /// Writes bytes to a file that exists from `offset` on, in bytes, and extends it if they reach past its end. The write is atomic.
+            ///
+            /// # Errors
+            /// `ENOENT`, `ENOTDIR`: the path does not exist; `EISDIR`: it is a directory; `EFBIG`: past 2^40 bytes; `ENOMEM`.
+            pub fn write_at<P: AsRef<Path>, B: AsRef<[u8]>>(
+                &self,
+                path: P,
+                offset: u64,
+                bytes: B,
+            ) -> Result<(), Errno> {
+                let path = bytes_of(path.as_ref());
+                self.volume()
+                    .handle
+                    .write(path, offset, bytes.as_ref(), self.timestamp())
+            }
+
+            /// Punches a hole: sets `count` bytes of a file from `offset` on to zero, up to the file's end, which stays. Blocks of 4,096 bytes
+            /// that are entirely in the hole use no memory afterwards. If no byte of the range is within the file, nothing changes.
+            ///
+            /// # Errors
+            /// `ENOENT`, `ENOTDIR`: the path does not exist; `EISDIR`: it is a directory; `ENOMEM`.
+            pub fn punch<P: AsRef<Path>>(&self, path: P, offset: u64, count: u64) -> Result<(), Errno> {
+                let path = bytes_of(path.as_ref());
+                self.volume().handle.punch(path, offset, count, self.timestamp())
+            }
+
+            fn path_call(&self, call: PathCall, path: &Path) -> Result<(), Errno> {
+                self.volume()
+                    .handle
+                    .path_call(call, bytes_of(path), self.timestamp())
+            }
+        }
+    };
+}
+
+changing_calls!(Volume);
+changing_calls!(At<'_>);
+
+impl At<'_> {
+    fn volume(&self) -> &Volume {
+        self.volume
+    }
+
+    fn timestamp(&self) -> u64 {
+        self.timestamp
+    }
+}
+
+/// A volume of the usual shape, as [`Volume::new`] makes it.
+///
+/// # Panics
+/// On an allocation failure.
+impl Default for Volume {
+    fn default() -> Volume {
+        Volume::new().expect("memory for an empty volume")
+    }
+}
+
 impl Volume {
+    fn volume(&self) -> &Volume {
+        self
+    }
+
+    fn timestamp(&self) -> u64 {
+        (self.clock)()
+    }
+
+    /// A volume over a handle, with the clock of the system.
+    fn over(handle: VolumeHandle) -> Volume {
+        let clock = Arc::new(system_time);
+        Volume { handle, clock }
+    }
+
     /// Creates a volume with an empty root directory and the default shape.
     ///
     /// # Errors
@@ -173,8 +398,7 @@ impl Volume {
     /// # Errors
     /// `EINVAL`: no such shape; `ENOMEM`.
     pub fn with_shape(shape: Shape) -> Result<Volume, Errno> {
-        let handle = VolumeHandle::open(shape.fanout, shape.pending, shape.leaf)?;
-        Ok(Volume { handle })
+        VolumeHandle::open(shape.fanout, shape.pending, shape.leaf).map(Volume::over)
     }
 
     /// Loads a volume from an image, without snapshots.
@@ -183,7 +407,7 @@ impl Volume {
     /// use doorvervain::{LoadError, Shape, Volume};
     ///
     /// let volume = Volume::load(b"D / 5\nF /x 3 7\nb 0 616263\n", Shape::USUAL).unwrap();
-    /// assert_eq!(volume.read_all("/x"), Ok(b"abc".to_vec()));
+    /// assert_eq!(volume.read("/x"), Ok(b"abc".to_vec()));
     /// assert_eq!(volume.image(), Ok(b"D / 5\nF /x 3 7\nb 0 616263\n".to_vec()));
     /// assert_eq!(Volume::load(b"D / 5\nx\n", Shape::USUAL).err(), Some(LoadError::BadLine(2)));
     /// ```
@@ -191,90 +415,66 @@ impl Volume {
     /// # Errors
     /// [`LoadError::BadLine`]: the text is not an image; else `EINVAL`, no such shape, or `ENOMEM`.
     pub fn load(image: &[u8], shape: Shape) -> Result<Volume, LoadError> {
-        let loaded = VolumeHandle::load(shape.fanout, shape.pending, shape.leaf, image);
-        let handle = loaded.map_err(|(refused, line)| match line {
-            0 => LoadError::Refused(refused),
-            line => LoadError::BadLine(line),
-        })?;
-        Ok(Volume { handle })
+        let mut loader = LoaderHandle::begin(shape.fanout, shape.pending, shape.leaf)?;
+        loader.feed(image)?;
+        loader.finish().map(Volume::over)
     }
 
-    /// Creates an empty directory.
+    /// Loads a volume from an image that a reader gives, up to its end, without snapshots. It is read in pieces, so that the text does
+    /// not have to fit into memory.
     ///
     /// # Errors
-    /// `ENOENT`, `ENOTDIR`: about the parent; `EEXIST`, `ENOMEM`.
-    pub fn mkdir<P: AsPath + ?Sized>(&mut self, path: &P, at: u64) -> Result<(), Errno> {
-        self.handle.path_call(PathCall::Mkdir, path.as_path_bytes(), at)
+    /// Those of the reader; those of [`Volume::load`], of the kind [`InvalidData`](io::ErrorKind::InvalidData) if the text is not an image.
+    pub fn load_from<R: io::Read>(mut reader: R, shape: Shape) -> io::Result<Volume> {
+        let mut loader = LoaderHandle::begin(shape.fanout, shape.pending, shape.leaf)?;
+        let mut piece = vec![0; PIECE];
+        loop {
+            match reader.read(&mut piece) {
+                Ok(0) => return Ok(Volume::over(loader.finish()?)),
+                Ok(count) => loader.feed(&piece[..count])?,
+                Err(error) if error.kind() == io::ErrorKind::Interrupted => {}
+                Err(error) => return Err(error),
+            }
+        }
     }
 
-    /// Creates an empty file.
+    /// Sets the clock, which returns the timestamp of each change from now on.
     ///
-    /// # Errors
-    /// `ENOENT`, `ENOTDIR`: about the parent; `EEXIST`, `ENOMEM`.
-    pub fn create<P: AsPath + ?Sized>(&mut self, path: &P, at: u64) -> Result<(), Errno> {
-        self.handle.path_call(PathCall::Create, path.as_path_bytes(), at)
+    /// ```
+    /// # use doorvervain::{Errno, Volume};
+    /// let mut volume = Volume::new()?;
+    /// volume.set_clock(|| 7);
+    /// volume.mkdir("/a")?;
+    /// assert_eq!(volume.stat("/a")?.modified, 7);
+    /// # Ok::<(), Errno>(())
+    /// ```
+    pub fn set_clock<C: Fn() -> u64 + Send + Sync + 'static>(&mut self, clock: C) {
+        self.clock = Arc::new(clock);
     }
 
-    /// Removes a file.
+    /// The volume with changes at this timestamp, a number that need not increase, in place of the time of its clock.
     ///
-    /// # Errors
-    /// `ENOENT`, `ENOTDIR`; `EPERM`: a directory; `ENOMEM`.
-    pub fn unlink<P: AsPath + ?Sized>(&mut self, path: &P, at: u64) -> Result<(), Errno> {
-        self.handle.path_call(PathCall::Unlink, path.as_path_bytes(), at)
-    }
-
-    /// Removes an empty directory.
-    ///
-    /// # Errors
-    /// `ENOENT`, `ENOTDIR`, `ENOTEMPTY`; `EBUSY`: the root; `ENOMEM`.
-    pub fn rmdir<P: AsPath + ?Sized>(&mut self, path: &P, at: u64) -> Result<(), Errno> {
-        self.handle.path_call(PathCall::Rmdir, path.as_path_bytes(), at)
-    }
-
-    /// Removes a file, or a directory with everything below it.
-    ///
-    /// # Errors
-    /// `ENOENT`, `ENOTDIR`; `EBUSY`: the root; `ENOMEM`.
-    pub fn rmtree<P: AsPath + ?Sized>(&mut self, path: &P, at: u64) -> Result<(), Errno> {
-        self.handle.path_call(PathCall::Rmtree, path.as_path_bytes(), at)
-    }
-
-    /// Moves the entry at the first path, with everything below it, to the second. A file replaces a file there, and a directory
-    /// an empty directory.
-    ///
-    /// # Errors
-    /// `ENOENT`, `ENOTDIR`, `EISDIR`, `ENOTEMPTY`, `ENAMETOOLONG`; `EINVAL`: below itself; `EBUSY`: the root; `ENOMEM`.
-    pub fn rename<P, Q>(&mut self, from: &P, to: &Q, at: u64) -> Result<(), Errno>
-    where
-        P: AsPath + ?Sized,
-        Q: AsPath + ?Sized,
-    {
-        self.handle.rename(from.as_path_bytes(), to.as_path_bytes(), at)
-    }
-
-    /// Truncates a file to `size` bytes, or extends it to them with zeros.
-    ///
-    /// # Errors
-    /// `ENOENT`, `ENOTDIR`, `EISDIR`; `EFBIG`: more than 2^40; `ENOMEM`.
-    pub fn truncate<P: AsPath + ?Sized>(&mut self, path: &P, size: u64, at: u64) -> Result<(), Errno> {
-        self.handle.truncate(path.as_path_bytes(), size, at)
-    }
-
-    /// Writes bytes to a file at `offset`, and extends it if they reach past its end. The write is atomic.
-    ///
-    /// # Errors
-    /// `ENOENT`, `ENOTDIR`, `EISDIR`; `EFBIG`: past 2^40 bytes; `ENOMEM`.
-    pub fn write<P: AsPath + ?Sized>(&mut self, path: &P, offset: u64, bytes: &[u8], at: u64) -> Result<(), Errno> {
-        self.handle.write(path.as_path_bytes(), offset, bytes, at)
+    /// ```
+    /// # use doorvervain::{Errno, Volume};
+    /// let volume = Volume::new()?;
+    /// volume.at(5).mkdir("/a")?;
+    /// assert_eq!(volume.image()?, b"D / 5\nD /a 5\n");
+    /// # Ok::<(), Errno>(())
+    /// ```
+    pub fn at(&self, timestamp: u64) -> At<'_> {
+        At {
+            volume: self,
+            timestamp,
+        }
     }
 
     /// Takes a snapshot under a name: 1 to 64 ASCII letters, digits, `.`, `_` and `-`.
     ///
     /// ```
     /// # use doorvervain::{Errno, Volume};
-    /// let mut volume = Volume::new()?;
+    /// let volume = Volume::new()?;
     /// volume.snapshot("empty")?;
-    /// volume.create("/x", 0)?;
+    /// volume.create("/x")?;
     /// volume.restore("empty")?;
     /// assert!(volume.readdir("/")?.is_empty());
     /// assert_eq!(volume.snapshots().collect::<Vec<_>>(), ["empty"]);
@@ -283,7 +483,7 @@ impl Volume {
     ///
     /// # Errors
     /// `EEXIST`; `EINVAL`: not a name; `ENOSPC`: all 64 names are taken; `ENOMEM`.
-    pub fn snapshot(&mut self, name: &str) -> Result<(), Errno> {
+    pub fn snapshot(&self, name: &str) -> Result<(), Errno> {
         self.handle.snapshot_call(SnapshotCall::Snapshot, name.as_bytes())
     }
 
@@ -291,7 +491,7 @@ impl Volume {
     ///
     /// # Errors
     /// `ENOENT`; `EINVAL`: not a name.
-    pub fn drop_snapshot(&mut self, name: &str) -> Result<(), Errno> {
+    pub fn drop_snapshot(&self, name: &str) -> Result<(), Errno> {
         self.handle.snapshot_call(SnapshotCall::Drop, name.as_bytes())
     }
 
@@ -299,7 +499,7 @@ impl Volume {
     ///
     /// # Errors
     /// `ENOENT`, `ENOMEM`; `EINVAL`: not a name.
-    pub fn restore(&mut self, name: &str) -> Result<(), Errno> {
+    pub fn restore(&self, name: &str) -> Result<(), Errno> {
         self.handle.snapshot_call(SnapshotCall::Restore, name.as_bytes())
     }
 
@@ -316,6 +516,46 @@ impl Volume {
         Ok(Frozen {
             handle: self.handle.freeze()?,
         })
+    }
+
+    /// Makes a volume of its own with the current tree and the same shape, in constant time, without snapshots. Later changes of one
+    /// do not affect the other, and each may be used by a thread of its own. They have one clock.
+    ///
+    /// ```
+    /// # use doorvervain::{Errno, Volume};
+    /// let volume = Volume::new()?;
+    /// volume.create("/x")?;
+    /// let fork = volume.fork()?;
+    /// fork.unlink("/x")?;
+    /// assert_eq!((volume.exists("/x"), fork.exists("/x")), (Ok(true), Ok(false)));
+    /// # Ok::<(), Errno>(())
+    /// ```
+    ///
+    /// # Errors
+    /// `ENOMEM`.
+    pub fn fork(&self) -> Result<Volume, Errno> {
+        Ok(Volume {
+            handle: self.handle.fork()?,
+            clock: Arc::clone(&self.clock),
+        })
+    }
+
+    /// Restores the volume's tree from a frozen one, also of another volume, whose shape the volume then has. The snapshots stay.
+    ///
+    /// ```
+    /// # use doorvervain::{Errno, Volume};
+    /// let volume = Volume::new()?;
+    /// let empty = volume.freeze()?;
+    /// volume.create("/x")?;
+    /// volume.restore_frozen(&empty)?;
+    /// assert!(volume.readdir("/")?.is_empty());
+    /// # Ok::<(), Errno>(())
+    /// ```
+    ///
+    /// # Errors
+    /// `ENOMEM`.
+    pub fn restore_frozen(&self, tree: &Frozen) -> Result<(), Errno> {
+        self.handle.restore_frozen(&tree.handle)
     }
 
     /// Opens a snapshot for reading.
@@ -336,6 +576,25 @@ impl Volume {
         self.freeze()?.image()
     }
 
+    /// Writes the image of the tree, in pieces, so that the text does not have to fit into memory.
+    ///
+    /// ```
+    /// # use doorvervain::{Shape, Volume};
+    /// let volume = Volume::new()?;
+    /// volume.write("/x", "abc")?;
+    /// let mut text = Vec::new();
+    /// volume.write_image(&mut text)?;
+    /// let again = Volume::load_from(text.as_slice(), Shape::USUAL)?;
+    /// assert_eq!(again.read("/x")?, b"abc");
+    /// # std::io::Result::Ok(())
+    /// ```
+    ///
+    /// # Errors
+    /// Those of the writer, which may have a part of the text then; `ENOMEM`.
+    pub fn write_image<W: io::Write>(&self, writer: W) -> io::Result<()> {
+        self.freeze()?.write_image(writer)
+    }
+
     /// The delta from one tree to another, as text for [`Volume::apply_delta`]: each is the snapshot of that name, or the current
     /// tree if the name is empty.
     ///
@@ -349,17 +608,17 @@ impl Volume {
     ///
     /// ```
     /// # use doorvervain::{Shape, Volume};
-    /// let mut near = Volume::load(b"D / 5\nF /x 3 7\nb 0 616263\n", Shape::USUAL).unwrap();
-    /// let mut far = Volume::load(&near.image().unwrap(), Shape::USUAL).unwrap();
+    /// let near = Volume::load(b"D / 5\nF /x 3 7\nb 0 616263\n", Shape::USUAL).unwrap();
+    /// let far = Volume::load(&near.image().unwrap(), Shape::USUAL).unwrap();
     /// near.snapshot("sent").unwrap();
-    /// near.write("/x", 1, b"-", 9).unwrap();
+    /// near.write_at("/x", 1, b"-").unwrap();
     /// far.apply_delta(&near.delta("sent", "").unwrap()).unwrap();
     /// assert_eq!(far.image(), near.image());
     /// ```
     ///
     /// # Errors
     /// [`DeltaError`]. Then the volume is unchanged.
-    pub fn apply_delta(&mut self, text: &[u8]) -> Result<(), DeltaError> {
+    pub fn apply_delta(&self, text: &[u8]) -> Result<(), DeltaError> {
         self.handle.apply_delta(text).map_err(|refused| match refused {
             (Errno::ENOENT, _) => DeltaError::OtherTree,
             (Errno::EINVAL, 0) => DeltaError::NoTree,
@@ -368,14 +627,23 @@ impl Volume {
         })
     }
 
-    /// Compacts the trees: does at most `steps` steps, each of which moves pending changes down. Returns how many steps it tried,
-    /// fewer only if nothing is pending. It changes no result of any call.
-    pub fn compact(&mut self, steps: u32) -> u32 {
+    /// Compacts the trees: does at most `steps` steps, each of which moves pending changes down. Returns how many steps it did,
+    /// fewer only if nothing is pending or the next step cannot be done. It changes no result of any call.
+    pub fn compact(&self, steps: u32) -> u32 {
         self.handle.compact(steps)
     }
 }
 
 impl Frozen {
+    /// Makes a volume of its own with this tree and its shape, in constant time, without snapshots. Later changes of it do not affect
+    /// the tree.
+    ///
+    /// # Errors
+    /// `ENOMEM`.
+    pub fn fork(&self) -> Result<Volume, Errno> {
+        self.handle.fork().map(Volume::over)
+    }
+
     /// The image of the tree: text that [`Volume::load`] accepts.
     ///
     /// # Errors
@@ -383,11 +651,26 @@ impl Frozen {
     pub fn image(&self) -> Result<Vec<u8>, Errno> {
         self.handle.image()
     }
+
+    /// Writes the image of the tree, in pieces, so that the text does not have to fit into memory, and frees the tree.
+    ///
+    /// # Errors
+    /// Those of the writer, which may have a part of the text then; `ENOMEM`.
+    pub fn write_image<W: io::Write>(self, mut writer: W) -> io::Result<()> {
+        let mut printer = Printer::begin(self.handle)?;
+        let mut piece = vec![0; PIECE];
+        loop {
+            match printer.next(&mut piece)? {
+                0 => return writer.flush(),
+                count => writer.write_all(&piece[..count])?,
+            }
+        }
+    }
 }
 
 /// Shows how many entries the root has.
 fn show(f: &mut fmt::Formatter<'_>, name: &str, listing: Result<Listing, Errno>) -> fmt::Result {
-    let entries = listing.map(|it| it.iter().count());
+    let entries = listing.map(|it| it.len());
     f.debug_struct(name).field("entries", &entries).finish_non_exhaustive()
 }
 
@@ -400,12 +683,5 @@ impl fmt::Debug for Volume {
 impl fmt::Debug for Frozen {
     fn fmt(&self, f: &mut fmt::Formatter<'_>) -> fmt::Result {
         show(f, "Frozen", self.readdir("/"))
-    }
-}
-
-impl Stat {
-    /// Whether it is a directory.
-    pub fn is_dir(&self) -> bool {
-        self.kind == Kind::Directory
     }
 }

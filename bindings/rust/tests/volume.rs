@@ -7,20 +7,19 @@ use std::thread;
 type Outcome = Result<(), Errno>;
 
 fn names(volume: &Volume, path: &str) -> Result<Vec<String>, Errno> {
-    let listing = volume.readdir(path)?;
-    let shown = |entry: doorvervain::Entry<'_>| {
-        let letter = if entry.kind == Kind::Directory { 'd' } else { 'f' };
-        format!("{letter} {}", String::from_utf8_lossy(entry.name))
+    let shown = |entry: doorvervain::Entry| {
+        let letter = if entry.is_dir() { 'd' } else { 'f' };
+        format!("{letter} {}", entry.name.to_string_lossy())
     };
-    Ok(listing.iter().map(shown).collect())
+    Ok(volume.readdir(path)?.map(shown).collect())
 }
 
 #[test]
 fn the_calls() -> Outcome {
-    let mut volume = Volume::new()?;
-    volume.mkdir("/d", 3)?;
-    volume.create("/d/x", 4)?;
-    volume.write("/d/x", 0, b"hello, world", 5)?;
+    let volume = Volume::new()?;
+    volume.at(3).mkdir("/d")?;
+    volume.at(4).create("/d/x")?;
+    volume.at(5).write_at("/d/x", 0, b"hello, world")?;
     let (size, modified) = (12, 5);
     assert_eq!(
         volume.stat("/d/x"),
@@ -31,38 +30,38 @@ fn the_calls() -> Outcome {
         })
     );
     assert!(volume.stat("/d")?.is_dir());
-    volume.rename("/d/x", "/y", 6)?;
-    volume.truncate("/y", 5, 7)?;
-    assert_eq!(volume.read_all("/y")?, b"hello");
+    volume.at(6).rename("/d/x", "/y")?;
+    volume.at(7).truncate("/y", 5)?;
+    assert_eq!(volume.read("/y")?, b"hello");
     assert_eq!(names(&volume, "/")?, ["d d", "f y"]);
-    volume.unlink("/y", 8)?;
-    volume.rmdir("/d", 9)?;
+    volume.at(8).unlink("/y")?;
+    volume.at(9).rmdir("/d")?;
     assert!(volume.readdir("/")?.is_empty());
     Ok(())
 }
 
 #[test]
 fn the_refusals() -> Outcome {
-    let mut volume = Volume::new()?;
-    volume.mkdir("/d", 0)?;
-    volume.create("/d/f", 0)?;
+    let volume = Volume::new()?;
+    volume.mkdir("/d")?;
+    volume.create("/d/f")?;
     let before = volume.image()?;
     let long = format!("/{}", "n".repeat(256));
-    assert_eq!(volume.mkdir("/x/y", 0), Err(Errno::ENOENT));
-    assert_eq!(volume.create("", 0), Err(Errno::ENOENT));
-    assert_eq!(volume.create("/d/f/x", 0), Err(Errno::ENOTDIR));
-    assert_eq!(volume.write("/d", 0, b"x", 0), Err(Errno::EISDIR));
-    assert_eq!(volume.mkdir("/d", 0), Err(Errno::EEXIST));
-    assert_eq!(volume.rmdir("/d", 0), Err(Errno::ENOTEMPTY));
-    assert_eq!(volume.unlink("/d", 0), Err(Errno::EPERM));
-    assert_eq!(volume.rename("/d", "/d/e", 0), Err(Errno::EINVAL));
-    assert_eq!(volume.mkdir("d", 0), Err(Errno::EINVAL));
-    assert_eq!(volume.mkdir(b"/\0", 0), Err(Errno::EINVAL));
-    assert_eq!(volume.mkdir(&long, 0), Err(Errno::ENAMETOOLONG));
-    assert_eq!(volume.truncate("/d/f", (1 << 40) + 1, 0), Err(Errno::EFBIG));
-    assert_eq!(volume.write("/d/f", u64::MAX, b"x", 0), Err(Errno::EFBIG));
-    assert_eq!(volume.rmtree("/", 0), Err(Errno::EBUSY));
-    assert_eq!(volume.read_all("/d"), Err(Errno::EISDIR));
+    assert_eq!(volume.mkdir("/x/y"), Err(Errno::ENOENT));
+    assert_eq!(volume.create(""), Err(Errno::ENOENT));
+    assert_eq!(volume.create("/d/f/x"), Err(Errno::ENOTDIR));
+    assert_eq!(volume.write_at("/d", 0, b"x"), Err(Errno::EISDIR));
+    assert_eq!(volume.mkdir("/d"), Err(Errno::EEXIST));
+    assert_eq!(volume.rmdir("/d"), Err(Errno::ENOTEMPTY));
+    assert_eq!(volume.unlink("/d"), Err(Errno::EPERM));
+    assert_eq!(volume.rename("/d", "/d/e"), Err(Errno::EINVAL));
+    assert_eq!(volume.mkdir("d"), Err(Errno::EINVAL));
+    assert_eq!(volume.mkdir("/\0"), Err(Errno::EINVAL));
+    assert_eq!(volume.mkdir(&long), Err(Errno::ENAMETOOLONG));
+    assert_eq!(volume.truncate("/d/f", (1 << 40) + 1), Err(Errno::EFBIG));
+    assert_eq!(volume.write_at("/d/f", u64::MAX, b"x"), Err(Errno::EFBIG));
+    assert_eq!(volume.rmtree("/"), Err(Errno::EBUSY));
+    assert_eq!(volume.read("/d"), Err(Errno::EISDIR));
     assert_eq!(volume.readdir("/d/f").err(), Some(Errno::ENOTDIR));
     assert_eq!(volume.exists("/d/f/x"), Ok(false));
     assert_eq!(volume.exists("/d//f"), Err(Errno::EINVAL));
@@ -107,15 +106,15 @@ fn refusals_of_the_system() {
 
 #[test]
 fn reads_of_all_lengths() -> Outcome {
-    let mut volume = Volume::new()?;
+    let volume = Volume::new()?;
     let bytes: Vec<u8> = (0..(2_u32 << 20) + 9).map(|i| (i.wrapping_mul(i) >> 8) as u8).collect();
-    volume.create("/f", 0)?;
-    volume.write("/f", 0, &bytes, 0)?;
-    assert!(volume.read_all("/f")? == bytes);
+    volume.create("/f")?;
+    volume.write_at("/f", 0, &bytes)?;
+    assert!(volume.read("/f")? == bytes);
     for room in [0, 1, 4096, 1 << 20, (1 << 20) + 1, (2 << 20) + 9, 3 << 20] {
         for offset in [0, 1, 4095, (2 << 20) + 8, (2 << 20) + 9, 3 << 20] {
             let mut out = vec![0xa5; room];
-            let got = volume.read("/f", offset as u64, &mut out)?;
+            let got = volume.read_at("/f", offset as u64, &mut out)?;
             let expected = &bytes[offset.min(bytes.len())..(offset + room).min(bytes.len())];
             assert!(out[..got] == *expected, "{room} bytes from {offset}");
             assert!(
@@ -124,27 +123,28 @@ fn reads_of_all_lengths() -> Outcome {
             );
         }
     }
-    assert_eq!(volume.read("/f", u64::MAX, &mut [0; 9]), Ok(0));
+    assert_eq!(volume.read_at("/f", u64::MAX, &mut [0; 9]), Ok(0));
     Ok(())
 }
 
 #[test]
 fn a_long_listing() -> Outcome {
-    let mut volume = Volume::with_shape(Shape {
+    let volume = Volume::with_shape(Shape {
         fanout: 4,
         pending: 4,
         leaf: 4,
     })?;
     let made: Vec<String> = (0..3_000).map(|i| format!("name-{i:04}")).collect();
     for name in made.iter().rev() {
-        volume.create(&format!("/{name}"), 0)?;
+        volume.create(format!("/{name}"))?;
         volume.compact(2);
     }
     let listing = volume.readdir("/")?;
+    assert_eq!(listing.len(), 3_000);
     assert!(listing
-        .iter()
+        .clone()
         .map(|entry| entry.name)
-        .eq(made.iter().map(|name| name.as_bytes())));
+        .eq(made.iter().map(|name| name.as_str())));
     while volume.compact(100) == 100 {}
     assert_eq!(volume.readdir("/")?, listing);
     Ok(())
@@ -152,16 +152,14 @@ fn a_long_listing() -> Outcome {
 
 #[test]
 fn walks() -> Outcome {
-    let mut volume = Volume::new()?;
+    let volume = Volume::new()?;
     for path in ["/a", "/a/b", "/a-", "/c"] {
-        volume.mkdir(path, 0)?;
+        volume.mkdir(path)?;
     }
-    volume.create("/a/b/f", 0)?;
+    volume.create("/a/b/f")?;
     let paths = |top: &str| -> Vec<String> {
         let walked = volume.walk(top).map(|it| it.expect("it is there"));
-        walked
-            .map(|it| String::from_utf8_lossy(&it.path).into_owned())
-            .collect()
+        walked.map(|it| it.path.to_string_lossy().into_owned()).collect()
     };
     assert_eq!(paths("/"), ["/", "/a", "/a/b", "/a/b/f", "/a-", "/c"]);
     assert_eq!(paths("/a/b"), ["/a/b", "/a/b/f"]);
@@ -174,9 +172,9 @@ fn walks() -> Outcome {
 
 #[test]
 fn snapshots() -> Outcome {
-    let mut volume = Volume::new()?;
+    let volume = Volume::new()?;
     for name in ["b", "a", "a.1"] {
-        volume.create(&format!("/{name}"), 0)?;
+        volume.create(format!("/{name}"))?;
         volume.snapshot(name)?;
     }
     assert_eq!(volume.snapshots().collect::<Vec<_>>(), ["a", "a.1", "b"]);
@@ -191,7 +189,7 @@ fn snapshots() -> Outcome {
     assert_eq!(volume.drop_snapshot("a.1"), Err(Errno::ENOENT));
     assert_eq!(volume.snapshots().collect::<Vec<_>>(), ["a", "b"]);
     drop(volume);
-    assert_eq!(kept.readdir("/")?.iter().count(), 3);
+    assert_eq!(kept.readdir("/")?.len(), 3);
     assert_eq!(kept.exists(Path::new("/a.1")), Ok(true));
     Ok(())
 }
@@ -229,25 +227,25 @@ fn images() -> Outcome {
 /// Trees that are frozen are read in threads while their volume goes on.
 #[test]
 fn threads() -> Outcome {
-    let mut volume = Volume::new()?;
+    let volume = Volume::new()?;
     let mut readers = Vec::new();
     for round in 0..200_u32 {
         let text = round.to_string().repeat(100);
         let path = format!("/f{}", round % 7);
         if round < 7 {
-            volume.create(&path, 0)?;
+            volume.create(&path)?;
         }
-        volume.truncate(&path, 0, 0)?;
-        volume.write(&path, 0, text.as_bytes(), 0)?;
+        volume.truncate(&path, 0)?;
+        volume.write_at(&path, 0, text.as_bytes())?;
         if round % 10 == 0 {
             let tree: Frozen = volume.freeze()?;
             readers.push(thread::spawn(move || {
-                (0..50).all(|_| tree.read_all(&path) == Ok(text.clone().into_bytes()))
+                (0..50).all(|_| tree.read(&path) == Ok(text.clone().into_bytes()))
             }));
         }
         volume.compact(1);
     }
-    let moved = thread::spawn(move || volume.readdir("/").map(|listing| listing.iter().count()));
+    let moved = thread::spawn(move || volume.readdir("/").map(|listing| listing.len()));
     assert_eq!(moved.join().expect("it ends"), Ok(7));
     for reader in readers {
         assert!(reader.join().expect("it ends"));
@@ -257,8 +255,8 @@ fn threads() -> Outcome {
 
 #[test]
 fn what_debug_shows() -> Outcome {
-    let mut volume = Volume::new()?;
-    volume.mkdir("/a", 0)?;
+    let volume = Volume::new()?;
+    volume.mkdir("/a")?;
     assert_eq!(format!("{volume:?}"), "Volume { entries: Ok(1), .. }");
     Ok(())
 }
@@ -268,9 +266,9 @@ const OF_ROOT: &str = "delta 1 8bafcef92f133b33d780e9f333a263fd826f3cf6a3de0ba28
 
 #[test]
 fn a_bad_delta_changes_nothing() -> Result<(), Errno> {
-    let mut volume = Volume::load(b"D / 5\n", Shape::USUAL).expect("an image");
+    let volume = Volume::load(b"D / 5\n", Shape::USUAL).expect("an image");
     volume.snapshot("kept")?;
-    let mut refused = |text: &str| volume.apply_delta(text.as_bytes()).err();
+    let refused = |text: &str| volume.apply_delta(text.as_bytes()).err();
     assert_eq!(refused(""), Some(DeltaError::BadLine(1)));
     assert_eq!(refused(&format!("{OF_ROOT}* 1\nend\n")), Some(DeltaError::BadLine(2)));
     assert_eq!(refused(&format!("{OF_ROOT}- 1\nend\n")), Some(DeltaError::NoTree));
@@ -289,5 +287,7 @@ fn the_build_is_told() {
     let mut words = doorvervain::BUILD.split(", ");
     assert_eq!(words.next(), Some(env!("CARGO_PKG_VERSION")));
     assert!(words.next().map_or(false, |word| word.starts_with("commit ")));
-    assert!(words.next().map_or(false, |word| word == "unproved" || word.starts_with("proved")));
+    assert!(words
+        .next()
+        .map_or(false, |word| word == "unproved" || word.starts_with("proved")));
 }

@@ -2,9 +2,9 @@
 use Rattle.std.specs.Prelude.{◌≡◌, ◌⊎◌, ◌++◌, ◌≤◌, ◌+◌, ◌^◌, ℕ, List, length, Option, Some, None, Result, Ok, Err}
 use Rattle.pathkey.specs.declared.errno.Errno.{Errno}
 use Rattle.pathkey.specs.declared.errno.Errno.TheVariants.{EINVAL, ENOENT}
-use Rattle.logs.specs.Records.{LacksRecord, record_of}
-use Rattle.recovery.specs.Replays.{Replays}
-use Rattle.recovery.specs.declared.replay_error.ReplayError.{ReplayError}
+use Rattle.wal.specs.Records.{LacksRecord, record_of}
+use Rattle.wal.specs.Replays.{Replays}
+use Rattle.wal.specs.declared.replay_error.ReplayError.{ReplayError}
 use Rattle.volume.specs.Volumes.{PVolume}
 use Rattle.doorvervain.specs.Numbers.{reported}
 

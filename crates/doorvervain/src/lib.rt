@@ -7,6 +7,7 @@
 
 mod changes;
 mod differences;
+mod forks;
 mod frozen;
 mod frozen_place;
 mod handle;

@@ -4,27 +4,25 @@ ghost use Rattle.std.specs.Prelude.{◌≡◌, ◌↔◌, ◌++◌, IfErr, IfOk,
 ghost use Rattle.pathkey.specs.SnapNames.{snap_parsed};
 ghost use Rattle.pathkey.specs.Texts.{parsed};
 ghost use Rattle.pathkey.specs.declared.errno.Errno.TheVariants.{ENOMEM};
-ghost use Rattle.logs.specs.Encode.{Encodes, EncodesBytes, asked, moved};
-ghost use Rattle.logs.specs.Records.{digest, front};
-ghost use Rattle.logs.specs.declared.wal_entry.WalEntry.TheVariants as change;
-ghost use Rattle.logs.specs.declared.wal_entry.SnapshotCall.TheVariants as keeping;
-ghost use Rattle.logs.specs.declared.wal_entry.PathCall.TheVariants as on;
-ghost use Rattle.log_lines.specs.Dump.{EncodesLines};
-ghost use Rattle.recovery.specs.Runs.{RunsBody};
+ghost use Rattle.wal.specs.Encode.{Encodes, EncodesBytes, asked, moved};
+ghost use Rattle.wal.specs.Records.{digest, front};
+ghost use Rattle.wal.specs.declared.wal_entry.WalEntry.TheVariants as change;
+ghost use Rattle.wal.specs.declared.wal_entry.SnapshotCall.TheVariants as keeping;
+ghost use Rattle.reference.specs.declared.path_call.PathCall.TheVariants as on;
+ghost use Rattle.wal.specs.Dump.{EncodesLines};
+ghost use Rattle.wal.specs.Runs.{RunsBody};
 ghost use Rattle.doorvervain.specs.Log.{FindsRecord, ReplaysReported, stopped_of, stopped_reported};
 ghost use Rattle.doorvervain.specs.Numbers.{IsNumber, IsShort, IsSizeNumber, short, sized_by, reported, reported_by};
 
 use crate::handle::VolumeHandle;
 use crate::numbers::{count, number, sized};
-use log_lines::wal_dump_into;
-use logs::encode::{
+use pathkey::Errno;
+use std::alloc::Global;
+use wal::encode::{
     encode_frame, encode_path_call, encode_punch, encode_rename, encode_snapshot_call,
     encode_truncate, encode_write,
 };
-use logs::{PathCall, SnapshotCall, next_record};
-use pathkey::Errno;
-use recovery::{ReplayError, replay, replay_body};
-use std::alloc::Global;
+use wal::{PathCall, ReplayError, SnapshotCall, next_record, replay, replay_body, wal_dump_into};
 
 /// The entry of a directory that is made. How many bytes it has goes to `size`; they are written where the buffer has
 /// room for all of them.

@@ -6,7 +6,7 @@ ghost use Rattle.node.specs.Shapes.{is_shape};
 ghost use Rattle.reference.specs.Worlds.{World};
 ghost use Rattle.images.specs.Taken.{LoadedIn};
 ghost use Rattle.volume.specs.Volumes.{IsNew, Means};
-ghost use Rattle.ffi_calls.specs.Upkeep.{IsIdle, Relieves};
+ghost use Rattle.ffi_calls.specs.Upkeep.{IsIdle, IsStuck, Relieves};
 ghost use Rattle.doorvervain.specs.Handed.{AnswerReported, FaultReported, FindsHanded, Given, HandsOut, NoShape, NotLoaded, shape_of};
 ghost use Rattle.doorvervain.specs.Held.{IsClosed};
 ghost use Rattle.doorvervain.specs.Numbers.{IsNumber, reported};
@@ -119,13 +119,14 @@ pub extern "C" fn doorvervain_raw_frozen_close(alloc: Global, tree: FrozenHandle
     let _tree = tree.into_box(alloc);
 }
 
-/// Tries at most so many tree steps: how many. The volume means what it meant.
+/// Does at most so many tree steps: how many, fewer only where nothing is pending or the next step was not done. The volume means what it
+/// meant.
 #[unsafe(no_mangle)]
 pub extern "C" fn doorvervain_raw_compact(alloc: Global, fs: &mut VolumeHandle, steps: u32) -> u32
     ensures few { result ≤ steps }
     ensures steps { Relieves result fs.old.volume fs.new.volume }
     ensures means { (w : World) → Means fs.old.volume w → Means fs.new.volume w }
-    ensures rest { result < steps → IsIdle fs.new.volume }
+    ensures rest { result < steps → IsIdle fs.new.volume ⊎ IsStuck fs.new.volume }
 {
     ffi_calls::compact(alloc, fs.volume(), steps)
 }

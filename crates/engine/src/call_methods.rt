@@ -3,39 +3,41 @@
 //!
 //! Under the lock the volume's method of that name is asked. So no path is copied, and each answer tells its reply. A call is
 //! recorded once, as by `Client::call`; one that only looks is recorded at the moment 0, which changes no answer.
+ghost use Rattle.reference.specs.PathCalls.{call_at};
 ghost use Rattle.reference.specs.Pairs.{pairs_of};
 ghost use Rattle.reference.specs.Worlds.{Ask, Replied};
 ghost use Rattle.engine.specs.Clients.{Calls};
-ghost use Rattle.engine.specs.PathOps.{call_of};
 ghost use Rattle.volume.specs.Typed.{replied};
 
 use crate::client::Client;
 use crate::engine_rule::EngineId;
-use crate::path_ops::{PathCall, PathOp, ReadOp, ReaddirOp, RenameOp, StatOp, WriteOp};
+use crate::path_ops::{PathOp, ReadOp, ReaddirOp, RenameOp, StatOp, TruncateOp, WriteOp};
 use pathkey::{Errno, Path};
-use reference::{Call, Kind, Reply};
+use reference::{Call, Kind, PathCall, Reply};
 use std::alloc::Global;
 use std::sync::Wait;
 
 impl<J: EngineId> Client<J> {
-    // Does at a path what tells nothing back.
-    fn do_at<R: Wait>(
+    // Makes or removes what is at a path.
+    fn path_call<R: Wait>(
         &mut self,
         rt: &R,
         alloc: Global,
-        deed: PathCall,
+        call: PathCall,
         path: &Path,
         at: u64,
     ) -> Result<(), Errno>
-        ensures { Calls J.opening self.old (Ask (call_of deed path.now) at) (Replied (replied (λ _. Reply.Done) result)) self.new }
+        ensures { Calls J.opening self.old (Ask (call_at call path.now) at) (Replied (replied (λ _. Reply.Done) result)) self.new }
     {
-        let doing = PathOp {
-            alloc,
-            deed,
-            path,
-            at,
-        };
-        self.record_call(rt, &doing)
+        self.record_call(
+            rt,
+            &PathOp {
+                alloc,
+                call,
+                path,
+                at,
+            },
+        )
     }
 
     /// Makes an empty directory (POSIX.1-2017, mkdir).
@@ -48,7 +50,7 @@ impl<J: EngineId> Client<J> {
     ) -> Result<(), Errno>
         ensures { Calls J.opening self.old (Ask (Call.Mkdir path.now) at) (Replied (replied (λ _. Reply.Done) result)) self.new }
     {
-        self.do_at(rt, alloc, PathCall::Mkdir, path, at)
+        self.path_call(rt, alloc, PathCall::Mkdir, path, at)
     }
 
     /// Makes an empty file, where none stands (open with O_CREAT and O_EXCL, without a descriptor).
@@ -61,7 +63,7 @@ impl<J: EngineId> Client<J> {
     ) -> Result<(), Errno>
         ensures { Calls J.opening self.old (Ask (Call.Create path.now) at) (Replied (replied (λ _. Reply.Done) result)) self.new }
     {
-        self.do_at(rt, alloc, PathCall::Create, path, at)
+        self.path_call(rt, alloc, PathCall::Create, path, at)
     }
 
     /// Lays the bytes over a file from the offset on, all of them or none (pwrite): how many they are.
@@ -99,7 +101,15 @@ impl<J: EngineId> Client<J> {
     ) -> Result<(), Errno>
         ensures { Calls J.opening self.old (Ask (Call.Truncate path.now length) at) (Replied (replied (λ _. Reply.Done) result)) self.new }
     {
-        self.do_at(rt, alloc, PathCall::Truncate(length), path, at)
+        self.record_call(
+            rt,
+            &TruncateOp {
+                alloc,
+                path,
+                length,
+                at,
+            },
+        )
     }
 
     /// Takes a file out (unlink).
@@ -112,7 +122,7 @@ impl<J: EngineId> Client<J> {
     ) -> Result<(), Errno>
         ensures { Calls J.opening self.old (Ask (Call.Unlink path.now) at) (Replied (replied (λ _. Reply.Done) result)) self.new }
     {
-        self.do_at(rt, alloc, PathCall::Unlink, path, at)
+        self.path_call(rt, alloc, PathCall::Unlink, path, at)
     }
 
     /// Takes an empty directory out (rmdir).
@@ -125,7 +135,7 @@ impl<J: EngineId> Client<J> {
     ) -> Result<(), Errno>
         ensures { Calls J.opening self.old (Ask (Call.Rmdir path.now) at) (Replied (replied (λ _. Reply.Done) result)) self.new }
     {
-        self.do_at(rt, alloc, PathCall::Rmdir, path, at)
+        self.path_call(rt, alloc, PathCall::Rmdir, path, at)
     }
 
     /// Moves what stands at the first path to the second (rename).
@@ -160,7 +170,7 @@ impl<J: EngineId> Client<J> {
     ) -> Result<(), Errno>
         ensures { Calls J.opening self.old (Ask (Call.Rmtree path.now) at) (Replied (replied (λ _. Reply.Done) result)) self.new }
     {
-        self.do_at(rt, alloc, PathCall::Rmtree, path, at)
+        self.path_call(rt, alloc, PathCall::Rmtree, path, at)
     }
 
     /// The bytes of a file from the offset on, at most `count` and none past its end (pread).

@@ -1,53 +1,61 @@
-//! What a client asks of the volume by the methods of its calls: one struct for each type of answer, and one for all calls with
-//! one path that tell nothing back.
+//! What a client asks of the volume by the methods of its calls: one struct for all calls that make or remove what is at a path,
+//! and one for each other call.
 
 use crate::operation::Operation;
 use pathkey::{Errno, Path};
-use reference::Kind;
+use reference::{Kind, PathCall};
 use std::alloc::Global;
 use volume::Volume;
 
-/// What is done at one path, of the calls that tell nothing back.
-#[derive(Clone, Copy)]
-pub enum PathCall {
-    Mkdir,
-    Create,
-    Truncate(u64),
-    Unlink,
-    Rmdir,
-    Rmtree,
-}
-
-/// A deed at a path, at a moment.
+/// What is at one path is made or removed, at a timestamp.
 #[derive(Drop)]
 pub struct PathOp<'a> {
     pub alloc: Global,
-    pub deed: PathCall,
+    pub call: PathCall,
     pub path: &'a Path,
     pub at: u64,
 }
 
 impl<'a> Operation for PathOp<'a> {
+    ghost use Rattle.reference.specs.PathCalls.{call_at};
     ghost use Rattle.reference.specs.Worlds.{Ask, Replied};
     ghost use Rattle.reference.specs.declared.reply.Reply.TheVariants.{Done};
-    ghost use Rattle.engine.specs.PathOps.{call_of};
     ghost use Rattle.volume.specs.Typed.{replied};
 
     type Reply = Result<(), Errno>;
 
-    ghost event = { λ s. Ask (call_of s.deed s.path.now) s.at };
+    ghost event = { λ s. Ask (call_at s.call s.path.now) s.at };
 
     ghost answer = { λ r. Replied (replied (λ _. Done) r) };
 
     fn execute(&self, volume: &mut Volume) -> Result<(), Errno> {
-        match self.deed {
-            PathCall::Mkdir => volume.mkdir(self.alloc, self.path, self.at),
-            PathCall::Create => volume.create(self.alloc, self.path, self.at),
-            PathCall::Truncate(length) => volume.truncate(self.alloc, self.path, length, self.at),
-            PathCall::Unlink => volume.unlink(self.alloc, self.path, self.at),
-            PathCall::Rmdir => volume.rmdir(self.alloc, self.path, self.at),
-            PathCall::Rmtree => volume.rmtree(self.alloc, self.path, self.at),
-        }
+        volume.path_call(self.alloc, self.call, self.path, self.at)
+    }
+}
+
+/// A file is cut or lengthened, at a timestamp.
+#[derive(Drop)]
+pub struct TruncateOp<'a> {
+    pub alloc: Global,
+    pub path: &'a Path,
+    pub length: u64,
+    pub at: u64,
+}
+
+impl<'a> Operation for TruncateOp<'a> {
+    ghost use Rattle.reference.specs.Worlds.{Ask, Replied};
+    ghost use Rattle.reference.specs.declared.call.Call.TheVariants.{Truncate};
+    ghost use Rattle.reference.specs.declared.reply.Reply.TheVariants.{Done};
+    ghost use Rattle.volume.specs.Typed.{replied};
+
+    type Reply = Result<(), Errno>;
+
+    ghost event = { λ s. Ask (Truncate s.path.now s.length) s.at };
+
+    ghost answer = { λ r. Replied (replied (λ _. Done) r) };
+
+    fn execute(&self, volume: &mut Volume) -> Result<(), Errno> {
+        volume.truncate(self.alloc, self.path, self.length, self.at)
     }
 }
 

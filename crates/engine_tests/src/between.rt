@@ -13,19 +13,19 @@ use volume::{Done, Job};
 
 /// What a client does between the taking and the installing.
 #[derive(Clone, Copy)]
-pub enum PathCall {
+pub enum Interference {
     /// It restores the snapshot, in which the later file is not.
     Restore,
     /// It writes to the later file.
     Write,
 }
 
-impl PathCall {
+impl Interference {
     /// What the turn has to answer.
     fn wanted(self) -> TurnReply {
         match self {
-            PathCall::Restore => TurnReply::Stale,
-            PathCall::Write => TurnReply::Installed,
+            Interference::Restore => TurnReply::Stale,
+            Interference::Write => TurnReply::Installed,
         }
     }
 }
@@ -35,11 +35,11 @@ fn does<J: EngineId, R: Wait>(
     rt: &R,
     alloc: Global,
     client: &mut Client<J>,
-    deed: PathCall,
+    interference: Interference,
 ) -> bool {
-    match deed {
-        PathCall::Restore => fault_of(rt, alloc, client, Snap::Restore, "s").is_none(),
-        PathCall::Write => answers(
+    match interference {
+        Interference::Restore => fault_of(rt, alloc, client, Snap::Restore, "s").is_none(),
+        Interference::Write => answers(
             rt,
             alloc,
             client,
@@ -54,17 +54,17 @@ fn finds<J: EngineId, R: Wait>(
     rt: &R,
     alloc: Global,
     client: &mut Client<J>,
-    deed: PathCall,
+    interference: Interference,
 ) -> bool {
-    match deed {
-        PathCall::Restore => answers(
+    match interference {
+        Interference::Restore => answers(
             rt,
             alloc,
             client,
             SampleCall::Stat("/z"),
             ExpectedReply::Fault(Errno::ENOENT),
         ),
-        PathCall::Write => {
+        Interference::Write => {
             answers(
                 rt,
                 alloc,
@@ -88,13 +88,13 @@ struct Meanwhile<'a, J: EngineId, R: Wait> {
     rt: &'a R,
     alloc: Global,
     client: Client<J>,
-    deed: PathCall,
+    interference: Interference,
     is_done: bool,
 }
 
 impl<'a, J: EngineId, R: Wait> Between for Meanwhile<'a, J, R> {
     fn between(&mut self) {
-        self.is_done = does(self.rt, self.alloc, &mut self.client, self.deed);
+        self.is_done = does(self.rt, self.alloc, &mut self.client, self.interference);
     }
 }
 
@@ -144,19 +144,19 @@ pub fn goes_on<J: EngineId, R: Wait>(
     alloc: Global,
     mut client: Client<J>,
     mut flusher: Flusher<J>,
-    deed: PathCall,
+    interference: Interference,
 ) -> bool {
     let is_ready = prepares(rt, alloc, &mut client, &mut flusher);
     let mut between = Meanwhile {
         rt,
         alloc,
         client,
-        deed,
+        interference,
         is_done: false,
     };
     let reply = flusher.turn(rt, alloc, &mut between);
-    let is_found = finds(rt, alloc, &mut between.client, deed);
-    is_ready && reply == deed.wanted() && between.is_done && is_found
+    let is_found = finds(rt, alloc, &mut between.client, interference);
+    is_ready && reply == interference.wanted() && between.is_done && is_found
 }
 
 /// Whether a turn whose job is given back says so, and the next one takes the slot again.

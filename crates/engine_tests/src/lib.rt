@@ -1,4 +1,5 @@
-//! Tests of engines: threads with a client each and flushers beside them, how an engine ends, and what each turn of a flusher does.
+//! Tests of engines: threads with a client each and flushers beside them, how an engine ends, and what each turn of a flusher does; long
+//! runs over names that all clients share, what waits in a slot once its mark is gone, and an engine that is opened over a volume with marks.
 #![tactic(auto)]
 
 #[cfg(test)]
@@ -14,11 +15,23 @@ mod depth;
 #[cfg(test)]
 mod ends;
 #[cfg(test)]
+mod filled;
+#[cfg(test)]
+mod folded;
+#[cfg(test)]
+mod marked;
+#[cfg(test)]
 mod meeting;
+#[cfg(test)]
+mod own;
 #[cfg(test)]
 mod pairs;
 #[cfg(test)]
 mod scene;
+#[cfg(test)]
+mod stress;
+#[cfg(test)]
+mod tally;
 #[cfg(test)]
 mod typed;
 #[cfg(test)]

@@ -2,7 +2,7 @@
 ghost use Rattle.std.specs.Prelude.{◌≡◌};
 
 use crate::asked::{SMALL, new_room};
-use crate::between::{PathCall, gives_back, goes_on};
+use crate::between::{Interference, gives_back, goes_on};
 use crate::depth::{sinks, sinks_beside};
 use crate::unlocked::writes_meanwhile;
 use engine::{Client, Engine, EngineBuilder, EngineId, Flusher};
@@ -19,7 +19,7 @@ enum Scene {
     /// So many files sink, with a turn after each.
     SinksBeside(u32),
     /// A client does this between the two holds of a turn.
-    GoesOn(PathCall),
+    GoesOn(Interference),
     /// A job is given back.
     GivesBack,
     /// A client writes while a flusher builds.
@@ -37,7 +37,7 @@ fn plays<J: EngineId + Send + Sync, R: Threads + Wait + Sync>(
     match scene {
         Scene::Sinks => sinks(rt, alloc, client, flusher),
         Scene::SinksBeside(files) => sinks_beside(rt, alloc, client, flusher, files),
-        Scene::GoesOn(deed) => goes_on(rt, alloc, client, flusher, deed),
+        Scene::GoesOn(interference) => goes_on(rt, alloc, client, flusher, interference),
         Scene::GivesBack => gives_back(rt, alloc, client, flusher),
         Scene::WritesMeanwhile => writes_meanwhile(rt, alloc, client, flusher),
     }
@@ -107,12 +107,12 @@ fn each_turn_does_something_while_a_message_waits(rt: HostRuntime) {
 
 #[test]
 fn a_restore_makes_the_job_stale(rt: HostRuntime) {
-    assert!(rt; is_seen(&rt, rt.alloc(), Scene::GoesOn(PathCall::Restore)));
+    assert!(rt; is_seen(&rt, rt.alloc(), Scene::GoesOn(Interference::Restore)));
 }
 
 #[test]
 fn a_write_stays_beside_the_job(rt: HostRuntime) {
-    assert!(rt; is_seen(&rt, rt.alloc(), Scene::GoesOn(PathCall::Write)));
+    assert!(rt; is_seen(&rt, rt.alloc(), Scene::GoesOn(Interference::Write)));
 }
 
 #[test]

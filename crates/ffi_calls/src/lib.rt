@@ -6,6 +6,7 @@
 
 pub mod compaction;
 pub mod deltas;
+pub mod forks;
 pub mod holes;
 pub mod image_calls;
 mod read_into;
@@ -15,6 +16,7 @@ pub mod writes;
 
 pub use compaction::compact;
 pub use deltas::delta;
+pub use forks::{fork, frozen_fork, restore_frozen};
 pub use holes::{frozen_stored, punch, stored};
 pub use image_calls::{load, print, print_begin, print_piece};
 pub use reads::{frozen_read, frozen_readdir, frozen_stat, read, readdir, stat};

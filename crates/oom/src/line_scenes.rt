@@ -1,7 +1,7 @@
 //! Command lines: read, and run over a script.
 use clap::error::ErrorKind;
-use oom_trees::told::{put, put_no_memory, put_number};
-use oom_trees::window;
+use oom_support::print::{put, put_no_memory, put_number};
+use oom_support::window;
 use shell::{Options, read_words, run_words};
 use std::alloc::Global;
 use std::fs::Files;

@@ -1,4 +1,4 @@
-//! `refusals SCENE [WORDS]`: makes one call behind an opening that it reads, and prints what stood before, what was answered and
+//! `oom SCENE [WORDS]`: makes one call behind an opening that it reads, and prints what stood before, what was answered and
 //! what stands behind it.
 //!
 //! It prints a line `asked` before the call and a line `told` behind it, and nothing else between them: so another program knows

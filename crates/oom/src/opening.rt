@@ -1,6 +1,6 @@
 //! The volume that stands before a call: a script is run over a new volume of the smallest shape, with a step after each line.
-use oom_trees::told::put;
-use oom_trees::trees::SMALL;
+use oom_support::print::put;
+use oom_support::trees::SMALL;
 use shell::{Tidy, run_script};
 use std::alloc::Global;
 use volume::Volume;

@@ -1,11 +1,10 @@
 //! The scenes by their names.
 use crate::opening::open;
 use crate::{line_scenes, script};
-use oom_engine::engines::{self, Scene};
-use oom_trees::words::word_at;
-use oom_trees::{cases, small};
-use oom_volume::live::Act;
-use oom_volume::{loaded, looks, scenes};
+use oom_support::engines::{self, Scene};
+use oom_support::live::Act;
+use oom_support::words::word_at;
+use oom_support::{cases, loaded, looks, scenes, small};
 use shell::{ReadCall, Request, read_request};
 use std::alloc::Global;
 use std::fs::Files;

@@ -1,7 +1,7 @@
 //! The lines of a script are run.
-use oom_trees::harness::{OomCase, ask};
-use oom_trees::told::{put, put_no_memory, put_ok};
-use oom_volume::standing::Site;
+use oom_support::harness::{OomCase, ask};
+use oom_support::print::{put, put_no_memory, put_ok};
+use oom_support::standing::Site;
 use shell::{ScriptFault, Tidy, run_script};
 use std::alloc::Global;
 use volume::Volume;

@@ -1,4 +1,6 @@
-//! A message as it came, which several lists may hold.
+//! One message of a tail, or the part of one that was cut.
+//!
+//! Invariant: wherever it lies, in a place that several lists share or alone, it is the same message.
 ghost use Rattle.std.specs.Prelude.{◌≡◌, true, is_some, [], Some, None, IfOk, MatchResult};
 ghost use Rattle.message.specs.Cuts.{cut_to};
 ghost use Rattle.pending.specs.MsgRef.{borrowed_msg};

@@ -1,4 +1,7 @@
-//! What is laid over range-deletes and point messages, newer than all of them.
+//! A message is inserted into range-deletes and point messages, newer than all of them.
+//!
+//! Invariant: no range-delete is newer than a point message that it touches: a new one removes each such message before it is
+//! added itself. Where its place finds no memory it comes back, and means behind the others what it would have meant.
 ghost use Rattle.std.specs.Prelude.{◌≡◌, ◌+◌, ◌^◌, ◌<◌, ◌++◌, [], ◌∷◌, length, IfErr, OnOk, OnErr};
 ghost use Rattle.message.specs.Effects.{Takes};
 ghost use Rattle.message.specs.declared.msg.Msg.TheVariants as msg;

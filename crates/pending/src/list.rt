@@ -1,4 +1,6 @@
-//! Messages as they came, the oldest first, with no order of their keys.
+//! Questions about messages of a tail, and copies of them.
+//!
+//! Invariant: the messages stand in the order in which they came, the oldest first, and their keys in none.
 ghost use Rattle.std.specs.Prelude.{◌≡◌, true, ◌≤◌, ◌++◌, length, IfOk, OnOk};
 ghost use Rattle.std.specs.Option.{option_copied};
 ghost use Rattle.message.specs.Cuts.{LieIn};

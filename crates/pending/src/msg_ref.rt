@@ -1,4 +1,6 @@
-//! A message, lent from where it stands.
+//! A message, borrowed from where it lies.
+//!
+//! Invariant: it is made of parts of what is stored, so a message at a key, one of a tail and part of a range-delete answer alike.
 ghost use Rattle.std.specs.Prelude.{◌≡◌, ◌∷◌, [], is_some, not, true, Some, IfOk};
 ghost use Rattle.std.specs.Option.{option_copied};
 ghost use Rattle.message.specs.Cuts.{cut_to};

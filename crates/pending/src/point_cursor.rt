@@ -1,6 +1,7 @@
 //! A walk through the keys of a list that have messages for them alone.
 //!
-//! Where all messages are sorted it goes along their entries, and searches for none. Else each key is searched for.
+//! Invariant: where it goes along entries of the sorted part, these are all from the walk's key on; the list then has no tail, and
+//! no message of its first key is consumed. Else it has no entries, and each key is searched for.
 ghost use Rattle.std.specs.Prelude.{◌≡◌, ◌<◌, List, ℕ, true, None, if◌then◌else◌, IfOk, IfSome, IfNone};
 ghost use Rattle.std.specs.Option.{option_copied, option_map, is_some};
 ghost use Rattle.pathkey.specs.Keys.{next_key};

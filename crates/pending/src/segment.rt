@@ -1,4 +1,6 @@
-//! Stretches: keys in a row of which each message touches all or none.
+//! Segments: keys in a row of which each message touches all or none, and the next key with a message for it alone.
+//!
+//! Invariant: a segment ends behind the key at which it begins, at the given end or before it.
 ghost use Rattle.std.specs.Prelude.{◌≡◌, IfOk, true};
 ghost use Rattle.std.specs.Option.{option_copied};
 ghost use Rattle.pathkey.specs.Keys.{is_below};

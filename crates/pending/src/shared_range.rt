@@ -1,4 +1,6 @@
-//! A range-delete, or a part of one, whose ends several lists may share.
+//! A range-delete, or part of one, whose ends several lists may share.
+//!
+//! Invariant: a part shares the range that came and the keys at which that was cut, and copies no key.
 ghost use Rattle.std.specs.Prelude.{◌≡◌, Some, IfOk, IfErr, MatchResult};
 ghost use Rattle.std.specs.Arc.{arc_value};
 ghost use Rattle.std.specs.Option.{option_copied, option_map};

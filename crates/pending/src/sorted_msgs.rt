@@ -1,4 +1,7 @@
-//! A sorted list of messages, kept short: what a later message makes idle is taken away.
+//! The sorted part of a list: range-deletes by their low ends, and then point messages by their keys.
+//!
+//! Invariant: no range-delete is newer than a point message that it touches, so this order is the oldest first at every key.
+//! Of the first key some of the oldest messages may be consumed (`consumed`), never all. All are at most 2^62.
 ghost use Rattle.std.specs.Prelude.{◌≡◌, ◌+◌, ◌^◌, ◌<◌, ◌≤◌, ◌++◌, [], ◌∷◌, true, false, length, take, drop, Some, None, if◌then◌else◌, IfOk, IfErr, IfNone, IfSome, OnOk, OnErr, MatchOption};
 ghost use Rattle.std.specs.Option.{option_copied, option_map};
 ghost use Rattle.std.specs.List.{All, slice_get};

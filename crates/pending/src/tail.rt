@@ -1,6 +1,7 @@
-//! Messages as they came, the oldest first, which leave at the front.
+//! The tail of a list: messages as they came, the oldest first, which leave at the front.
 //!
-//! A queue holds them, so that the oldest one leaves without moving the others. Several tails may share a message.
+//! Invariant: the order is that in which they came, and reserved room stays until it is used. A queue holds them, so that the
+//! oldest leaves without moving the others. Several tails may share a message.
 ghost use Rattle.std.specs.Prelude.{◌≡◌, ◌+◌, ◌^◌, ◌≤◌, ◌<◌, ◌++◌, [], ◌∷◌, true, length, take, drop, Some, None, IfOk, IfNone, IfSome, OnOk, OnErr};
 ghost use Rattle.std.specs.Option.{option_copied, option_map, option_to_list};
 ghost use Rattle.std.specs.List.{slice_get};

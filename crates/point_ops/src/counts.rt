@@ -1,4 +1,6 @@
-//! Walks that count messages.
+//! Walks through the map, key by key, that count or copy messages.
+//!
+//! Invariant: the oldest messages come first, and only those of the first key may be consumed in part.
 ghost use Rattle.std.specs.Prelude.{◌≡◌, ◌+◌, ◌<◌, ◌≤◌, ◌^◌, ◌++◌, length, take, drop, OnOk};
 ghost use Rattle.point_ops.specs.PointOps.{left, point_count, point_msgs, AreRuns, IsLeft};
 

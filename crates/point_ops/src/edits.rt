@@ -1,4 +1,6 @@
-//! Updates of one key that do not join, the oldest first.
+//! Updates of one key that did not join, the oldest first: what they make of a value, and one more behind them.
+//!
+//! Invariant: an allocation failure leaves the updates as they were, and returns the one that was to be added.
 ghost use Rattle.std.specs.Prelude.{◌≡◌, ◌+◌, ◌<◌, ◌≤◌, ◌++◌, ◌∷◌, [], Option, length, drop, take, map, OnOk, OnErr, IfOk, IfErr, vec_capacity};
 ghost use Rattle.std.specs.Bool.{OnTrue, OnFalse};
 ghost use Rattle.message.specs.declared.msg.Msg.TheVariants as msg;

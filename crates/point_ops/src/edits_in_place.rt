@@ -1,4 +1,7 @@
-//! Edits of what waits at a key, in its place.
+//! Changes of the operations of a key in their chunk, as `cow_map` makes them.
+//!
+//! Invariant: each leaves at least one operation. Where an update finds no memory it comes back, and the operations are as they
+//! were.
 ghost use Rattle.std.specs.Prelude.{◌≡◌, ◌<◌, drop, length};
 ghost use Rattle.point_ops.specs.KeyOps.{IsInserted};
 

@@ -1,4 +1,6 @@
-//! A change that is lent.
+//! One operation of a key, borrowed.
+//!
+//! Invariant: it has no key of its own; the entry in which it lies has the key.
 
 use message::UpdateTarget;
 

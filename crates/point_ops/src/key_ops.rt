@@ -1,4 +1,6 @@
-//! What waits at one key.
+//! The operations of one key, the oldest first.
+//!
+//! Invariant: there is at least one. A put or a delete has no older and no newer one beside it.
 ghost use Rattle.std.specs.Prelude.{true, false, ◌≡◌, ◌+◌, ◌-◌, ◌<◌, ◌≤◌, [], ◌∷◌, ◌++◌, Option, None, Some, if◌then◌else◌, length, take, drop, OnOk, OnErr, IfOk, IfErr};
 ghost use Rattle.std.specs.List.{slice_get};
 ghost use Rattle.point_ops.specs.Changes.{Put, Del, Edit, is_whole, run_effect, run_msgs};

@@ -1,4 +1,7 @@
-//! How what waits at one key lies in memory.
+//! How the operations of one key lie in memory.
+//!
+//! Invariant: a put, a delete and a lone update take no allocation of their own; only updates that did not join are in a vector,
+//! which holds at least one.
 ghost use Rattle.std.specs.Prelude.{◌≡◌, ◌∷◌, [], ◌+◌, ◌<◌, ◌≤◌, Option, None, Some, drop, length, OnOk, OnErr, IfOk, IfErr};
 ghost use Rattle.point_ops.specs.Changes.{Put, Del, Edit, run_effect};
 ghost use Rattle.point_ops.specs.KeyOps.{changes_in, edits_effect};

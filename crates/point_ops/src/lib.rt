@@ -1,17 +1,17 @@
-//! What waits at single keys: puts, deletes and updates that came as messages.
+//! The point messages of a slot, by key: puts, deletes and updates that are pending.
 //!
-//! What it stands for: a list of pairs of a key and the changes that wait there, the oldest first. The keys rise.
+//! What it stands for: a list of pairs of a key and the operations of that key, the oldest first. The keys rise.
 //!
 //! What it relies on:
 //!
-//! - at no key wait no changes;
-//! - a put or a delete stands alone: it needs no older change, and an update that comes over it makes it another one.
+//! - each key has at least one operation;
+//! - a put or a delete stands alone: it needs no older operation, and an update that is applied over it makes it another one.
 //!   Updates that do not join stand one behind the other;
 //! - the list knows how many messages it has.
 //!
-//! `key_ops` is what waits at one key, `key_ops_repr` how it lies in memory, `edits` updates one behind the other, and `op_at` a change that
-//! is lent. `edit` has the edits of a run in its place. `points` is what callers see, `one_key` what is done at one key of it,
-//! and `counts` goes through it.
+//! `points` is what callers see. `key_ops` is the operations of one key, `key_ops_repr` how they lie in memory, `edits` updates one
+//! behind the other, and `key_op_ref` one operation, borrowed. `edits_in_place` changes the operations of a key where they lie,
+//! `one_key` changes the map at one key, and `counts` goes through it.
 #![tactic(auto)]
 
 pub(crate) mod counts;

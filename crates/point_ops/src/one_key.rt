@@ -1,4 +1,7 @@
-//! What is done at one key of rows, and how many messages went and came there.
+//! What is done at one key of the map, and how many messages were added and removed by it.
+//!
+//! Invariant: the caller's count stays true, since each call answers the number of what it removed and added, and an allocation
+//! failure leaves the map as it was.
 ghost use Rattle.std.specs.Prelude.{◌≡◌, ◌+◌, ◌<◌, ◌≤◌, true, None, length, IfOk, IfErr, OnOk, OnErr, IfSome, IfNone};
 ghost use Rattle.std.specs.BTreeMap.{insert_entry};
 ghost use Rattle.std.specs.Option.{option_map, unwrap_or};

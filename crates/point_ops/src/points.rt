@@ -1,4 +1,7 @@
-//! What waits at single keys, by the keys.
+//! The point messages of a slot: a map from each key to its operations, and how many they are.
+//!
+//! Invariant: the keys rise, each has at least one operation, and `count` is the number of operations of all keys, at most 2^62.
+//! A call that fails for want of memory leaves all as it was.
 ghost use Rattle.std.specs.Prelude.{◌≡◌, ◌+◌, ◌≤◌, ◌<◌, ◌^◌, ◌++◌, ◌∷◌, [], not, true, false, length, drop, take, IfOk, IfErr, OnOk, OnErr, IfSome, IfNone};
 ghost use Rattle.std.specs.BTreeMap.{insert_entry};
 ghost use Rattle.std.specs.List.{filter, list_any, slice_get};

@@ -1,6 +1,7 @@
 pub mod Pairs
 pub mod Tree
 pub mod Calls
+pub mod PathCalls
 pub mod Shape
 pub mod Reads
 pub mod Indexes

@@ -10,9 +10,11 @@ pub mod call;
 pub mod digits;
 pub mod laws;
 pub mod limits;
+pub mod path_call;
 pub mod plain;
 pub mod reply;
 
 pub use call::Call;
 pub use limits::{GREATEST_FILE, GREATEST_READ, fits_file};
+pub use path_call::PathCall;
 pub use reply::{FileBytes, Kind, Listing, Meta, Reply};

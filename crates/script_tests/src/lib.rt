@@ -1,5 +1,5 @@
 //! Tests of scripts and images over typed readers and writers: those that fail in the middle, paces, words of a line, replies, and command
-//! lines as they are read; of images by pieces; and of calls by texts and long buffers.
+//! lines as they are read; of images by pieces; and of calls by texts, long buffers, and the end of compaction.
 #![tactic(auto)]
 
 #[cfg(test)]
@@ -10,6 +10,8 @@ mod buffers;
 mod by_pieces;
 #[cfg(test)]
 mod command_lines;
+#[cfg(test)]
+mod ended;
 #[cfg(test)]
 mod loaded;
 #[cfg(test)]

@@ -7,3 +7,5 @@ pub mod Cutting
 pub mod OneAnswer
 pub mod OptionFacts
 pub mod LineExamples
+pub mod Beginnings
+pub mod Depths

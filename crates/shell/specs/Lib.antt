@@ -5,3 +5,4 @@ pub mod Runs
 pub mod Progress
 pub mod CommandLine
 pub mod Sessions
+pub mod Drawing

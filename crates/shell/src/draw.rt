@@ -1,9 +1,10 @@
 //! Draws the trees of a volume.
 ghost use Rattle.std.specs.Prelude.{IfOk};
-ghost use Rattle.graphviz.specs.Drawing.{IsDrawing};
+ghost use Rattle.shell.specs.Drawing.{IsDrawing};
 
+use crate::dot_trees::{point_to_root, put_snapshot, put_tree};
+use crate::dot_writer::DotWriter;
 use call_compiler::Indexes;
-use graphviz::{DotWriter, point_to_root, put_snapshot, put_tree};
 use pathkey::{NoMemory, SnapName};
 use std::alloc::Global;
 use volume::Volume;

@@ -1,5 +1,5 @@
 //! Scripts: lines of text from a reader, each done as a call and answered on a writer; the image of a tree; and the command
-//! line that asks for one.
+//! line that asks for one; and drawings of trees for Graphviz's `dot`.
 //!
 //! A script runs on a volume. Its contract says which answers are written and what the world is after them, also where the
 //! reader or the writer fails in between, and whatever tree steps are done between its lines (`Pace`).
@@ -8,11 +8,15 @@
 pub mod client;
 mod command;
 mod command_line;
+mod dot_trees;
+mod dot_writer;
 mod draw;
 mod flushers;
 mod help;
 pub mod laws;
+mod node_box;
 pub mod pace;
+mod pivot;
 mod program;
 mod reply;
 mod request;

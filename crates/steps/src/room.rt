@@ -122,19 +122,53 @@ fn merge_in<U: Update>(shape: Shape, slots: &[Slot<U>], at: Place) -> Option<Tre
     None
 }
 
-/// The first merge in the nodes on the way from the root to the node that the numbers lead to, in that one too.
-fn merge_on_path<U: Update>(tree: &Tree<U>, numbers: &[u8]) -> Option<TreeStep> {
+/// Whether a node is at most a quarter full. Of two nodes that fit into half a node, one is.
+fn is_small<U: Update>(shape: Shape, node: &Node<U>) -> bool {
+    match node.body() {
+        Body::Leaf(entries) => entries.len() <= shape.leaf as usize / 4,
+        Body::Inner(slots) => slots.len() <= shape.fanout as usize / 4,
+    }
+}
+
+/// Whether the child of the slot with this number, or of a slot beside it, is small.
+fn is_near_small<U: Update>(shape: Shape, slots: &[Slot<U>], number: usize) -> bool {
+    for i in number.saturating_sub(1)..number.saturating_add(2) {
+        if let Some(slot) = slots.get(i) {
+            if is_small(shape, &slot.child) {
+                return true;
+            }
+        }
+    }
+    false
+}
+
+/// The first merge of two children of the node at a place, if a path leads by the slot with this number and a child there is small.
+fn merge_near<U: Update>(
+    shape: Shape,
+    slots: &[Slot<U>],
+    at: Place,
+    number: usize,
+) -> Option<TreeStep> {
+    if is_near_small(shape, slots, number) {
+        merge_in(shape, slots, at)
+    } else {
+        None
+    }
+}
+
+/// The first merge in the nodes on the path from the root to the slot of a flush.
+fn merge_on_path<U: Update>(tree: &Tree<U>, flush: TreeStep) -> Option<TreeStep> {
     let mut node: &Node<U> = tree.root();
     let mut at = Place::root();
-    for number in numbers {
+    for number in flush.at.numbers() {
         let slots = node.slots()?;
-        if let Some(step) = merge_in(tree.shape(), slots, at) {
+        if let Some(step) = merge_near(tree.shape(), slots, at, *number as usize) {
             return Some(step);
         }
         node = &slots.get(*number as usize)?.child;
         at = at.under(*number)?;
     }
-    merge_in(tree.shape(), node.slots()?, at)
+    merge_near(tree.shape(), node.slots()?, at, flush.slot as usize)
 }
 
 /// The step that takes away a root with one slot whose child has few slots; `None` if the root is not so.
@@ -152,11 +186,11 @@ fn lower<U: Update>(tree: &Tree<U>) -> Option<TreeStep> {
     Some(of_root(StepKind::RootDown))
 }
 
-/// The step that takes away a root with one slot, or merges two neighbours on the way to the node at a place.
-fn shrink<U: Update>(tree: &Tree<U>, at: Place) -> Option<TreeStep> {
+/// The step that takes away a root with one slot, or merges two neighbours on the path to a flush.
+fn shrink<U: Update>(tree: &Tree<U>, flush: TreeStep) -> Option<TreeStep> {
     match lower(tree) {
         Some(step) => Some(step),
-        None => merge_on_path(tree, at.numbers()),
+        None => merge_on_path(tree, flush),
     }
 }
 
@@ -182,7 +216,7 @@ fn part_full<U: Update>(tree: &Tree<U>, flush: TreeStep) -> Option<TreeStep> {
 /// The step that reshapes the nodes on the way to a flush before the flush is tried: a merge of nodes that removals have left
 /// nearly empty, or else a cut of the flush's node. `None` if the flush is to be tried at once.
 pub fn preemptive_split<U: Update>(tree: &Tree<U>, flush: TreeStep) -> Option<TreeStep> {
-    match shrink(tree, flush.at) {
+    match shrink(tree, flush) {
         Some(step) => Some(step),
         None => part_full(tree, flush),
     }

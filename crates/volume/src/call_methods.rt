@@ -4,6 +4,7 @@
 //! and one that only looks has its answer at every moment. A volume and a frozen tree are asked alike; on a
 //! frozen tree the names begin with `try_`, since `read`, `stat` and `readdir` give the replies themselves there.
 ghost use Rattle.std.specs.Prelude.{◌≡◌, ℕ};
+ghost use Rattle.reference.specs.PathCalls.{call_at};
 ghost use Rattle.reference.specs.Pairs.{pairs_of};
 ghost use Rattle.reference.specs.declared.call.Call.{Call as FileCall};
 ghost use Rattle.volume.specs.Changes.{Called};
@@ -16,7 +17,7 @@ use bytes::Bytes;
 use call_compiler::dir_mtime::{is_root_child, renames_root_child};
 use call_compiler::{Batch, Call, Reply, create, read, remove, rename, write};
 use pathkey::{Errno, NoMemory, Path};
-use reference::Kind;
+use reference::{Kind, PathCall};
 use std::alloc::Global;
 
 impl Volume {
@@ -112,6 +113,25 @@ impl Volume {
     {
         let compiled = remove::rmtree(alloc, self.indexes(), path, at);
         done_or_errno(self.send(alloc, compiled, at, is_root_child(path)))
+    }
+
+    /// Makes or removes what is at a path, by the call that is chosen as the program runs.
+    pub fn path_call(
+        &mut self,
+        alloc: Global,
+        call: PathCall,
+        path: &Path,
+        at: u64,
+    ) -> Result<(), Errno>
+        ensures { Called (call_at call path.now) at (replied (λ _. Reply.Done) result) self.old self.new }
+    {
+        match call {
+            PathCall::Mkdir => self.mkdir(alloc, path, at),
+            PathCall::Create => self.create(alloc, path, at),
+            PathCall::Unlink => self.unlink(alloc, path, at),
+            PathCall::Rmdir => self.rmdir(alloc, path, at),
+            PathCall::Rmtree => self.rmtree(alloc, path, at),
+        }
     }
 
     /// The bytes of a file from the offset on, at most `count` and none past its end (pread).

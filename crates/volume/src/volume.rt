@@ -7,12 +7,13 @@ ghost use Rattle.reference.specs.declared.call.Call.{Call as FileCall};
 ghost use Rattle.std.specs.Option.{option_copied};
 ghost use Rattle.reference.specs.Worlds.{World, TakeSnapshot, DropSnapshot, RestoreSnapshot};
 ghost use Rattle.volume.specs.Changes.{Called, Settles, KeptAs, Dropped, Restored, Stepped};
+ghost use Rattle.volume.specs.Forks.{IsForkOf, RestoresTree};
 ghost use Rattle.volume.specs.Plants.{Plants};
 ghost use Rattle.volume.specs.Holes.{Compiles as HoleCompiles, Punches};
 ghost use Rattle.volume.specs.FsRoot.{reply_to};
 ghost use Rattle.volume.specs.Jobs.{AnswersInstalling, AnswersTaking, DoneFits};
 ghost use Rattle.volume.specs.Marked.{KeepsMarks, no_marks, without_mark};
-ghost use Rattle.volume.specs.Volumes.{AreNames, IsNew, IsVolume, MeanRooted, Means, live_of, names_in};
+ghost use Rattle.volume.specs.Volumes.{AreNames, IsNew, IsVolume, MeanRooted, MeanSome, Means, live_of, names_in};
 ghost use Rattle.volume.specs.Typed.{Asks, Compiles, IsCount, IsOfKind};
 ghost use Rattle.volume.specs.HistoryOf.{Finds, HeaviestIn, busier, pending_in, report_in};
 
@@ -201,6 +202,20 @@ impl Volume {
         Ok(())
     }
 
+    /// The live tree becomes a frozen one, also of another volume, whose shape the live trees then have: as `restore` of a snapshot
+    /// with that tree. All marks go, and no ticket is given again; snapshots stay. It fails only where a further owner of the tree's
+    /// nodes is refused, and changes nothing then.
+    pub fn restore_frozen(&mut self, tree: &Frozen) -> Result<(), NoMemory>
+        ensures { RestoresTree tree.now result self.old self.new }
+    {
+        tree.assert_invariant();
+        let restored = tree.indexes().share()?;
+        self.live.replace(restored);
+        self.live.assert_invariant();
+        self.modified = tree.modified();
+        Ok(())
+    }
+
     /// Tries a tree step in the live index that it names. Whatever it replies, the volume means what it meant; all replies
     /// but `Did` leave it as it was.
     pub fn step(&mut self, alloc: Global, step: Step) -> StepReply
@@ -238,6 +253,31 @@ impl Volume {
             return Err(Errno::ENOENT);
         };
         Ok(Frozen::new(snapshot_root.share()?))
+    }
+
+    /// A volume of its own with the live tree as it stands, in constant time: it has this volume's shape, and no snapshots, marks or
+    /// jobs. Later changes of either do not touch the other. It fails only where a further owner of the nodes is refused.
+    pub fn fork(&self, alloc: Global) -> Result<Volume, NoMemory>
+        ensures { IfOk result (IsForkOf self.now.live) }
+    {
+        let root = share(self.live.indexes(), self.modified)?;
+        Ok(Volume::from_root(alloc, root))
+    }
+
+    /// A volume with this live tree alone. It takes no memory.
+    pub(crate) fn from_root(alloc: Global, root: FsRoot) -> Volume
+        requires { MeanSome root }
+        ensures { IsForkOf root result }
+    {
+        let FsRoot { indexes, modified } = root;
+        let live = LiveIndexes::new(alloc, indexes);
+        live.assert_invariant();
+        let snapshots = Snapshots::new(alloc);
+        Volume {
+            live,
+            modified,
+            snapshots,
+        }
     }
 
     /// Its live indexes, to go through all of the live tree.

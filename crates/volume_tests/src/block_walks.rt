@@ -4,15 +4,15 @@ use crate::changes::{Change, Row, goes};
 use pathkey::NoMemory;
 use std::alloc::Global;
 use test_support::ask::path;
-use volume::{Block, BlockWalk, Frozen, Path, Volume};
+use volume::{Block, BlockWalk, Frozen, Path, PathCall, Volume};
 
 /// Files of three blocks, of which the second is a hole, of no block, and of one, and an empty directory.
 const FILLED: &[Row] = &[
-    (1, "/a", Change::Mkdir, Ok(0)),
-    (2, "/a/f", Change::Create, Ok(0)),
-    (3, "/a/g", Change::Create, Ok(0)),
-    (4, "/b", Change::Mkdir, Ok(0)),
-    (5, "/c", Change::Create, Ok(0)),
+    (1, "/a", Change::Path(PathCall::Mkdir), Ok(0)),
+    (2, "/a/f", Change::Path(PathCall::Create), Ok(0)),
+    (3, "/a/g", Change::Path(PathCall::Create), Ok(0)),
+    (4, "/b", Change::Path(PathCall::Mkdir), Ok(0)),
+    (5, "/c", Change::Path(PathCall::Create), Ok(0)),
     (6, "/a/f", Change::Write(0, "one"), Ok(3)),
     (7, "/a/f", Change::Write(8192, "three"), Ok(5)),
     (8, "/c", Change::Write(4096, "four"), Ok(4)),

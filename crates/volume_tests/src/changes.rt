@@ -2,19 +2,15 @@
 use pathkey::{Errno, Path};
 use std::alloc::Global;
 use test_support::ask::path;
-use volume::Volume;
+use volume::{PathCall, Volume};
 
 /// A change of one path.
 #[derive(Clone, Copy)]
 pub enum Change<'a> {
-    Mkdir,
-    Create,
+    Path(PathCall),
     Write(u64, &'a str),
     Truncate(u64),
     Rename(&'a str),
-    Unlink,
-    Rmdir,
-    Rmtree,
 }
 
 /// A moment, a path, what is done there, and how many bytes were written, or why not.
@@ -45,14 +41,10 @@ fn does(
     at: u64,
 ) -> Result<u64, Errno> {
     match change {
-        Change::Mkdir => settled(volume.mkdir(alloc, of, at)),
-        Change::Create => settled(volume.create(alloc, of, at)),
+        Change::Path(call) => settled(volume.path_call(alloc, call, of, at)),
         Change::Write(offset, text) => volume.write(alloc, of, offset, text.as_bytes(), at),
         Change::Truncate(length) => settled(volume.truncate(alloc, of, length, at)),
         Change::Rename(to) => moves(alloc, volume, of, to, at),
-        Change::Unlink => settled(volume.unlink(alloc, of, at)),
-        Change::Rmdir => settled(volume.rmdir(alloc, of, at)),
-        Change::Rmtree => settled(volume.rmtree(alloc, of, at)),
     }
 }
 

@@ -6,7 +6,7 @@ use crate::asked::new_volume;
 use crate::changes::{Change, outcome};
 use node::Shape;
 use std::alloc::Global;
-use volume::{Index, Volume};
+use volume::{Index, PathCall, Volume};
 
 /// How many files come.
 const FILES: u32 = 4_000;
@@ -72,8 +72,8 @@ fn nodes(volume: &Volume, index: Index) -> u128 {
 
 /// Makes the directory and these files, each with a block.
 fn make(alloc: Global, volume: &mut Volume, numbers: &[u32]) -> bool {
-    outcome(alloc, volume, "/d", Change::Mkdir, 0).is_ok()
-        && change_all(alloc, volume, numbers, Change::Create)
+    outcome(alloc, volume, "/d", Change::Path(PathCall::Mkdir), 0).is_ok()
+        && change_all(alloc, volume, numbers, Change::Path(PathCall::Create))
         && change_all(alloc, volume, numbers, Change::Write(0, "x"))
 }
 
@@ -119,16 +119,16 @@ fn mixed(alloc: Global, numbers: &[u32]) -> Option<Vec<u32>> {
 /// Removes these files but for a few, and then those, and looks at the nodes each time.
 fn remove_all(alloc: Global, volume: &mut Volume, shape: Shape, files: &[u32]) -> bool {
     let (most, last) = files.split_at(files.len().saturating_sub(FEW));
-    change_all(alloc, volume, most, Change::Unlink)
+    change_all(alloc, volume, most, Change::Path(PathCall::Unlink))
         && is_small(alloc, volume, shape, last)
-        && change_all(alloc, volume, last, Change::Unlink)
+        && change_all(alloc, volume, last, Change::Path(PathCall::Unlink))
         && is_small(alloc, volume, shape, &[])
 }
 
 /// Removes the files of the first half in order, and then the others in an order that looks random.
 fn remove(alloc: Global, volume: &mut Volume, shape: Shape, files: &[u32]) -> bool {
     let (first, others) = files.split_at(files.len() / 2);
-    if !change_all(alloc, volume, first, Change::Unlink)
+    if !change_all(alloc, volume, first, Change::Path(PathCall::Unlink))
         || !is_small(alloc, volume, shape, others)
     {
         return false;
@@ -144,7 +144,12 @@ fn come_and_go(alloc: Global, volume: &mut Volume, shape: Shape) -> bool {
     match (every_second(alloc, 0), every_second(alloc, 1)) {
         (Some(moved), Some(left)) => {
             make(alloc, volume, moved.as_slice())
-                && change_all(alloc, volume, left.as_slice(), Change::Create)
+                && change_all(
+                    alloc,
+                    volume,
+                    left.as_slice(),
+                    Change::Path(PathCall::Create),
+                )
                 && move_all(alloc, volume, moved.as_slice())
                 && is_small(alloc, volume, shape, left.as_slice())
                 && remove(alloc, volume, shape, left.as_slice())
@@ -157,9 +162,17 @@ fn come_and_go(alloc: Global, volume: &mut Volume, shape: Shape) -> bool {
 fn directories_go(alloc: Global, volume: &mut Volume, shape: Shape) -> bool {
     match every_second(alloc, 0) {
         Some(numbers) => {
-            change_all(alloc, volume, numbers.as_slice(), Change::Mkdir)
-                && change_all(alloc, volume, numbers.as_slice(), Change::Rmdir)
-                && is_small(alloc, volume, shape, &[])
+            change_all(
+                alloc,
+                volume,
+                numbers.as_slice(),
+                Change::Path(PathCall::Mkdir),
+            ) && change_all(
+                alloc,
+                volume,
+                numbers.as_slice(),
+                Change::Path(PathCall::Rmdir),
+            ) && is_small(alloc, volume, shape, &[])
         }
         None => false,
     }

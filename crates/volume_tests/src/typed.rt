@@ -3,28 +3,38 @@ use crate::asked::{USUAL, freeze, new_volume};
 use crate::changes::{Change, Row, goes};
 use std::alloc::Global;
 use test_support::ask::path;
-use volume::{Errno, Frozen, Kind, Path, Volume};
+use volume::{Errno, Frozen, Kind, Path, PathCall, Volume};
 
 /// What is done in a new volume, in this order. The moments do not rise.
 const ROWS: &[Row] = &[
-    (1, "/a", Change::Mkdir, Ok(0)),
-    (2, "/a", Change::Create, Err(Errno::EEXIST)),
-    (3, "/a/f", Change::Create, Ok(0)),
+    (1, "/a", Change::Path(PathCall::Mkdir), Ok(0)),
+    (2, "/a", Change::Path(PathCall::Create), Err(Errno::EEXIST)),
+    (3, "/a/f", Change::Path(PathCall::Create), Ok(0)),
     (9, "/a/f", Change::Write(3, "words"), Ok(5)),
     (4, "/a", Change::Write(0, "words"), Err(Errno::EISDIR)),
     (7, "/a/f", Change::Truncate(6), Ok(0)),
     (5, "/a/f", Change::Rename("/a/g"), Ok(0)),
-    (6, "/a", Change::Rmdir, Err(Errno::ENOTEMPTY)),
-    (6, "/a", Change::Unlink, Err(Errno::EPERM)),
-    (8, "/a/d", Change::Mkdir, Ok(0)),
-    (4, "/a/d", Change::Rmdir, Ok(0)),
-    (6, "/a/f", Change::Unlink, Err(Errno::ENOENT)),
+    (
+        6,
+        "/a",
+        Change::Path(PathCall::Rmdir),
+        Err(Errno::ENOTEMPTY),
+    ),
+    (6, "/a", Change::Path(PathCall::Unlink), Err(Errno::EPERM)),
+    (8, "/a/d", Change::Path(PathCall::Mkdir), Ok(0)),
+    (4, "/a/d", Change::Path(PathCall::Rmdir), Ok(0)),
+    (
+        6,
+        "/a/f",
+        Change::Path(PathCall::Unlink),
+        Err(Errno::ENOENT),
+    ),
 ];
 
 /// A tree goes with all below it.
 const WHOLE: &[Row] = &[
-    (5, "/a", Change::Rmtree, Ok(0)),
-    (5, "/a", Change::Rmtree, Err(Errno::ENOENT)),
+    (5, "/a", Change::Path(PathCall::Rmtree), Ok(0)),
+    (5, "/a", Change::Path(PathCall::Rmtree), Err(Errno::ENOENT)),
 ];
 
 /// Whether these bytes were read.

@@ -4,19 +4,19 @@ use crate::changes::{Change, Row, goes};
 use pathkey::NoMemory;
 use std::alloc::Global;
 use test_support::ask::path;
-use volume::{Block, Frozen, Meta, Path, Volume};
+use volume::{Block, Frozen, Meta, Path, PathCall, Volume};
 
 /// A directory with a file of three blocks, of which the second is a hole, and an empty file beside the directory.
 const FILLED: &[Row] = &[
-    (1, "/a", Change::Mkdir, Ok(0)),
-    (2, "/a/f", Change::Create, Ok(0)),
-    (3, "/a-", Change::Create, Ok(0)),
+    (1, "/a", Change::Path(PathCall::Mkdir), Ok(0)),
+    (2, "/a/f", Change::Path(PathCall::Create), Ok(0)),
+    (3, "/a-", Change::Path(PathCall::Create), Ok(0)),
     (4, "/a/f", Change::Write(0, "one"), Ok(3)),
     (5, "/a/f", Change::Write(8192, "three"), Ok(5)),
 ];
 
 /// The directory goes, with all below it.
-const EMPTIED: &[Row] = &[(9, "/a", Change::Rmtree, Ok(0))];
+const EMPTIED: &[Row] = &[(9, "/a", Change::Path(PathCall::Rmtree), Ok(0))];
 
 /// An entry: a text of its path, and what is told of it.
 type Entry = (&'static str, Meta);

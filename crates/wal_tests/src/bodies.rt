@@ -1,13 +1,13 @@
 //! Changes as bytes and back, against bytes that were made by hand.
 use crate::log_by_hand::{FIRST_BODY, SECOND_BODY, THIRD_BODY};
-use logs::encode::{
-    encode_path_call, encode_punch, encode_rename, encode_snapshot_call, encode_truncate,
-    encode_write,
-};
-use logs::{PathCall, SnapshotCall, WalEntry, decode_entries};
 use pathkey::Errno;
 use std::alloc::Global;
 use std::test::Fail;
+use wal::encode::{
+    encode_path_call, encode_punch, encode_rename, encode_snapshot_call, encode_truncate,
+    encode_write,
+};
+use wal::{PathCall, SnapshotCall, WalEntry, decode_entries};
 
 /// Whether bytes were laid into the front of a buffer.
 fn are_laid(laid: Result<usize, Errno>, room: &[u8], want: &[u8]) -> bool {

@@ -2,10 +2,10 @@
 use crate::log_by_hand::{
     FIRST, FIRST_BODY, FIRST_END, LOG, SECOND_BODY, SECOND_END, SIZE, THIRD_BODY,
 };
-use logs::encode::encode_frame;
-use logs::next_record;
 use std::alloc::Global;
 use std::test::Fail;
+use wal::encode::encode_frame;
+use wal::next_record;
 
 /// How many records count of a log.
 fn records_in(log: &[u8]) -> u64 {

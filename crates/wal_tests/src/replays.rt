@@ -2,10 +2,10 @@
 use crate::log_by_hand::{FIRST, FIRST_END, LOG, SECOND_END, SIZE};
 use crate::small::new_volume;
 use pathkey::{Errno, Path};
-use recovery::{ReplayError, ReplayReport, replay};
 use std::alloc::Global;
 use std::test::Fail;
 use volume::Volume;
+use wal::{ReplayError, ReplayReport, replay};
 
 /// The first bytes of the log.
 fn front(end: usize) -> &'static [u8] {

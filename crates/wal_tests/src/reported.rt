@@ -1,14 +1,13 @@
 //! Bodies told as lines of a script, against lines that were written by hand.
 use crate::log_by_hand::{FIRST_BODY, SECOND_BODY, THIRD_BODY};
-use log_lines::wal_dump;
-use logs::encode::{
-    encode_path_call, encode_punch, encode_rename, encode_snapshot_call, encode_truncate,
-    encode_write,
-};
-use logs::{PathCall, SnapshotCall};
 use pathkey::Errno;
 use std::alloc::Global;
 use std::test::Fail;
+use wal::encode::{
+    encode_path_call, encode_punch, encode_rename, encode_snapshot_call, encode_truncate,
+    encode_write,
+};
+use wal::{PathCall, SnapshotCall, wal_dump};
 
 /// The lines of a body. It ensures nothing, so that no proof of a test reads what they mean.
 fn lines(alloc: Global, body: &[u8]) -> Result<Vec<u8>, Errno> {

@@ -1,0 +1,73 @@
+"""The plugin of pytest: a tree that is built once, and a fork of it for each test."""
+import os
+import subprocess
+import sys
+import tempfile
+import textwrap
+import unittest
+
+CONFTEST = """
+    import doorvervain, pytest
+    built = []
+
+    @pytest.fixture(scope="session")
+    def volume_tree():
+        built.append(1)
+        with doorvervain.Volume(clock=lambda: 7) as volume:
+            volume.write_text("/x", "as built")
+            yield volume
+        assert built == [1]
+"""
+TESTS = """
+    import pytest
+
+    @pytest.mark.parametrize("number", range(5))
+    def test_it_is_as_built(volume, number):
+        assert volume.read_text("/x") == "as built" and volume.listdir() == ["x"]
+        assert volume.stat("/x").modified == 7
+        volume.unlink("/x")
+        volume.create("/y")
+        assert volume.stat("/y").modified == 7
+
+    def test_the_tree_itself_may_change(volume, volume_tree):
+        volume_tree.create("/z")
+        assert volume.listdir() == ["x"]
+
+    def test_later_ones_do_not_see_it(volume):
+        assert volume.listdir() == ["x"]
+"""
+
+
+class Plugin(unittest.TestCase):
+    def runs(self, *words, conftest=CONFTEST, tests=TESTS, **environ):
+        with tempfile.TemporaryDirectory() as folder:
+            for name, text in [("conftest.py", conftest), ("test_it.py", tests)]:
+                with open(os.path.join(folder, name), "w") as file:
+                    file.write(textwrap.dedent(text))
+            done = subprocess.run([sys.executable, "-m", "pytest", "-q", "-p", "no:cacheprovider", *words], cwd=folder,
+                env={**os.environ, **environ}, stdout=subprocess.PIPE, stderr=subprocess.STDOUT, text=True)
+        return done.stdout
+
+    def test_by_its_entry_point(self):
+        self.assertIn("7 passed", self.runs())
+
+    def test_by_its_name(self):
+        named = 'pytest_plugins = ["doorvervain.pytest_plugin"]\n' + textwrap.dedent(CONFTEST)
+        self.assertIn("7 passed", self.runs(conftest=named, PYTEST_DISABLE_PLUGIN_AUTOLOAD="1"))
+
+    def test_the_tree_is_empty_unless_it_is_built(self):
+        tests = "def test_it(volume):\n    assert volume.listdir() == []\n"
+        self.assertIn("1 passed", self.runs(conftest="", tests=tests))
+
+    def test_a_frozen_tree_will_do(self):
+        frozen = CONFTEST.replace("yield volume", "yield volume.freeze()").replace("clock=lambda: 7", "")
+        self.assertIn("1 passed", self.runs("-k", "later", conftest=frozen))
+
+    def test_the_package_needs_no_pytest(self):
+        words = "import sys; sys.modules['pytest'] = None; import doorvervain; print(doorvervain.Volume().listdir())"
+        said = subprocess.run([sys.executable, "-c", words], check=True, stdout=subprocess.PIPE, text=True).stdout
+        self.assertEqual(said, "[]\n")
+
+
+if __name__ == "__main__":
+    unittest.main()

@@ -1,0 +1,15 @@
+use Rattle.std.proofs.Common.{◌≡◌, refl}
+use Rattle.pathkey.specs.declared.errno.Errno.TheVariants.{ENOMEM}
+use Rattle.volume.specs.Forks.{IsForkOf}
+use Rattle.doorvervain.proofs.Handed.{anyway, given_out, refused_out, when_err, when_ok}
+use Rattle.doorvervain.proofs.forks.frozen_fork.Goals as goal
+
+pub returns-clause-forked : goal.returns-clause-forked
+returns-clause-forked c =
+    given_out (IsForkOf c.args.tree.now) c.frozen_fork-made.result c.hand_out.result c.hand_out.new.out.given c.hand_out.ensures.handed
+    (when_ok (IsForkOf c.args.tree.now) (λ e. e ≡ ENOMEM) c.frozen_fork-made.result c.frozen_fork-made.ensures)
+
+pub returns-clause-refused : goal.returns-clause-refused
+returns-clause-refused c =
+    refused_out (λ e. e ≡ ENOMEM) c.frozen_fork-made.result c.hand_out.result c.hand_out.new.out.given c.hand_out.ensures.handed
+    (when_err (IsForkOf c.args.tree.now) (λ e. e ≡ ENOMEM) c.frozen_fork-made.result c.frozen_fork-made.ensures) (anyway c.frozen_fork-made.result refl)

@@ -1,5 +1,0 @@
-use Rattle.graphviz.proofs.Beginnings.{goes_on_or_stays}
-use Rattle.graphviz.proofs.sketch.DotWriter.put.Goals as goal
-
-pub invariant_of-self : goal.invariant_of-self
-invariant_of-self c = record { begun = goes_on_or_stays _ c.args.self.now.text.items c.args.text.now _ c.extend_from_slice.ensures.items c.args.self.now.begun }

@@ -1,5 +1,0 @@
-mod Reading
-mod Adding
-mod Spelling
-mod Telling
-mod Splitting

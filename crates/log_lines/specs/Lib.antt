@@ -1,4 +1,0 @@
-pub mod Lines
-pub mod Dump
-pub mod Added
-pub mod Laws

@@ -1,4 +1,0 @@
-pub mod Cuts
-pub mod Changes
-pub mod Bodies
-pub mod Logs

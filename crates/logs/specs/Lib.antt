@@ -1,4 +1,0 @@
-pub mod Entries
-pub mod Encode
-pub mod Records
-pub mod Laws

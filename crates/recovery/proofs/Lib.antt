@@ -1,3 +1,0 @@
-pub mod Making
-pub mod Reaching
-pub mod Replaying

@@ -1,0 +1,136 @@
+-- Records that were done so far.
+use Rattle.std.proofs.Common.{◌≡◌, ⊎_elim, ℕ, zero, suc, ◌+◌, ◌-◌, ◌<◌, ◌≤◌, List, [], ◌∷◌, ◌++◌, length, take, refl, ap, sym, subst, ◌∙◌, arith, append_assoc, append-nil, length-append, add-zero, Some, None, Ok, Err}
+use Rattle.std.proofs.lemmas.Grind.{flat_map-append}
+use Rattle.volume.specs.Volumes.{PVolume}
+use Rattle.wal.specs.Entries.{IsWord, body_of}
+use Rattle.wal.specs.Records.{AreBodies, Counts, LacksRecord, digest, record_of, written}
+use Rattle.wal.specs.declared.wal_entry.WalEntry.{WalEntry}
+use Rattle.wal.proofs.Logs.{after_record, cut, first_ones, tail_after}
+use Rattle.wal.specs.Laws.{log_of}
+use Rattle.wal.specs.Replays.{Replays, all_of, bodies}
+use Rattle.wal.specs.declared.replay_error.ReplayError.{ReplayError}
+use Rattle.wal.specs.Runs.{Reaches, RunsBody}
+use Rattle.wal.proofs.Reaching.{reaches_join, reaches_none}
+
+-- these records of the log were done
+pub record Done (n : ℕ) (log : List ℕ) (records : ℕ) (rest : List ℕ) (old now : PVolume) : Type 0 where
+  pub css : List (List WalEntry)
+  pub is : log ≡ written n (bodies css) ++ rest
+  pub fit : AreBodies (bodies css)
+  pub count : records ≡ length css
+  pub few : records + length rest ≤ length log
+  pub reaches : Reaches (all_of css) old now
+
+pub done_first : (n : ℕ) (log : List ℕ) (v : PVolume) → Done n log 0 log v v
+done_first n log v = record { css = []; is = refl; fit = tt; count = refl; few = omega arith; reaches = reaches_none v }
+
+bodies-append : (css : List (List WalEntry)) (cs : List WalEntry) → bodies (css ++ cs ∷ []) ≡ bodies css ++ body_of cs ∷ []
+bodies-append [] cs = refl
+bodies-append (x ∷ css) cs = ap (λ (bs : List (List ℕ)). body_of x ∷ bs) (bodies-append css cs)
+
+written-append : (n : ℕ) (bs : List (List ℕ)) (b : List ℕ) → written n (bs ++ b ∷ []) ≡ written n bs ++ record_of (n + length bs) b
+written-append n [] b = append-nil (record_of n b) ∙ ap (λ (k : ℕ). record_of k b) (sym (add-zero n))
+written-append n (x ∷ bs) b =
+    let same : suc n + length bs ≡ n + suc (length bs) = omega arith in
+    ap (λ (t : List ℕ). record_of n x ++ t) (written-append (suc n) bs b ∙ ap (λ (k : ℕ). written (suc n) bs ++ record_of k b) same)
+    ∙ sym (append_assoc (record_of n x) (written (suc n) bs) (record_of (n + suc (length bs)) b))
+
+fit-append : (bs : List (List ℕ)) (b : List ℕ) → AreBodies bs → IsWord (length b) → AreBodies (bs ++ b ∷ [])
+fit-append [] b h k = (k, tt)
+fit-append (x ∷ bs) b h k = (h.0, fit-append bs b h.1 k)
+
+pub length-bodies : (css : List (List WalEntry)) → length (bodies css) ≡ length css
+length-bodies [] = refl
+length-bodies (cs ∷ css) = ap suc (length-bodies css)
+
+length-push : (css : List (List WalEntry)) (cs : List WalEntry) → length (css ++ cs ∷ []) ≡ length css + 1
+length-push css cs = length-append css (cs ∷ [])
+
+-- behind a record less is left
+pub behind_shorter : (k : ℕ) (rest body behind : List ℕ) → rest ≡ record_of k body ++ behind → length behind < length rest
+behind_shorter k rest body behind is =
+    let all = after_record k body behind rest is in
+    let first = length-append body (digest k body ++ behind) in
+    let second = length-append (digest k body) behind in
+    omega arith
+
+pub done_more : (n records : ℕ) (log rest body behind : List ℕ) (old now new : PVolume) (cs : List WalEntry) → Done n log records rest old now → rest ≡ record_of (n + records) body ++ behind → IsWord (length body)
+    → body ≡ body_of cs → Reaches cs now new → Done n log (records + 1) behind old new
+done_more n records log rest body behind old now new cs before is fits report reached =
+    let place : n + records ≡ n + length (bodies before.css) = omega (arith, before.count, length-bodies before.css) in
+    let wrote : written n (bodies (before.css ++ cs ∷ [])) ≡ written n (bodies before.css) ++ record_of (n + records) body =
+    ap (written n) (bodies-append before.css cs) ∙ written-append n (bodies before.css) (body_of cs)
+    ∙ ap (λ (k : ℕ). written n (bodies before.css) ++ record_of k (body_of cs)) (sym place)
+    ∙ ap (λ (b : List ℕ). written n (bodies before.css) ++ record_of (n + records) b) (sym report) in
+    let less = behind_shorter (n + records) rest body behind is in
+    record {
+      css = before.css ++ cs ∷ [];
+      is = before.is ∙ ap (λ (x : List ℕ). written n (bodies before.css) ++ x) is ∙ sym (append_assoc (written n (bodies before.css)) (record_of (n + records) body) behind) ∙ ap (λ (x : List ℕ). x ++ behind) (sym wrote);
+      fit = subst AreBodies (sym (bodies-append before.css cs)) (fit-append (bodies before.css) (body_of cs) before.fit (subst (λ (b : List ℕ). IsWord (length b)) report fits));
+      count = omega (arith, before.count, length-push before.css cs);
+      few = omega (arith, before.few, less);
+      reaches = subst (λ (xs : List WalEntry). Reaches xs old new) (sym (flat_map-append (λ (xs : List WalEntry). xs) before.css (cs ∷ [])))
+          (reaches_join (all_of before.css) (cs ++ []) old now new before.reaches (subst (λ (xs : List WalEntry). Reaches xs now new) (sym (append-nil cs)) reached));
+    }
+
+-- ---- where a log ends, or a record is not done
+
+size_reported : (n records : ℕ) (log rest : List ℕ) (old now : PVolume) (d : Done n log records rest old now) → length log - length rest ≡ length (written n (bodies d.css))
+size_reported n records log rest old now d =
+    let size : length log ≡ length (written n (bodies d.css)) + length rest = ap length d.is ∙ length-append (written n (bodies d.css)) rest in
+    omega arith
+
+pub replays_end : (n records : ℕ) (log rest : List ℕ) (old now : PVolume) → Done n log records rest old now → LacksRecord (n + records) rest
+    → Replays n log (record { records = records; size = length log - length rest; stopped = None }) old now
+replays_end n records log rest old now d lacks = record {
+  css = d.css;
+  rest = rest;
+  between = now;
+  is = d.is;
+  fit = d.fit;
+  records = d.count;
+  size = size_reported n records log rest old now d;
+  reaches = d.reaches;
+  ends = (subst (λ (k : ℕ). LacksRecord (n + k) rest) d.count lacks, refl);
+}
+
+pub replays_stop : (n records : ℕ) (log rest body behind : List ℕ) (s : ReplayError) (old now new : PVolume) → Done n log records rest old now → rest ≡ record_of (n + records) body ++ behind → RunsBody body (Err s) now new
+    → Replays n log (record { records = records; size = length log - length rest; stopped = Some s }) old new
+replays_stop n records log rest body behind s old now new d is run = record {
+  css = d.css;
+  rest = rest;
+  between = now;
+  is = d.is;
+  fit = d.fit;
+  records = d.count;
+  size = size_reported n records log rest old now d;
+  reaches = d.reaches;
+  ends = (body, behind, subst (λ (k : ℕ). rest ≡ record_of (n + k) body ++ behind) d.count is, run);
+}
+
+-- a record more that was done
+pub done_after : (n records : ℕ) (log rest body behind : List ℕ) (old now new : PVolume) → Done n log records rest old now → rest ≡ record_of (n + records) body ++ behind → IsWord (length body) → RunsBody body (Ok tt) now new
+    → Done n log (records + 1) behind old new
+done_after n records log rest body behind old now new d is fits run = ⊎_elim
+    (λ (u : (cs : List WalEntry) × (body ≡ body_of cs) × Reaches cs now new). done_more n records log rest body behind old now new u.0 d is fits u.1 u.2)
+    (λ (x : ⊥). absurd x)
+    run
+
+-- ---- crashes
+
+bodies-take : (m : ℕ) (css : List (List WalEntry)) → take m (bodies css) ≡ bodies (take m css)
+bodies-take zero css = refl
+bodies-take (suc m) [] = refl
+bodies-take (suc m) (cs ∷ css) = ap (λ (bs : List (List ℕ)). body_of cs ∷ bs) (bodies-take m css)
+
+pub after_crash : (n k s : ℕ) (css : List (List WalEntry)) → AreBodies (bodies css) → s ≤ length css → length (log_of n (take s css)) ≤ k
+    → (m : ℕ) × (rest : List ℕ) × (s ≤ m) × (m ≤ length css) × Counts n (take k (log_of n css)) (bodies (take m css)) rest
+after_crash n k s css fits few synced =
+    let counted = cut n k (bodies css) fits in
+    let first = first_ones n k (bodies css) in
+    let size = length-bodies css in
+    let least : s ≤ first.0 = first.3 s (omega arith) (subst (λ (bs : List (List ℕ)). length (written n bs) ≤ k) (sym (bodies-take s css)) synced) in
+    (first.0, counted.0, least, omega (arith, first.1), subst (λ (bs : List (List ℕ)). Counts n (take k (log_of n css)) bs counted.0) (first.2 ∙ bodies-take first.0 css) counted.1)
+
+pub synced_first : (n : ℕ) (css : List (List WalEntry)) (tail rest : List ℕ) (bs : List (List ℕ)) → AreBodies (bodies css) → Counts n (log_of n css ++ tail) bs rest → (ds : List (List ℕ)) × (bs ≡ bodies css ++ ds)
+synced_first n css tail rest bs fits h = tail_after n (bodies css) bs tail rest fits h

@@ -1,0 +1,44 @@
+use Rattle.std.proofs.Common.{sym, subst}
+use Rattle.wal.specs.declared.wal_entry.WalEntry.{WalEntry}
+use Rattle.wal.specs.declared.wal_entry.WalEntry.TheVariants.{OnPath, Rename, Truncate, Write, Punch}
+use Rattle.reference.specs.Worlds.{Replied}
+use Rattle.reference.specs.declared.reply.Reply.TheVariants.{Count, Done}
+use Rattle.volume.specs.Typed.{replied}
+use Rattle.wal.specs.Runs.{Makes}
+use Rattle.wal.proofs.Making.{answers_from, called_makes, counted_makes}
+use Rattle.wal.proofs.apply.apply_entry.Goals as goal
+
+pub returns-in-OnPath : goal.returns-in-OnPath
+returns-in-OnPath c =
+    let this : WalEntry = OnPath c.in-OnPath.what c.in-OnPath.path c.in-OnPath.at in
+    subst (λ (x : WalEntry). Makes x c.path_call.result c.args.volume.now c.path_call.new.self) (sym c.in-OnPath.is)
+    (called_makes this c.path_call.result c.args.volume.now c.path_call.new.self
+    (answers_from this (Replied (replied (λ _. Done) c.path_call.result)) c.args.volume.now c.path_call.new.self c.path_call.ensures.leads) c.path_call.ensures.refused)
+
+pub returns-in-Rename : goal.returns-in-Rename
+returns-in-Rename c =
+    let this : WalEntry = Rename c.in-Rename.old c.in-Rename.new c.in-Rename.at in
+    subst (λ (x : WalEntry). Makes x c.rename.result c.args.volume.now c.rename.new.self) (sym c.in-Rename.is)
+    (called_makes this c.rename.result c.args.volume.now c.rename.new.self
+    (answers_from this (Replied (replied (λ _. Done) c.rename.result)) c.args.volume.now c.rename.new.self c.rename.ensures.leads) c.rename.ensures.refused)
+
+pub returns-in-Truncate : goal.returns-in-Truncate
+returns-in-Truncate c =
+    let this : WalEntry = Truncate c.in-Truncate.path c.in-Truncate.length c.in-Truncate.at in
+    subst (λ (x : WalEntry). Makes x c.truncate.result c.args.volume.now c.truncate.new.self) (sym c.in-Truncate.is)
+    (called_makes this c.truncate.result c.args.volume.now c.truncate.new.self
+    (answers_from this (Replied (replied (λ _. Done) c.truncate.result)) c.args.volume.now c.truncate.new.self c.truncate.ensures.leads) c.truncate.ensures.refused)
+
+pub returns-in-Write : goal.returns-in-Write
+returns-in-Write c =
+    let this : WalEntry = Write c.in-Write.path c.in-Write.offset c.in-Write.bytes c.in-Write.at in
+    subst (λ (x : WalEntry). Makes x c.settled.result c.args.volume.now c.write.new.self) (sym c.in-Write.is)
+    (counted_makes this c.write.result c.settled.result c.args.volume.now c.write.new.self c.settled.ensures
+    (answers_from this (Replied (replied (λ n. Count n) c.write.result)) c.args.volume.now c.write.new.self (rw c.as_slice.ensures at c.write.ensures.leads)) c.write.ensures.refused)
+
+pub returns-in-Punch : goal.returns-in-Punch
+returns-in-Punch c =
+    let this : WalEntry = Punch c.in-Punch.path c.in-Punch.offset c.in-Punch.count c.in-Punch.at in
+    subst (λ (x : WalEntry). Makes x c.settled-in-Punch.result c.args.volume.now c.punch.new.self) (sym c.in-Punch.is)
+    (counted_makes this c.punch.result c.settled-in-Punch.result c.args.volume.now c.punch.new.self c.settled-in-Punch.ensures
+    (answers_from this (Replied (replied (λ n. Count n) c.punch.result)) c.args.volume.now c.punch.new.self c.punch.ensures.leads) c.punch.ensures.refused)

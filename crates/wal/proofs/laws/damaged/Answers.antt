@@ -1,0 +1,11 @@
+use Rattle.wal.proofs.Logs.{other_digest, other_number, tail_after}
+use Rattle.wal.proofs.laws.damaged.Goals as goal
+
+pub returns-clause-tail : goal.returns-clause-tail
+returns-clause-tail c = tail_after
+
+pub returns-clause-digest : goal.returns-clause-digest
+returns-clause-digest c = other_digest
+
+pub returns-clause-number : goal.returns-clause-number
+returns-clause-number c = other_number

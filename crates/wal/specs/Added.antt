@@ -1,0 +1,57 @@
+-- Lines that were added to a text.
+use Rattle.std.specs.Prelude.{◌≡◌, ◌≢◌, ◌≤◌, ℕ, List, [], ◌++◌, length, flat_map, map, true}
+use Rattle.std.specs.List.{AllByRecursion}
+use Rattle.pathkey.specs.Heads.{AreBytes}
+use Rattle.pathkey.specs.Names.{Path, IsPath}
+use Rattle.pathkey.specs.SnapNames.{is_snap_name}
+use Rattle.reference.specs.Image.{Text}
+use Rattle.wal.specs.Entries.{IsWord}
+use Rattle.wal.specs.declared.wal_entry.WalEntry.{WalEntry}
+use Rattle.wal.specs.declared.wal_entry.WalEntry.TheVariants.{OnPath, Rename, Truncate, Write, Punch, Keep}
+use Rattle.wal.specs.Lines.{DumpLine, At, Makes, line}
+use Rattle.wal.specs.Dump.{AreParts, TellAll, Tells}
+
+-- a line has room for the change: its paths and names are some, its numbers fit, and a write has few bytes
+abbrev pub HasRoom : WalEntry → Type 0
+HasRoom (OnPath what p at) = IsPath p
+HasRoom (Rename o n at) = IsPath o × IsPath n
+HasRoom (Truncate p len at) = IsPath p × IsWord len
+HasRoom (Write p off w at) = IsPath p × IsWord off × AreBytes w × (length w ≤ 28672)
+HasRoom (Punch p off n at) = IsPath p × IsWord off × IsWord n
+HasRoom (Keep what s) = is_snap_name s ≡ true
+
+-- the same of a moment
+abbrev pub Fits : DumpLine → Type 0
+Fits (At n) = IsWord n
+Fits (Makes c) = HasRoom c
+
+-- the lines of these, one behind the other
+abbrev pub script : List DumpLine → Text
+script ts = flat_map line ts
+
+-- the line of one of these was added, and it fits
+pub record AddsLine (t : DumpLine) (old new : Text) : Type 0 where
+  pub fits : Fits t
+  pub added : new ≡ old ++ line t
+
+-- lines of writes were added that lay these bytes
+pub record AddsParts (p : Path) (off : ℕ) (w : List ℕ) (at : ℕ) (old new : Text) : Type 0 where
+  pub writes : List WalEntry
+  pub some : writes ≢ []
+  pub parts : AreParts p off w at writes
+  pub fit : AllByRecursion Fits (map Makes writes)
+  pub added : new ≡ old ++ script (map Makes writes)
+
+-- lines that tell a change were added
+pub record Adds (c : WalEntry) (old new : Text) : Type 0 where
+  pub lines : List DumpLine
+  pub tells : Tells c lines
+  pub fit : AllByRecursion Fits lines
+  pub added : new ≡ old ++ script lines
+
+-- lines that tell changes, in their order
+pub record AddsAll (cs : List WalEntry) (old new : Text) : Type 0 where
+  pub lines : List DumpLine
+  pub tells : TellAll cs lines
+  pub fit : AllByRecursion Fits lines
+  pub added : new ≡ old ++ script lines

@@ -1,0 +1,9 @@
+pub mod Entries
+pub mod Encode
+pub mod Records
+pub mod Runs
+pub mod Replays
+pub mod Lines
+pub mod Dump
+pub mod Added
+pub mod Laws

@@ -1,0 +1,88 @@
+-- What the changes of a log make of a world.
+use Rattle.std.specs.Prelude.{◌≡◌, ◌⊎◌, ℕ, List, [], ◌∷◌, ◌++◌, length, Option, Some, None, Result, Ok, Err, MatchResult, ⊤}
+use Rattle.pathkey.specs.declared.errno.Errno.{Errno}
+use Rattle.reference.specs.PathCalls.{call_at}
+use Rattle.reference.specs.Worlds.{World, Event, Ask, TakeSnapshot, DropSnapshot, RestoreSnapshot, Answer, Replied, Settled, Fits, outcome}
+use Rattle.reference.specs.declared.call.Call.TheVariants as ask
+use Rattle.reference.specs.declared.reply.Reply.TheVariants.{Fault}
+use Rattle.wal.specs.Entries.{RefusesBody, body_of}
+use Rattle.wal.specs.declared.wal_entry.WalEntry.{WalEntry}
+use Rattle.wal.specs.declared.wal_entry.WalEntry.TheVariants.{OnPath, Rename, Truncate, Write, Punch, Keep}
+use Rattle.wal.specs.declared.wal_entry.SnapshotCall.TheVariants.{Snapshot, Remove, Restore}
+use Rattle.volume.specs.Holes.{hole_in}
+use Rattle.volume.specs.Volumes.{PVolume, Means}
+use Rattle.wal.specs.declared.replay_error.ReplayError.{ReplayError}
+
+-- what a change asks of a world
+abbrev pub event_in : World → WalEntry → Event
+event_in w (OnPath what p at) = Ask (call_at what p) at
+event_in w (Rename o n at) = Ask (ask.Rename o n) at
+event_in w (Truncate p len at) = Ask (ask.Truncate p len) at
+event_in w (Write p off bytes at) = Ask (ask.Write p off bytes) at
+event_in w (Punch p off n at) = hole_in p off n at w
+event_in w (Keep Snapshot s) = TakeSnapshot s
+event_in w (Keep Remove s) = DropSnapshot s
+event_in w (Keep Restore s) = RestoreSnapshot s
+
+-- why an answer is a refusal, where it is one
+abbrev pub fault_of : Answer → Option Errno
+fault_of (Replied (Fault e)) = Some e
+fault_of (Settled (Err e)) = Some e
+fault_of _ = None
+
+-- why a world refuses a change, if it does
+abbrev pub fault_in : World → WalEntry → Option Errno
+fault_in w c = fault_of (outcome w (event_in w c)).1
+
+-- the world after a change
+abbrev pub made : World → WalEntry → World
+made w c = (outcome w (event_in w c)).0
+
+-- and after changes, one after the other
+abbrev pub after : World → List WalEntry → World
+after w [] = w
+after w (c ∷ cs) = after (made w c) cs
+
+-- none of the changes is refused
+abbrev pub AllDone : World → List WalEntry → Type 0
+AllDone w [] = ⊤
+AllDone w (c ∷ cs) = (fault_in w c ≡ None) × AllDone (made w c) cs
+
+-- ---- what became of a volume
+
+-- in each world that it meant, the changes are done, and it now means the world after them
+abbrev pub Reaches : List WalEntry → PVolume → PVolume → Type 0
+Reaches cs old new = (w : World) → Means old w → AllDone w cs × Means new (after w cs)
+
+-- each world that the volume means answers the change with this fault: its own, or want of memory where that may be
+abbrev pub IsRefused : WalEntry → Errno → PVolume → Type 0
+IsRefused c e v = (w : World) → Means v w → (a : Answer) × Fits w (event_in w c) a × (fault_of a ≡ Some e)
+
+-- the change was done; or it was refused so, and nothing changed
+abbrev pub Makes : WalEntry → Result (Unit {0}) Errno → PVolume → PVolume → Type 0
+Makes c (Ok u) old new = Reaches (c ∷ []) old new
+Makes c (Err e) old new = (new ≡ old) × IsRefused c e old
+
+-- the changes before one were done, and that one was refused
+pub record Stops (cs : List WalEntry) (s : ReplayError) (old new : PVolume) : Type 0 where
+  pub before : List WalEntry
+  pub change : WalEntry
+  pub behind : List WalEntry
+  pub is : cs ≡ before ++ change ∷ behind
+  pub place : s.done ≡ length before
+  pub reaches : Reaches before old new
+  pub why : IsRefused change s.fault new
+
+-- all changes were done, or those before the first that was refused
+abbrev pub Runs : List WalEntry → Result (Unit {0}) ReplayError → PVolume → PVolume → Type 0
+Runs cs r old new = MatchResult r (λ u. Reaches cs old new) (λ s. Stops cs s old new)
+
+-- bytes were no body, or memory was refused for reading them: nothing was done
+pub record Unread (body : List ℕ) (s : ReplayError) (old new : PVolume) : Type 0 where
+  pub none : s.done ≡ 0
+  pub why : RefusesBody body s.fault
+  pub same : new ≡ old
+
+-- the changes of a body were run; or it was not read
+abbrev pub RunsBody : List ℕ → Result (Unit {0}) ReplayError → PVolume → PVolume → Type 0
+RunsBody body r old new = ((cs : List WalEntry) × (body ≡ body_of cs) × Runs cs r old new) ⊎ MatchResult r (λ u. ⊥) (λ s. Unread body s old new)

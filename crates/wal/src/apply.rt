@@ -1,0 +1,56 @@
+//! Does one change of a log.
+ghost use Rattle.std.specs.Prelude.{◌≡◌, Err, MatchResult, Ok};
+ghost use Rattle.wal.specs.Runs.{Makes};
+
+use crate::wal_entry::{SnapshotCall, WalEntry};
+use pathkey::{Errno, SnapName};
+use std::alloc::Global;
+use volume::Volume;
+
+// Does a change.
+pub(crate) fn apply_entry(
+    alloc: Global,
+    volume: &mut Volume,
+    change: &WalEntry,
+) -> Result<(), Errno>
+    ensures { Makes change.now result volume.old volume.new }
+{
+    match change {
+        WalEntry::OnPath(what, path, at) => volume.path_call(alloc, *what, path, *at),
+        WalEntry::Rename(old, new, at) => volume.rename(alloc, old, new, *at),
+        WalEntry::Truncate(path, length, at) => volume.truncate(alloc, path, *length, *at),
+        WalEntry::Write(path, offset, bytes, at) => {
+            settled(volume.write(alloc, path, *offset, bytes.as_slice(), *at))
+        }
+        WalEntry::Punch(path, offset, count, at) => {
+            settled(volume.punch(alloc, path, *offset, *count, *at))
+        }
+        WalEntry::Keep(what, name) => keep(alloc, volume, *what, name),
+    }
+}
+
+// Whether a call that tells a number was done.
+fn settled(counted: Result<u64, Errno>) -> Result<(), Errno>
+    ensures { MatchResult counted (λ _. result ≡ Ok tt) (λ e. result ≡ Err e) }
+{
+    match counted {
+        Ok(_) => Ok(()),
+        Err(fault) => Err(fault),
+    }
+}
+
+// Keeps, removes or restores a snapshot.
+fn keep(
+    alloc: Global,
+    volume: &mut Volume,
+    what: SnapshotCall,
+    name: &SnapName,
+) -> Result<(), Errno>
+    ensures { Makes (WalEntry.Keep what name.now) result volume.old volume.new }
+{
+    match what {
+        SnapshotCall::Snapshot => volume.snapshot(alloc, name),
+        SnapshotCall::Remove => volume.drop_snapshot(name),
+        SnapshotCall::Restore => volume.restore(name),
+    }
+}

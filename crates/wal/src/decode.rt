@@ -1,0 +1,207 @@
+//! Reads the changes that bytes are.
+ghost use Rattle.std.specs.Prelude.{◌≡◌, ◌≢◌, ◌⊎◌, ◌++◌, ◌∷◌, MatchResult, OnOk, []};
+ghost use Rattle.pathkey.specs.declared.errno.Errno.TheVariants.{EINVAL, ENOMEM};
+ghost use Rattle.wal.specs.Entries.{IsNoName, IsNoText, ReadsEntry, RefusesBody, Refuses, body_of, has_no_numbers, keeping_kind, path_kind};
+ghost use Rattle.pathkey.specs.Texts.{text_of};
+
+use crate::entry::{EntryHeader, split_entry};
+use crate::wal_entry::{SnapshotCall, WalEntry};
+use bytes::Bytes;
+use pathkey::{Errno, NoMemory, Path, SnapName};
+use reference::PathCall;
+use std::alloc::Global;
+
+/// The changes that the body of a record is. `EINVAL`: it is no list of changes. `ENOMEM`.
+pub fn decode_entries(alloc: Global, body: &[u8]) -> Result<Vec<WalEntry>, Errno>
+    ensures { MatchResult result (λ changes. body.now ≡ body_of changes.items) (λ e. RefusesBody body.now e) }
+{
+    let mut changes = Vec::new(alloc);
+    let mut rest = body;
+    while !rest.is_empty() {
+        let Some((head, first, second, behind)) = split_entry(rest) else {
+            return Err(Errno::EINVAL);
+        };
+        match read_entry(alloc, head, first, second) {
+            Ok(change) => push(&mut changes, change)?,
+            Err(fault) => return Err(fault),
+        }
+        rest = behind;
+    }
+    Ok(changes)
+}
+
+// Adds a change.
+fn push(changes: &mut Vec<WalEntry>, change: WalEntry) -> Result<(), NoMemory>
+    ensures { OnOk result (changes.new.items ≡ changes.old.items ++ change ∷ []) }
+{
+    changes.push(change)?;
+    Ok(())
+}
+
+// The change whose entry this is.
+fn read_entry(
+    alloc: Global,
+    head: EntryHeader,
+    first: &[u8],
+    second: &[u8],
+) -> Result<WalEntry, Errno>
+    ensures { ReadsEntry head first.now second.now result }
+{
+    match head.kind {
+        1 => decode_path_call(alloc, PathCall::Mkdir, head, first, second),
+        2 => decode_path_call(alloc, PathCall::Create, head, first, second),
+        3 => decode_path_call(alloc, PathCall::Unlink, head, first, second),
+        4 => decode_path_call(alloc, PathCall::Rmdir, head, first, second),
+        5 => decode_path_call(alloc, PathCall::Rmtree, head, first, second),
+        6 => read_rename(alloc, head, first, second),
+        7 => read_truncate(alloc, head, first, second),
+        8 => read_write(alloc, head, first, second),
+        9 => read_punch(alloc, head, first, second),
+        10 => decode_snapshot_call(alloc, SnapshotCall::Snapshot, head, first, second),
+        11 => decode_snapshot_call(alloc, SnapshotCall::Remove, head, first, second),
+        12 => decode_snapshot_call(alloc, SnapshotCall::Restore, head, first, second),
+        _ => Err(Errno::EINVAL),
+    }
+}
+
+// Whether an entry has no number but its moment.
+fn has_no_numbers(head: EntryHeader) -> bool
+    ensures { result ≡ has_no_numbers head }
+{
+    head.offset == 0 && head.count == 0
+}
+
+// What makes or takes out what stands at a path.
+fn decode_path_call(
+    alloc: Global,
+    what: PathCall,
+    head: EntryHeader,
+    first: &[u8],
+    second: &[u8],
+) -> Result<WalEntry, Errno>
+    requires { path_kind what ≡ head.kind }
+    ensures { ReadsEntry head first.now second.now result }
+{
+    if !has_no_numbers(head) || !second.is_empty() {
+        return Err(Errno::EINVAL);
+    }
+    let path = read_path(alloc, first)?;
+    Ok(WalEntry::OnPath(what, path, head.at))
+}
+
+// A move.
+fn read_rename(
+    alloc: Global,
+    head: EntryHeader,
+    first: &[u8],
+    second: &[u8],
+) -> Result<WalEntry, Errno>
+    requires { 6 ≡ head.kind }
+    ensures { ReadsEntry head first.now second.now result }
+{
+    if !has_no_numbers(head) {
+        return Err(Errno::EINVAL);
+    }
+    let old = read_path(alloc, first)?;
+    let new = read_path(alloc, second)?;
+    Ok(WalEntry::Rename(old, new, head.at))
+}
+
+// A file that is cut or lengthened.
+fn read_truncate(
+    alloc: Global,
+    head: EntryHeader,
+    first: &[u8],
+    second: &[u8],
+) -> Result<WalEntry, Errno>
+    requires { 7 ≡ head.kind }
+    ensures { ReadsEntry head first.now second.now result }
+{
+    if head.count != 0 || !second.is_empty() {
+        return Err(Errno::EINVAL);
+    }
+    let path = read_path(alloc, first)?;
+    Ok(WalEntry::Truncate(path, head.offset, head.at))
+}
+
+// Bytes that are laid over a file.
+fn read_write(
+    alloc: Global,
+    head: EntryHeader,
+    first: &[u8],
+    second: &[u8],
+) -> Result<WalEntry, Errno>
+    requires { 8 ≡ head.kind }
+    ensures { ReadsEntry head first.now second.now result }
+{
+    if head.count != 0 {
+        return Err(Errno::EINVAL);
+    }
+    let path = read_path(alloc, first)?;
+    let Ok(bytes) = Bytes::copy_from_slice(alloc, second) else {
+        return Err(Errno::ENOMEM);
+    };
+    Ok(WalEntry::Write(path, head.offset, bytes, head.at))
+}
+
+// A hole.
+fn read_punch(
+    alloc: Global,
+    head: EntryHeader,
+    first: &[u8],
+    second: &[u8],
+) -> Result<WalEntry, Errno>
+    requires { 9 ≡ head.kind }
+    ensures { ReadsEntry head first.now second.now result }
+{
+    if !second.is_empty() {
+        return Err(Errno::EINVAL);
+    }
+    let path = read_path(alloc, first)?;
+    Ok(WalEntry::Punch(path, head.offset, head.count, head.at))
+}
+
+// What becomes of a snapshot.
+fn decode_snapshot_call(
+    alloc: Global,
+    what: SnapshotCall,
+    head: EntryHeader,
+    first: &[u8],
+    second: &[u8],
+) -> Result<WalEntry, Errno>
+    requires { keeping_kind what ≡ head.kind }
+    ensures { ReadsEntry head first.now second.now result }
+{
+    if head.at != 0 || !has_no_numbers(head) || !second.is_empty() {
+        return Err(Errno::EINVAL);
+    }
+    let name = read_name(alloc, first)?;
+    Ok(WalEntry::Keep(what, name))
+}
+
+// The path of a text. `EINVAL`: it is the text of none.
+fn read_path(alloc: Global, text: &[u8]) -> Result<Path, Errno>
+    ensures { MatchResult result (λ path. text_of path ≡ text.now) (Refuses (IsNoText text.now)) }
+{
+    match Path::parse(alloc, text) {
+        Ok(path) => Ok(path),
+        Err(fault) => Err(refusal(fault)),
+    }
+}
+
+// What is told of a text that is refused so.
+fn refusal(fault: Errno) -> Errno
+    ensures { ((result ≡ EINVAL) × (fault ≢ ENOMEM)) ⊎ (result ≡ ENOMEM) }
+{
+    match fault {
+        Errno::ENOMEM => Errno::ENOMEM,
+        _ => Errno::EINVAL,
+    }
+}
+
+// The name of a snapshot. `EINVAL`: the text is none.
+fn read_name(alloc: Global, text: &[u8]) -> Result<SnapName, Errno>
+    ensures { MatchResult result (λ name. name ≡ text.now) (Refuses (IsNoName text.now)) }
+{
+    SnapName::parse(alloc, text)
+}

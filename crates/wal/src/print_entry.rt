@@ -1,0 +1,71 @@
+//! The lines of each change.
+ghost use Rattle.std.specs.Prelude.{◌≡◌, ◌+◌, ◌^◌, ◌<◌, ℕ, OnOk, false, length};
+ghost use Rattle.wal.specs.Added.{Adds, AddsParts};
+ghost use Rattle.wal.specs.Dump.{exceeds_range};
+
+use crate::print::{
+    put_hole, put_keep, put_moment, put_on_path, put_rename, put_truncate, put_write,
+};
+use crate::wal_entry::WalEntry;
+use pathkey::Path;
+use textio::output::WriteFailed;
+
+/// The most bytes that one line writes: those of seven blocks.
+const MOST: usize = 28_672;
+
+// Whether a write reaches past the last number of a byte.
+pub(crate) fn exceeds_range(change: &WalEntry) -> bool
+    ensures { result ≡ exceeds_range change.now }
+{
+    match change {
+        WalEntry::Write(_, offset, bytes, _) => offset.checked_add(bytes.len() as u64).is_none(),
+        _ => false,
+    }
+}
+
+// Adds the lines of a change.
+pub(crate) fn put_change(text: &mut Vec<u8>, change: &WalEntry) -> Result<(), WriteFailed>
+    requires { exceeds_range change.now ≡ false }
+    ensures { OnOk result (Adds change.now text.old.items text.new.items) }
+{
+    match change {
+        WalEntry::OnPath(what, path, at) => {
+            put_moment(text, *at)?;
+            put_on_path(text, *what, path)
+        }
+        WalEntry::Rename(old, new, at) => {
+            put_moment(text, *at)?;
+            put_rename(text, old, new)
+        }
+        WalEntry::Truncate(path, length, at) => {
+            put_moment(text, *at)?;
+            put_truncate(text, path, *length)
+        }
+        WalEntry::Write(path, offset, bytes, at) => {
+            put_moment(text, *at)?;
+            put_parts(text, path, *offset, bytes.as_slice())
+        }
+        WalEntry::Punch(path, offset, count, _) => put_hole(text, path, *offset, *count),
+        WalEntry::Keep(what, name) => put_keep(text, *what, name),
+    }
+}
+
+// Adds the lines of a write, each of as many bytes as a line has room for.
+fn put_parts(text: &mut Vec<u8>, path: &Path, offset: u64, bytes: &[u8]) -> Result<(), WriteFailed>
+    requires { offset + length bytes.now < 2 ^ 64 }
+    ensures { OnOk result ((at : ℕ) → AddsParts path.now offset bytes.now at text.old.items text.new.items) }
+{
+    let mut from = offset;
+    let mut rest = bytes;
+    // No slice has more bytes.
+    for _ in 0..u64::MAX {
+        let (part, behind) = rest.split_at(rest.len().min(MOST));
+        put_write(text, path, from, part)?;
+        if behind.is_empty() {
+            return Ok(());
+        }
+        from += part.len() as u64;
+        rest = behind;
+    }
+    Err(WriteFailed)
+}
