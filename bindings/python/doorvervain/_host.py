@@ -110,9 +110,12 @@ def import_tree(volume: "Volume", host_path: HostPath, path: StrPath, skip_speci
     times = []
     for folder in _folders(top):
         at = below(start, folder.inside.lstrip("/")) if folder.inside else start
-        if not volume.is_dir(at):
-            volume.mkdir(at)
-        times.append((at, _mtime(os.fstat(folder.opened))))
+        mtime, is_new = _mtime(os.fstat(folder.opened)), not volume.is_dir(at)
+        if is_new:
+            volume.mkdir(at, at=mtime)
+        # (an empty one may have a path so long that nothing can be created in it)
+        if folder.entries or not is_new:
+            times.append((at, mtime))
         for name, state in folder.entries:
             if stat.S_ISREG(state.st_mode):
                 _import_one(volume, below(at, text_of(name)), folder, name)

@@ -453,7 +453,7 @@ def _find(tree: "Tree", path: str, names: List[str], folders_only: bool) -> Iter
                 yield from _find(tree, below(path, entry.name), names[1:], folders_only)
     else:
         there = below(path, names[0])
-        if tree.is_dir(there) if len(names) > 1 or folders_only else tree.exists(there):
+        if _is_there(tree, there, len(names) > 1 or folders_only):
             yield from _find(tree, there, names[1:], folders_only)
 
 
@@ -466,6 +466,16 @@ def _find_any(tree: "Tree", path: str, names: List[str], folders_only: bool) -> 
             yield from _find_any(tree, there, names, folders_only)
         elif not names and not folders_only:
             yield there
+
+
+def _is_there(tree: "Tree", path: str, needs_folder: bool) -> bool:
+    """Whether an entry exists, and is a directory if it has to be one. No entry has a path that is too long."""
+    try:
+        return tree.is_dir(path) if needs_folder else tree.exists(path)
+    except OSError as error:
+        if error.errno != errno.ENAMETOOLONG:
+            raise
+        return False
 
 
 def _entries(tree: "Tree", path: str) -> List[Any]:

@@ -5,6 +5,7 @@ reentrant: a method that makes two calls, as an append, holds it throughout. A f
 """
 from __future__ import annotations
 
+import copy
 import errno
 import io
 import time
@@ -329,13 +330,18 @@ class Volume(Tree, _core.Volume):
             tree.export_tree(host_path, path)
 
     def __copy__(self) -> "Volume":
-        return self.fork()
+        other = type(self).__new__(type(self))
+        other._fork_of(self, None)
+        other.__dict__.update(self.__dict__)
+        return other
 
     def __deepcopy__(self, memo: Dict[int, Any]) -> "Volume":
-        return self.fork()
+        memo[id(self)] = other = self.__copy__()
+        other.__dict__.update(copy.deepcopy(self.__dict__, memo))
+        return other
 
     def __reduce__(self) -> Tuple[Any, ...]:
-        return _volume_of, (type(self), self.image(), self._shape, self._clock)
+        return _volume_of, (type(self), self.image(), self._shape, self._clock), self.__dict__ or None
 
     def freeze(self) -> "Frozen":
         """Freezes the current tree, which later changes do not affect."""
@@ -396,7 +402,7 @@ class Frozen(Tree, _core.Frozen):
         return self.__copy__()
 
     def __reduce__(self) -> Tuple[Any, ...]:
-        return _frozen_of, (type(self), self.image(), self._shape)
+        return _frozen_of, (type(self), self.image(), self._shape), self.__dict__ or None
 
 
 def _forked(tree: Tree, clock: Optional[Callable[[], int]]) -> Volume:

@@ -111,6 +111,14 @@ class HostTrees(unittest.TestCase):
                 self.assertEqual(volume.glob("/**/*"), ["/z"])
             os.unlink(path)
 
+    def test_the_deepest_path(self):
+        volume, out = Volume(clock=lambda: 5), os.path.join(self.folder, b"out")
+        volume.makedirs("/e" * 511)
+        volume.export_tree(out)
+        with Volume() as other:
+            other.import_tree(out)
+            self.assertEqual(other.image(), volume.image())
+
     def test_the_folder_itself_may_be_a_link(self):
         self.fill(9)
         link = os.path.join(self.folder, b"link")

@@ -277,6 +277,14 @@ class Trees(unittest.TestCase):
         volume.path("/a").rmtree()
         self.assertEqual([*map(str, volume.path().iterdir())], ["/c"])
 
+    def test_the_deepest_path(self):
+        volume, depth = Volume(), 511
+        volume.makedirs("/e" * depth)
+        self.assertEqual(len([*volume.path().rglob("*")]), depth)
+        for top_down in [True, False]:
+            self.assertEqual(len([*volume.path().walk(top_down)]), depth + 1)
+        self.assertEqual((len(volume.glob("/**/e")), volume.glob("/**/" + "n" * 256)), (depth, []))
+
     def test_errors_of_a_walk(self):
         seen = []
         self.assertEqual(list(Volume().path("/none").walk(on_error=seen.append)), [])

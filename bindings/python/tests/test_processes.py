@@ -42,7 +42,13 @@ class Pickles(unittest.TestCase):
             other.unlink("/f")
             self.assertEqual(volume.listdir(), ["d", "f"])
         self.assertIs(pickle.loads(pickle.dumps(Volume()))._clock, time.time_ns)
-        self.assertIs(type(pickle.loads(pickle.dumps(Wider()))), Wider)
+
+    def test_a_type_of_somebody_else(self):
+        volume = Wider()
+        volume.names = ["a"]
+        for call in [lambda it: pickle.loads(pickle.dumps(it)), copy.copy, copy.deepcopy]:
+            other = call(volume)
+            self.assertEqual((type(other), other.names, other.names is volume.names), (Wider, ["a"], call is copy.copy))
 
     def test_a_frozen_tree(self):
         volume = made()
