@@ -93,8 +93,13 @@ def a_store_tells_its_log(folder: Path):
     told = status_of(mount)["store"]
     assert 1 << 20 < told["log"] < 2 << 20 and told["pending"] == 0 and not told["refuses"], told
     assert told["last_sync"] < 5, told
+    (mount.point / ".snapshots/one").mkdir()
+    (mount.point / "bytes").unlink()
     end_well(mount)
     mount = store_mount(folder)
+    counted_right(mount)
+    subprocess.run([MOUNT, "--restore", "one", mount.point], check=True)
+    assert (mount.point / "bytes").exists()
     counted_right(mount)
     assert "log " in subprocess.run([MOUNT, "--status", mount.point], stdout=subprocess.PIPE, text=True, check=True).stdout
     end_well(mount)

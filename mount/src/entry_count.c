@@ -36,8 +36,7 @@ static int list(struct walk *walk, const char *path) {
     while (number == DOORVERVAIN_ERANGE) {
         if (bytes_reserve(names, size)) return ENOMEM;
         requests_lock();
-        number = doorvervain_frozen_readdir(&walk->tree, of, strlen(of), names->at,
-                                            names->capacity, &size);
+        number = doorvervain_frozen_readdir(&walk->tree, of, strlen(of), names->at, names->capacity, &size);
         requests_unlock();
     }
     names->length = number ? 0 : size;
@@ -102,6 +101,14 @@ void entry_count_add(struct mount *mount, int change) {
     mount->entries += change;
 }
 
+void entry_count_set(struct mount *mount, uint64_t count) {
+    assert(request_lock_is_held(mount));
+    mount->entry_walks++;
+    mount->entries_known = count != ENTRIES_UNKNOWN;
+    mount->entries = (int64_t)count;
+}
+
 uint64_t entry_count(const struct mount *mount) {
+    assert(request_lock_is_held(mount));
     return mount->entries_known ? (uint64_t)mount->entries : ENTRIES_UNKNOWN;
 }

@@ -54,7 +54,8 @@ struct inode {
     // Times that no volume keeps.
     struct timespec access, change;
     bool has_access;
-    bool is_pinned; // an unlinked file that could not be removed yet: not freed with its directory
+    uint64_t entries; // of a snapshot's root: names in its tree (entry_count.h)
+    bool is_pinned;   // an unlinked file that could not be removed yet: not freed with its directory
 };
 
 // The path of an inode. `path` points into `text`.

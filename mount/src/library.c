@@ -158,8 +158,7 @@ static int library_next_extent(void *self, struct path_ref ref, uint64_t offset,
     if (ref.snapshot)
         return doorvervain_errno(
             doorvervain_frozen_next_extent(&library->tree, ref.path, length, offset, &out->from, &out->to));
-    return doorvervain_errno(
-        doorvervain_next_extent(&library->volume, ref.path, length, offset, &out->from, &out->to));
+    return doorvervain_errno(doorvervain_next_extent(&library->volume, ref.path, length, offset, &out->from, &out->to));
 }
 
 static int put(void *image, const uint8_t *bytes, size_t count) { return image_put(image, (const char *)bytes, count); }

@@ -736,10 +736,11 @@ static void *restore(void *argument) {
     struct bytes stale = {NULL};
     int err = request_begin(request);
     if (!err) err = snapshot_restore(request->mount, restoring->wanted.name, &stale);
+    bool is_counted = !err && entry_count(request->mount) != ENTRIES_UNKNOWN;
     struct store *store = request->mount->store;
     err = request_end(request, err);
     if (!err && store && store_syncs_each(store)) err = store_sync(store);
-    if (!err) entry_count_walk(request->mount);
+    if (!err && !is_counted) entry_count_walk(request->mount);
     notify_stale(&stale);
     if (!answer_failed(request, err)) fuse_reply_ioctl(request->req, 0, NULL, 0);
     mem_free(restoring);

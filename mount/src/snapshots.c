@@ -4,6 +4,7 @@
 // a file of its kind in the new tree; all others are detached, and each name and inode that the kernel may hold stale
 // is in the list of `struct stale_dentry`.
 #include "snapshots.h"
+#include "entry_count.h"
 #include "private_dir.h"
 #include "attrs.h"
 #include "memlimit.h"
@@ -57,6 +58,7 @@ static int add_folder(struct mount *mount, const char *name) {
     struct inode *inode = err ? NULL : inode_add(folder(mount), name, true);
     if (!inode) return err ? err : ENOMEM;
     inode->role = SNAPSHOT_ROOT;
+    inode->entries = ENTRIES_UNKNOWN;
     return 0;
 }
 
@@ -80,7 +82,9 @@ int snapshot_take(struct request *request, const char *name, struct lookup_resul
         memlimit_begin(&request->budget);
         err = take_tree(mount, name, &out->inode);
     } while (memlimit_retry(&request->budget, &mount->backend, &err));
-    return err ? err : fs_getattr(mount, out->inode, &out->stat);
+    if (err) return err;
+    out->inode->entries = entry_count(mount);
+    return fs_getattr(mount, out->inode, &out->stat);
 }
 
 int snapshot_drop(struct mount *mount, const char *name) {
@@ -153,9 +157,11 @@ void snapshot_after_switch(struct mount *mount, int err, struct bytes *out) {
 
 int snapshot_restore(struct mount *mount, const char *name, struct bytes *out) {
     assert(request_lock_is_held(mount));
-    if (!inode_find(folder(mount), name)) return ENOENT;
+    const struct inode *snapshot = inode_find(folder(mount), name);
+    if (!snapshot) return ENOENT;
     snapshot_before_switch(mount, out);
     int err = call_snapshot(mount, RESTORE_SNAPSHOT, name);
+    if (!err) entry_count_set(mount, snapshot->entries);
     snapshot_after_switch(mount, err, out);
     return err;
 }

@@ -35,8 +35,7 @@ int wal_encode_change(struct bytes *out, enum path_call what, const char *path, 
 int wal_encode_rename(struct bytes *out, const char *from, const char *to, uint64_t at) {
     size_t length = strlen(from), other = strlen(to), size = 0;
     if (reserve(out, length + other)) return ENOMEM;
-    uint8_t number =
-        doorvervain_wal_rename(from, length, to, other, at, end_of(out), ENTRY + length + other, &size);
+    uint8_t number = doorvervain_wal_rename(from, length, to, other, at, end_of(out), ENTRY + length + other, &size);
     return put(out, number, &size);
 }
 
@@ -50,8 +49,8 @@ int wal_encode_write(struct bytes *out, const char *path, uint64_t offset, const
                      uint64_t at) {
     size_t length = strlen(path), size = 0;
     if (reserve(out, length + count)) return ENOMEM;
-    uint8_t number = doorvervain_wal_write(path, length, offset, bytes, count, at, end_of(out),
-                                           ENTRY + length + count, &size);
+    uint8_t number =
+        doorvervain_wal_write(path, length, offset, bytes, count, at, end_of(out), ENTRY + length + count, &size);
     return put(out, number, &size);
 }
 
@@ -102,8 +101,7 @@ bool wal_find_sync_marker(const char *log, size_t length, uint64_t number) {
     size_t left = length, count;
     while (left >= whole && (at = memchr(at, 'd', left - whole + 1))) {
         left = length - (size_t)(at - log);
-        if (sync_marker_at(at) > number && !doorvervain_wal_next(at, left, sync_marker_at(at), &count))
-            return true;
+        if (sync_marker_at(at) > number && !doorvervain_wal_next(at, left, sync_marker_at(at), &count)) return true;
         at++, left--;
     }
     return false;
