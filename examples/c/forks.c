@@ -10,14 +10,12 @@
 
 enum { CAPACITY = 256, THREADS = 8, FILES = 300, CALLS = 10000, SIZE = 16 };
 
-static const uint8_t *bytes_of(const char *text) { return (const uint8_t *)text; }
-
 static uint8_t open_usual(struct doorvervain *fs) {
     return doorvervain_open(fs, DOORVERVAIN_FANOUT, DOORVERVAIN_PENDING, DOORVERVAIN_LEAF);
 }
 
 static uint8_t create(struct doorvervain *fs, const char *path, uint64_t at) {
-    return doorvervain_create(fs, bytes_of(path), strlen(path), at);
+    return doorvervain_create(fs, path, strlen(path), at);
 }
 
 // Prints the names in the root, and its mtime.
@@ -25,11 +23,11 @@ static void say_root(const char *what, struct doorvervain *fs) {
     uint8_t listing[CAPACITY], kind;
     size_t size = 0;
     uint64_t length, modified;
-    uint8_t number = doorvervain_readdir(fs, bytes_of("/"), 1, listing, CAPACITY, &size);
+    uint8_t number = doorvervain_readdir(fs, "/", 1, listing, CAPACITY, &size);
     printf("%s: readdir %d:", what, number);
     for (const uint8_t *at = listing; at < listing + size; at += strlen((const char *)at) + 1)
         printf(" %s", (const char *)at);
-    number = doorvervain_stat(fs, bytes_of("/"), 1, &kind, &length, &modified);
+    number = doorvervain_stat(fs, "/", 1, &kind, &length, &modified);
     printf("; stat %d, mtime %llu\n", number, (unsigned long long)modified);
 }
 
@@ -44,13 +42,13 @@ static void say_first_snapshot(const char *what, struct doorvervain *fs) {
 static void fork_of_a_volume(struct doorvervain *fs, struct doorvervain *fork) {
     printf("open: %d\n", open_usual(fs));
     printf("create: %d\n", create(fs, "/a", 1));
-    printf("snapshot: %d\n", doorvervain_snapshot(fs, bytes_of("s"), 1));
+    printf("snapshot: %d\n", doorvervain_snapshot(fs, "s", 1));
     printf("create: %d\n", create(fs, "/b", 2));
     printf("fork: %d\n", doorvervain_fork(fs, fork));
     say_root("fork", fork);
     say_first_snapshot("fork", fork);
     printf("create in the fork: %d\n", create(fork, "/c", 3));
-    printf("unlink in the volume: %d\n", doorvervain_unlink(fs, bytes_of("/a"), 2, 4));
+    printf("unlink in the volume: %d\n", doorvervain_unlink(fs, "/a", 2, 4));
     say_root("fork", fork);
     say_root("volume", fs);
     say_first_snapshot("volume", fs);
@@ -75,7 +73,7 @@ static void restores(struct doorvervain *fs, struct doorvervain *other) {
     struct doorvervain_frozen tree = {0};
     printf("open: %d, %d\n", open_usual(fs), doorvervain_open(other, 4, 4, 4));
     printf("create: %d, %d\n", create(fs, "/a", 1), create(other, "/x", 7));
-    printf("snapshot: %d\n", doorvervain_snapshot(fs, bytes_of("s"), 1));
+    printf("snapshot: %d\n", doorvervain_snapshot(fs, "s", 1));
     printf("freeze: %d\n", doorvervain_freeze(other, &tree));
     printf("create in the other: %d\n", create(other, "/y", 8));
     printf("restore: %d\n", doorvervain_restore_frozen(fs, &tree));
@@ -86,7 +84,7 @@ static void restores(struct doorvervain *fs, struct doorvervain *other) {
     printf("restore again: %d\n", doorvervain_restore_frozen(fs, &tree));
     say_root("volume", fs);
     say_root("other", other);
-    printf("restore of a snapshot: %d\n", doorvervain_restore(fs, bytes_of("s"), 1));
+    printf("restore of a snapshot: %d\n", doorvervain_restore(fs, "s", 1));
     say_root("volume", fs);
     doorvervain_frozen_close(&tree);
 }
@@ -179,7 +177,7 @@ static void create_file(struct work *work, int file) {
     char name[SIZE];
     size_t length = name_of(file, name);
     int has = work->length[file] >= 0;
-    check(work, doorvervain_create(&work->fs, bytes_of(name), length, 1), has ? DOORVERVAIN_EEXIST : DOORVERVAIN_DONE);
+    check(work, doorvervain_create(&work->fs, name, length, 1), has ? DOORVERVAIN_EEXIST : DOORVERVAIN_DONE);
     if (!has) work->length[file] = 0;
 }
 
@@ -187,7 +185,7 @@ static void unlink_file(struct work *work, int file) {
     char name[SIZE];
     size_t length = name_of(file, name);
     int has = work->length[file] >= 0;
-    check(work, doorvervain_unlink(&work->fs, bytes_of(name), length, 1), has ? DOORVERVAIN_DONE : DOORVERVAIN_ENOENT);
+    check(work, doorvervain_unlink(&work->fs, name, length, 1), has ? DOORVERVAIN_DONE : DOORVERVAIN_ENOENT);
     work->length[file] = -1;
 }
 
@@ -196,7 +194,7 @@ static void write_file(struct work *work, int file) {
     char name[SIZE];
     size_t length = name_of(file, name), count = 1 + drawn(work, SIZE);
     int has = work->length[file] >= 0;
-    uint8_t number = doorvervain_write(&work->fs, bytes_of(name), length, 0, zeros, count, 1);
+    uint8_t number = doorvervain_write(&work->fs, name, length, 0, zeros, count, 1);
     check(work, number, has ? DOORVERVAIN_DONE : DOORVERVAIN_ENOENT);
     if (has && work->length[file] < (int)count) work->length[file] = (int)count;
 }
@@ -207,8 +205,8 @@ static void compare(struct work *work, int file, int expected, int of_tree) {
     uint8_t kind;
     uint64_t size, modified;
     size_t length = name_of(file, name);
-    uint8_t number = of_tree ? doorvervain_frozen_stat(&work->tree, bytes_of(name), length, &kind, &size, &modified)
-                             : doorvervain_stat(&work->fs, bytes_of(name), length, &kind, &size, &modified);
+    uint8_t number = of_tree ? doorvervain_frozen_stat(&work->tree, name, length, &kind, &size, &modified)
+                             : doorvervain_stat(&work->fs, name, length, &kind, &size, &modified);
     check(work, number, expected < 0 ? DOORVERVAIN_ENOENT : DOORVERVAIN_DONE);
     if (expected >= 0) work->wrong += size != (uint64_t)expected;
 }

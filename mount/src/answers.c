@@ -65,7 +65,7 @@ static void send_late(struct waiter *waiter, int err) {
 // The same answer, for another thread; null where memory is wanting.
 static struct answer *copy_answer(const struct answer *answer) {
     struct answer *copy = mem_alloc(sizeof *copy);
-    if (!copy) return 0;
+    if (!copy) return NULL;
     *copy = *answer;
     copy->waiter = (struct waiter){.answer = send_late};
     waiting++;
@@ -77,14 +77,14 @@ static bool waits_for_sync(struct answer *answer) {
     struct store *store = answer->request.mount->store;
     int err = 0;
     bool is_synced = store_try_sync(store, &err);
-    struct answer *copy = is_synced ? 0 : copy_answer(answer);
+    struct answer *copy = is_synced ? NULL : copy_answer(answer);
     if (copy) store_wait_for_sync(store, &copy->waiter);
     else note_err(answer, is_synced ? err : store_sync(store));
     return copy;
 }
 
 static bool waits_for_space(struct store *store, const struct answer *answer) {
-    struct answer *copy = store_is_full(store) ? copy_answer(answer) : 0;
+    struct answer *copy = store_is_full(store) ? copy_answer(answer) : NULL;
     if (!copy) return false;
     if (store_wait_for_space(store, &copy->waiter)) return true;
     free_copy(copy);

@@ -6,6 +6,7 @@
 // `attrs_gen` is the mount's `tree_gen`.
 #include "attrs.h"
 #include "exit_report.h"
+#include "text.h"
 #include <errno.h>
 #include <stdio.h>
 #include <string.h>
@@ -95,7 +96,7 @@ static bool fits(const struct doorvervain_attributes *base, bool is_directory, b
 }
 
 static int parse(const struct bytes *text, struct attrs *out, struct bytes *extended) {
-    struct bytes unasked = {0}, *packed = extended ? extended : &unasked;
+    struct bytes unasked = {NULL}, *packed = extended ? extended : &unasked;
     int err = bytes_reserve(packed, text->length + 1);
     if (!err)
         err = doorvervain_errno(doorvervain_attr_decode((const uint8_t *)text->at, text->length, &out->base,
@@ -114,7 +115,7 @@ void attrs_untrust(const struct mount *mount, struct doorvervain_attributes *bas
 
 static int read_record(struct mount *mount, const struct resolved_path *resolved, struct path_ref ref, size_t length,
                        bool is_directory, struct attrs *out, struct bytes *extended) {
-    struct bytes text = {0};
+    struct bytes text = {NULL};
     int err = read_text(mount, ref, length, &text);
     if (!err) err = parse(&text, out, extended);
     bytes_free(&text);
@@ -152,8 +153,7 @@ static bool look_for_records(struct mount *mount, const struct inode *directory)
     struct resolved_path resolved;
     struct node_stat node_stat;
     char folder[LONGEST_PATH + 1];
-    if (inode_path(directory, 0, &resolved) || form_path(doorvervain_attr_dir, resolved.path, folder))
-        return true;
+    if (inode_path(directory, NULL, &resolved) || form_path(doorvervain_attr_dir, resolved.path, folder)) return true;
     return backend_stat(&mount->backend, (struct path_ref){resolved.snapshot, folder}, &node_stat) != ENOENT;
 }
 
@@ -168,7 +168,7 @@ static bool no_records_below(struct mount *mount, struct inode *directory) {
 
 int attrs_read_name(struct mount *mount, struct inode *parent, const struct resolved_path *resolved, bool is_directory,
                     struct attrs *out) {
-    if (!no_records_below(mount, parent)) return attrs_read(mount, resolved, is_directory, out, 0);
+    if (!no_records_below(mount, parent)) return attrs_read(mount, resolved, is_directory, out, NULL);
     *out = attrs_default(mount, is_directory);
     return 0;
 }
@@ -205,7 +205,7 @@ int attrs_list(struct mount *mount, struct inode *directory, struct bytes *out) 
     struct resolved_path resolved;
     char folder[LONGEST_PATH + 1];
     if (no_records_below(mount, directory)) return 0;
-    int err = inode_path(directory, 0, &resolved);
+    int err = inode_path(directory, NULL, &resolved);
     if (!err) err = form_path(doorvervain_attr_dir, resolved.path, folder);
     if (!err) err = backend_readdir(&mount->backend, (struct path_ref){resolved.snapshot, folder}, out);
     if (!err) unmirror(out);
@@ -222,8 +222,8 @@ int attrs_of(struct mount *mount, struct inode *inode, const struct attrs **out)
         attrs_remember(mount, inode, &read);
         return 0;
     }
-    int err = inode_path(inode, 0, &resolved);
-    if (!err) err = attrs_read(mount, &resolved, inode->is_directory, &read, 0);
+    int err = inode_path(inode, NULL, &resolved);
+    if (!err) err = attrs_read(mount, &resolved, inode->is_directory, &read, NULL);
     if (!err) attrs_remember(mount, inode, &read);
     return err;
 }
@@ -246,7 +246,7 @@ static int make_folder(struct txn *txn, const char *path) {
     struct node_stat node_stat;
     int err = make_folder_once(txn, path);
     if (err != EEXIST) return err;
-    err = backend_stat(backend, (struct path_ref){0, path}, &node_stat);
+    err = backend_stat(backend, (struct path_ref){NULL, path}, &node_stat);
     return err || node_stat.is_directory ? err : make_folder_instead(txn, path);
 }
 
@@ -317,7 +317,7 @@ typedef int putting(struct txn *txn, const struct record_path *record_path, cons
 static int print_and_put(struct txn *txn, const char *path, const struct attrs *attrs, const struct bytes *extended,
                          putting *put) {
     struct record_path record_path;
-    struct bytes text = {0};
+    struct bytes text = {NULL};
     int err = find_record(txn->mount, path, &record_path);
     if (!err) err = print(attrs, extended, &text);
     if (!err) err = put(txn, &record_path, &text);
@@ -336,7 +336,7 @@ static bool note_record(const struct txn *txn, struct attrs *attrs, const struct
 int attrs_write(struct txn *txn, const char *path, struct attrs *attrs, const struct bytes *extended) {
     bool stood = attrs->has_record;
     if (note_record(txn, attrs, extended)) return print_and_put(txn, path, attrs, extended, put_text);
-    return stood ? attrs_drop_one(txn, path, 0) : 0;
+    return stood ? attrs_drop_one(txn, path, NULL) : 0;
 }
 
 int attrs_create(struct txn *txn, struct inode *parent, const char *path, struct attrs *attrs,
@@ -347,8 +347,8 @@ int attrs_create(struct txn *txn, struct inode *parent, const char *path, struct
 
 int attrs_rewrite(struct txn *txn, struct inode *inode, struct attrs *attrs) {
     struct resolved_path resolved;
-    struct bytes extended = {0};
-    int err = inode_path(inode, 0, &resolved);
+    struct bytes extended = {NULL};
+    int err = inode_path(inode, NULL, &resolved);
     if (err) return err == ENOENT ? 0 : err; // A folder that is gone.
     if (attrs->has_extended) err = attrs_read_extended(txn, resolved.path, &extended);
     if (!err) err = attrs_write(txn, resolved.path, attrs, &extended);
@@ -363,24 +363,24 @@ int attrs_drop(struct txn *txn, struct inode *parent, const char *path) {
     if (no_records_below(txn->mount, parent)) return 0;
     int err = form_path(doorvervain_attr_dir, path, folder);
     if (err) return err == ENAMETOOLONG ? 0 : err;
-    err = backend_stat(backend, (struct path_ref){0, folder}, &node_stat);
+    err = backend_stat(backend, (struct path_ref){NULL, folder}, &node_stat);
     return err == ENOENT ? 0 : txn_remove(txn, folder);
 }
 
 // The text of the record of attributes, where they are all that it has.
 static bool knows_text(const struct txn *txn, const struct attrs *known, struct bytes *out) {
     if (!known || known->has_extended || !txn->mount->trusts_attributes) return false;
-    if (!print(known, 0, out)) return true;
+    if (!print(known, NULL, out)) return true;
     bytes_free(out);
     return false;
 }
 
 int attrs_erase(struct txn *txn, struct inode *parent, const char *path, const struct attrs *known) {
     struct record_path record_path;
-    struct bytes text = {0};
+    struct bytes text = {NULL};
     bool is_known = knows_text(txn, known, &text);
     int err = find_record(txn->mount, path, &record_path);
-    if (!err) err = txn_remove_record(txn, record_path.folder, record_path.file, is_known ? &text : 0);
+    if (!err) err = txn_remove_record(txn, record_path.folder, record_path.file, is_known ? &text : NULL);
     bytes_free(&text);
     return err && err != ENOMEM ? attrs_drop(txn, parent, path) : err;
 }
@@ -390,7 +390,7 @@ static int move_folder(struct txn *txn, const char *from, const char *to) {
     char above[LONGEST_PATH + 1];
     int moved = txn_rename(txn, from, to, txn->at, txn->at);
     if (moved != ENOENT && moved != ENOTDIR) return moved;
-    strcpy(above, to);
+    text_copy(above, sizeof above, to);
     *strrchr(above, '/') = 0;
     int err = make_folders(txn, above);
     return err ? err : txn_rename(txn, from, to, txn->at, txn->at);
@@ -404,7 +404,7 @@ int attrs_move(struct txn *txn, struct inode *parent, const char *from, struct i
     if (err || no_records_below(txn->mount, parent)) return err;
     err = form_path(doorvervain_attr_dir, from, old_folder);
     if (err) return err == ENAMETOOLONG ? 0 : err;
-    err = backend_stat(backend, (struct path_ref){0, old_folder}, &node_stat);
+    err = backend_stat(backend, (struct path_ref){NULL, old_folder}, &node_stat);
     if (err) return err == ENOENT ? 0 : err;
     err = form_path(doorvervain_attr_dir, to, new_folder);
     return err ? err : move_folder(txn, old_folder, new_folder);
@@ -420,10 +420,10 @@ int attrs_move_one(struct txn *txn, const char *from, const char *to) {
 
 int attrs_drop_one(struct txn *txn, const char *path, const struct attrs *known) {
     struct record_path record_path;
-    struct bytes text = {0};
+    struct bytes text = {NULL};
     bool is_known = knows_text(txn, known, &text);
     int err = find_record(txn->mount, path, &record_path);
-    if (!err) err = txn_unlink(txn, record_path.file, is_known ? &text : 0);
+    if (!err) err = txn_unlink(txn, record_path.file, is_known ? &text : NULL);
     bytes_free(&text);
     return err;
 }

@@ -56,5 +56,5 @@ void bytes_fit(struct bytes *bytes) {
 
 void bytes_free(struct bytes *bytes) {
     mem_free(bytes->at);
-    *bytes = (struct bytes){0};
+    *bytes = (struct bytes){NULL};
 }

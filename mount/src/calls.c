@@ -31,7 +31,7 @@ static int take_away(int i) { return backend.ops->change(backend.self, CALL_UNLI
 
 static int look(int i) {
     struct node_stat node_stat;
-    return backend_stat(&backend, (struct path_ref){0, file(i * 7919 % MANY)}, &node_stat);
+    return backend_stat(&backend, (struct path_ref){NULL, file(i * 7919 % MANY)}, &node_stat);
 }
 
 static int write_small(int i) {
@@ -41,7 +41,7 @@ static int write_small(int i) {
 
 static int read_small(int i) {
     size_t got;
-    return backend_read(&backend, (struct path_ref){0, file(i * 7919 % MANY)}, 0, into, SMALL, &got) || got != SMALL;
+    return backend_read(&backend, (struct path_ref){NULL, file(i * 7919 % MANY)}, 0, into, SMALL, &got) || got != SMALL;
 }
 
 static int write_large(int i) {
@@ -51,7 +51,7 @@ static int write_large(int i) {
 
 static int read_large(int i) {
     size_t got;
-    return backend_read(&backend, (struct path_ref){0, "/large"}, (uint64_t)i * LARGE, into, LARGE, &got) ||
+    return backend_read(&backend, (struct path_ref){NULL, "/large"}, (uint64_t)i * LARGE, into, LARGE, &got) ||
            got != LARGE;
 }
 
@@ -80,5 +80,5 @@ int main(void) {
     time_calls("write 1 MiB", write_large, FEW);
     time_calls("read 1 MiB", read_large, FEW);
     time_calls("unlink", take_away, MANY);
-    return backend.ops->close(backend.self, 0) != 0;
+    return backend.ops->close(backend.self, NULL) != 0;
 }

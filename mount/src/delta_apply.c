@@ -56,7 +56,7 @@ static int by_entry_path(const void *a, const void *b, void *patch) {
 static struct delta_entry **sort_entries(struct delta *delta, const struct bytes *list) {
     size_t count = count_entries(list);
     struct delta_entry **out = mem_alloc((count + 1) * sizeof *out);
-    if (!out) return 0;
+    if (!out) return NULL;
     for (size_t i = 0; i < count; i++) out[i] = &entries(list)[i];
     qsort_r(out, count, sizeof *out, by_entry_path, delta);
     return out;
@@ -73,7 +73,7 @@ static void pair(struct delta_applier *applier) {
     while (i < count_entries(&delta->removed) && k < count_entries(&delta->added)) {
         struct delta_entry *old = applier->removed[i], *new = applier->added[k];
         int order = strcmp(path_at(delta, old->path), path_at(delta, new->path));
-        if (!order) old->is_kept = new->is_kept = old->is_directory == new->is_directory && may_stay(delta, new);
+        if (!order) old->is_kept = new->is_kept = old->is_directory == new->is_directory &&may_stay(delta, new);
         i += order <= 0;
         k += order >= 0;
     }
@@ -109,7 +109,7 @@ static const struct delta_entry *find_added(const struct delta_applier *applier,
         if (order < 0) from = middle + 1;
         else to = middle;
     }
-    return 0;
+    return NULL;
 }
 
 static int note_dir_mtime(struct delta_applier *applier, size_t path, uint64_t mtime_ns) {
@@ -141,7 +141,7 @@ static int note_parent(struct delta_applier *applier, const struct delta_entry *
     memcpy(path, path_at(delta, entry->path), length);
     path[length] = 0;
     const struct delta_entry *added = find_added(applier, path);
-    int err = added ? 0 : backend_stat(backend, (struct path_ref){0, path}, &node_stat);
+    int err = added ? 0 : backend_stat(backend, (struct path_ref){NULL, path}, &node_stat);
     if (err) return err == ENOENT || err == ENOTDIR ? 0 : err;
     err = bytes_append(&delta->paths, path, length + 1);
     return err ? err : note_dir_mtime(applier, at, added ? added->mtime_ns : node_stat.mtime_ns);
@@ -171,7 +171,7 @@ static int set_mtime(struct delta_applier *applier, const char *folder, uint64_t
     int err = EEXIST;
     size_t length = strcmp(folder, "/") ? strlen(folder) : 0;
     memcpy(path, folder, length);
-    strcpy(path + length, "/?");
+    text_copy(path + length, sizeof path - length, "/?");
     for (int byte = 1; byte < 256 && (err == EEXIST || err == EINVAL); byte++) {
         path[length + 1] = (char)byte;
         err = byte == '/' || byte == '.' ? EEXIST : change(applier, CALL_CREATE, path, mtime_ns);
@@ -183,7 +183,7 @@ static int set_dir_mtime(struct delta_applier *applier, const struct dir_mtime *
     const struct backend *backend = applier->backend;
     const char *path = path_at(applier->delta, dir->path);
     struct node_stat node_stat;
-    int err = backend_stat(backend, (struct path_ref){0, path}, &node_stat);
+    int err = backend_stat(backend, (struct path_ref){NULL, path}, &node_stat);
     if (err) return err == ENOENT || err == ENOTDIR ? 0 : err;
     if (!node_stat.is_directory || node_stat.mtime_ns == dir->mtime_ns) return 0;
     return set_mtime(applier, path, dir->mtime_ns);
@@ -210,7 +210,7 @@ struct block_range {
 static struct block_range blocks_of(const struct delta_applier *applier, const char *path) {
     const struct block *blocks = (const struct block *)applier->delta->blocks.at;
     size_t count = applier->delta->blocks.length / sizeof *blocks, from = 0, to = count;
-    if (!count) return (struct block_range){0};
+    if (!count) return (struct block_range){NULL};
     while (from < to) {
         size_t middle = from + (to - from) / 2;
         if (strcmp(path_at(applier->delta, blocks[middle].path), path) < 0) from = middle + 1;

@@ -5,6 +5,7 @@
 #include "delta_client.h"
 #include "diff_cmd.h"
 #include "delta_ioctl.h"
+#include "text.h"
 #include <errno.h>
 #include <fcntl.h>
 #include <inttypes.h>
@@ -60,8 +61,8 @@ static int write_text(int root, const char *mount_point) {
 static int send_from(int root, const char *mount_point, const char *from, const char *to) {
     struct send_request wanted = {{0}, {0}};
     if (try_name(root, from) || (to && try_name(root, to))) return 1;
-    strcpy(wanted.from, from);
-    strcpy(wanted.to, to ? to : "");
+    text_copy(wanted.from, sizeof wanted.from, from);
+    text_copy(wanted.to, sizeof wanted.to, to ? to : "");
     if (ioctl(root, SEND_REQUEST, &wanted)) return report_error("cannot send from ", mount_point, errno);
     return write_text(root, mount_point);
 }

@@ -62,7 +62,7 @@ static bool next_number(struct line *rest, uint64_t *out) {
 
 // A path without the byte 0, which no path of the mount has.
 static bool read_path(struct line word, char out[LONGEST_PATH + 1]) {
-    struct bytes path = {0};
+    struct bytes path = {NULL};
     bool is = !text_unescape(&path, word.at, word.length) && path.length && path.length <= LONGEST_PATH &&
               !memchr(path.at, 0, path.length) && path.at[0] == '/';
     if (is) memcpy(out, path.at, path.length);
@@ -137,7 +137,7 @@ static int note_block(struct delta_parser *parser, struct side *side, struct lin
     }
     int err = note_kept(parser, side);
     block.path = side->entry.path;
-    block.digits = comes ? rest.at : 0;
+    block.digits = comes ? rest.at : NULL;
     block.count = rest.length;
     if (!err && comes && copies) err = copy_digits(delta, &block);
     return err ? err : bytes_append(&delta->blocks, &block, sizeof block);
@@ -269,7 +269,7 @@ static int begin_sums(struct delta_parser *parser) {
 int delta_parse(struct delta *out, struct doorvervain *tree, const struct bytes *text) {
     char old_sum[SHA256_DIGITS + 1] = "";
     struct delta_parser *parser = mem_calloc(1, sizeof *parser);
-    *out = (struct delta){0};
+    *out = (struct delta){NULL};
     if (!parser) return ENOMEM;
     *parser = (struct delta_parser){.delta = out, .at = text->at + HEADING + SHA256_DIGITS + 1};
     int err = begin_sums(parser);

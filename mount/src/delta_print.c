@@ -73,7 +73,7 @@ static int step(const struct delta_io *io, struct walk *walk) {
     size_t size = 1;
     int err = 0;
     if (walk->line) walk->from += walk->length + 1;
-    walk->line = 0;
+    walk->line = NULL;
     while (!(end = memchr(walk->bytes + walk->from, '\n', walk->to - walk->from)) && size && !err)
         err = read_more(io, walk, &size);
     if (!end || err) return !err && walk->from < walk->to ? EINVAL : err;

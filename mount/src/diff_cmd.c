@@ -95,7 +95,7 @@ static int extended_of(int file, struct bytes *out) {
 }
 
 static int compare_extended(struct pair files, bool *same) {
-    struct bytes old = {0}, new = {0};
+    struct bytes old = {NULL}, new = {NULL};
     int err = extended_of(files.old, &old);
     if (!err) err = extended_of(files.new, &new);
     if (!err) *same = old.length == new.length && (!old.length || !memcmp(old.at, new.at, old.length));
@@ -128,7 +128,7 @@ static int compare(struct pair in, const char *name, const struct stat *old, con
     *same = same_marks(old, new) && old->st_rdev == new->st_rdev;
     if (!*same || (same_time(old->st_ctim, new->st_ctim) && same_time(old->st_mtim, new->st_mtim))) return 0;
     if (S_ISLNK(old->st_mode)) return compare_targets(in, name, same);
-    if (S_ISREG(old->st_mode)) *same = old->st_size == new->st_size && same_time(old->st_mtim, new->st_mtim);
+    if (S_ISREG(old->st_mode)) *same = old->st_size == new->st_size &&same_time(old->st_mtim, new->st_mtim);
     if (!*same || !(S_ISREG(old->st_mode) || S_ISDIR(old->st_mode))) return 0;
     return compare_inside(in, name, old, same);
 }
@@ -138,7 +138,7 @@ static int compare(struct pair in, const char *name, const struct stat *old, con
 // A folder that came or went is one line, with a slash behind its name, for all that is below it.
 static int print_line(char sign, const struct bytes *path, mode_t mode) {
     bool is_whole = sign != 'M' && S_ISDIR(mode);
-    struct bytes text = {0};
+    struct bytes text = {NULL};
     int err = text_escape(&text, path->at);
     if (!err && printf("%c %.*s%s\n", sign, (int)text.length, text.at, is_whole ? "/" : "") < 0) err = EIO;
     bytes_free(&text);
@@ -169,7 +169,7 @@ static int print_name(struct pair in, const char *name, bool had, bool has, stru
     struct stat old, new;
     if (had && fstatat(in.old, name, &old, AT_SYMLINK_NOFOLLOW)) return errno;
     if (has && fstatat(in.new, name, &new, AT_SYMLINK_NOFOLLOW)) return errno;
-    if (had && has && (old.st_mode & S_IFMT) == (new.st_mode & S_IFMT)) return print_kept(in, name, &old, &new, path);
+    if (had && has && (old.st_mode & S_IFMT) == (new.st_mode &S_IFMT)) return print_kept(in, name, &old, &new, path);
     int err = had ? print_line('-', path, old.st_mode) : 0;
     return err || !has ? err : print_line('+', path, new.st_mode);
 }
@@ -200,7 +200,7 @@ static int walk_names(struct pair in, const struct names *old, const struct name
 }
 
 static int walk(struct pair in, struct bytes *path) {
-    struct names old = {0}, new = {0};
+    struct names old = {NULL}, new = {NULL};
     int err = names_read(in.old, &old);
     if (!err) err = names_read(in.new, &new);
     if (!err) err = walk_names(in, &old, &new, path);
@@ -223,12 +223,12 @@ int open_tree(int root, const char *name) {
         errno = EINVAL;
         return -1;
     }
-    sprintf(path, "%s/%s", SNAPSHOTS, name);
+    snprintf(path, sizeof path, "%s/%s", SNAPSHOTS, name);
     return openat(root, path, O_RDONLY | O_DIRECTORY | O_CLOEXEC);
 }
 
 static int print_between(struct pair trees) {
-    struct bytes path = {0};
+    struct bytes path = {NULL};
     int err = walk_below(trees, ".", &path);
     bytes_free(&path);
     if (!err && fflush(stdout)) err = errno;

@@ -36,7 +36,7 @@ static int list(struct walk *walk, const char *path) {
     while (number == DOORVERVAIN_ERANGE) {
         if (bytes_reserve(names, size)) return ENOMEM;
         requests_lock();
-        number = doorvervain_frozen_readdir(&walk->tree, (const uint8_t *)of, strlen(of), (uint8_t *)names->at,
+        number = doorvervain_frozen_readdir(&walk->tree, of, strlen(of), names->at,
                                             names->capacity, &size);
         requests_unlock();
     }

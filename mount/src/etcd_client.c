@@ -40,10 +40,11 @@ static int may_speak(const struct etcd_options *options, const char *url) {
 }
 
 static int add_member(struct members *members, const char *name) {
-    char *url = malloc(strlen(name) + sizeof "https://");
+    size_t size = strlen(name) + sizeof "https://";
+    char *url = malloc(size);
     if (!url) return ENOMEM;
     bool is_whole = begins(name, "http://") || begins(name, "https://");
-    sprintf(url, "%s%s", is_whole ? "" : members->options->cacert ? "https://" : "http://", name);
+    snprintf(url, size, "%s%s", is_whole ? "" : members->options->cacert ? "https://" : "http://", name);
     members->urls[members->count++] = url;
     return may_speak(members->options, url);
 }
@@ -67,7 +68,7 @@ void members_free(struct members *members) {
 
 json_t *etcd_encode(const void *bytes, size_t length) {
     char *text = malloc(length / 3 * 4 + 8);
-    if (!text) return 0;
+    if (!text) return NULL;
     EVP_EncodeBlock((unsigned char *)text, bytes, (int)length);
     json_t *coded = json_string(text);
     free(text);
@@ -88,12 +89,12 @@ int etcd_decode(const char *text, struct bytes *out) {
 
 uint64_t etcd_number(const json_t *from, const char *key) {
     const char *text = json_string_value(json_object_get(from, key));
-    return text ? strtoull(text, 0, 10) : 0;
+    return text ? strtoull(text, NULL, 10) : 0;
 }
 
 // ---- a question
 
-void etcd_pause(void) { nanosleep(&(struct timespec){.tv_nsec = NANOSECONDS_BETWEEN}, 0); }
+void etcd_pause(void) { nanosleep(&(struct timespec){.tv_nsec = NANOSECONDS_BETWEEN}, NULL); }
 
 int etcd_open(struct etcd_client *etcd, const struct members *members, size_t first) {
     *etcd = (struct etcd_client){.members = members, .member = first % members->count, .curl = curl_easy_init()};
@@ -102,7 +103,7 @@ int etcd_open(struct etcd_client *etcd, const struct members *members, size_t fi
 
 static void drop_token(struct etcd_client *etcd) {
     free(etcd->token);
-    etcd->token = 0;
+    etcd->token = NULL;
 }
 
 void etcd_close(struct etcd_client *etcd) {
@@ -110,7 +111,7 @@ void etcd_close(struct etcd_client *etcd) {
     curl_slist_free_all(etcd->headers);
     bytes_free(&etcd->response);
     if (etcd->curl) curl_easy_cleanup(etcd->curl);
-    etcd->curl = 0;
+    etcd->curl = NULL;
 }
 
 static size_t append_response(char *bytes, size_t size, size_t count, void *context) {
@@ -120,7 +121,7 @@ static size_t append_response(char *bytes, size_t size, size_t count, void *cont
 static void set_headers(struct etcd_client *etcd) {
     char head[LARGEST_PASSWORD];
     curl_slist_free_all(etcd->headers);
-    etcd->headers = curl_slist_append(0, "Content-Type: application/json");
+    etcd->headers = curl_slist_append(NULL, "Content-Type: application/json");
     etcd->headers = curl_slist_append(etcd->headers, "Expect:");
     if (!etcd->token) return;
     snprintf(head, sizeof head, "Authorization: %s", etcd->token);
@@ -180,7 +181,7 @@ void etcd_print_errors(const struct etcd_client *etcd) {
 }
 
 static json_t *ask_once(struct etcd_client *etcd, const char *path, const char *text) {
-    json_t *answer = 0;
+    json_t *answer = NULL;
     long status = 0;
     set_question(etcd, path, text);
     etcd->response.length = 0;
@@ -189,7 +190,7 @@ static json_t *ask_once(struct etcd_client *etcd, const char *path, const char *
     curl_easy_setopt(etcd->curl, CURLOPT_TIMEOUT, (long)SECONDS_OF_A_QUESTION);
     CURLcode code = curl_easy_perform(etcd->curl);
     curl_easy_getinfo(etcd->curl, CURLINFO_RESPONSE_CODE, &status);
-    if (code == CURLE_OK && status == 200) answer = json_loadb(etcd->response.at, etcd->response.length, 0, 0);
+    if (code == CURLE_OK && status == 200) answer = json_loadb(etcd->response.at, etcd->response.length, 0, NULL);
     if (!answer) note_outcome(etcd, code);
     return answer;
 }
@@ -214,9 +215,9 @@ static int find_token(struct etcd_client *etcd) {
     }
     json_t *question = json_pack("{s:s, s:s}", "name", options->user, "password", password);
     char *text = json_dumps(question, JSON_COMPACT);
-    json_t *answer = text ? ask_once(etcd, "/v3/auth/authenticate", text) : 0;
+    json_t *answer = text ? ask_once(etcd, "/v3/auth/authenticate", text) : NULL;
     const char *token = json_string_value(json_object_get(answer, "token"));
-    etcd->token = token ? strdup(token) : 0;
+    etcd->token = token ? strdup(token) : NULL;
     explicit_bzero(password, sizeof password);
     if (text) explicit_bzero(text, strlen(text));
     free(text);
@@ -226,8 +227,8 @@ static int find_token(struct etcd_client *etcd) {
 }
 
 json_t *etcd_ask(struct etcd_client *etcd, const char *path, json_t *question) {
-    char *text = question ? json_dumps(question, JSON_COMPACT) : 0;
-    json_t *answer = text && !find_token(etcd) ? ask_once(etcd, path, text) : 0;
+    char *text = question ? json_dumps(question, JSON_COMPACT) : NULL;
+    json_t *answer = text && !find_token(etcd) ? ask_once(etcd, path, text) : NULL;
     free(text);
     json_decref(question);
     if (!answer) next_member(etcd);
@@ -237,7 +238,7 @@ json_t *etcd_ask(struct etcd_client *etcd, const char *path, json_t *question) {
 void etcd_watch(struct etcd_client *etcd, const char *path, json_t *question,
                 size_t (*put)(char *bytes, size_t size, size_t count, void *context),
                 int (*ends)(void *context, curl_off_t, curl_off_t, curl_off_t, curl_off_t), void *context) {
-    char *text = question ? json_dumps(question, JSON_COMPACT) : 0;
+    char *text = question ? json_dumps(question, JSON_COMPACT) : NULL;
     json_decref(question);
     if (text && !find_token(etcd)) {
         set_question(etcd, path, text);

@@ -45,8 +45,9 @@ struct etcd_log {
 };
 
 static char *name_key(const struct etcd_options *options, const char *name) {
-    char *key = malloc(strlen(options->prefix) + strlen(name) + 2);
-    if (key) sprintf(key, "%s/%s", options->prefix, name);
+    size_t size = strlen(options->prefix) + strlen(name) + 2;
+    char *key = malloc(size);
+    if (key) snprintf(key, size, "%s/%s", options->prefix, name);
     return key;
 }
 
@@ -84,16 +85,16 @@ static uint64_t next_wish(struct etcd_log *log, uint64_t done, uint64_t *version
 
 static void *serve_puts(void *self) {
     struct etcd_log *log = self;
-    struct bytes value = {0};
+    struct bytes value = {NULL};
     uint64_t done = 0, version, wish;
     while ((wish = next_wish(log, done, &version, &value)) || !log->ends) {
-        json_t *answer = wish ? etcd_ask(&log->puts, "/v3/kv/txn", question_of_put(log, version, &value)) : 0;
+        json_t *answer = wish ? etcd_ask(&log->puts, "/v3/kv/txn", question_of_put(log, version, &value)) : NULL;
         if (answer) done = wish;
         else etcd_pause();
         json_decref(answer);
     }
     bytes_free(&value);
-    return 0;
+    return NULL;
 }
 
 int etcd_log_put(struct etcd_log *log, uint64_t version, const struct bytes *value) {
@@ -152,7 +153,7 @@ static int read_pair(struct etcd_log *log, const json_t *pair) {
 // One line of the watch. A log that was cut, or whose key was taken away, is none that can be followed.
 static int read_line(struct etcd_log *log, const char *line, size_t length) {
     size_t index;
-    json_t *reply = json_loadb(line, length, 0, 0), *event, *result = json_object_get(reply, "result");
+    json_t *reply = json_loadb(line, length, 0, NULL), *event, *result = json_object_get(reply, "result");
     int err = !reply ? EBADMSG : json_object_get(result, "compact_revision") ? ESTALE : 0;
     json_array_foreach(json_object_get(result, "events"), index, event) {
         if (!err && json_object_get(event, "type")) err = ESTALE;
@@ -212,7 +213,7 @@ static void *watch(void *self) {
                    take_bytes, ends, log);
         if (!log->ends) etcd_pause();
     }
-    return 0;
+    return NULL;
 }
 
 // All that was seen was taken, and the thread that watches waits.
@@ -234,7 +235,7 @@ bool etcd_log_next(struct etcd_log *log, struct value *out, int *err) {
     *err = received ? 0 : log->err;
     if (received) {
         log->first = received->next;
-        if (!log->first) log->last = 0;
+        if (!log->first) log->last = NULL;
         log->waiting_bytes -= received->value.bytes.length;
         pthread_cond_signal(&log->has_space);
     } else if (eventfd_read(log->event, &count)) errno = 0;
@@ -255,7 +256,7 @@ static uint64_t seconds(void) {
 
 // Asks one member after the other, each at least once; the question stays the caller's.
 static json_t *ask_all(struct etcd_log *log, const char *path, json_t *question) {
-    json_t *answer = 0;
+    json_t *answer = NULL;
     for (size_t asked = 0; !answer && (asked < log->members.count || seconds() < log->until); asked++) {
         answer = etcd_ask(&log->puts, path, json_incref(question));
         if (!answer) etcd_pause();
@@ -263,7 +264,7 @@ static json_t *ask_all(struct etcd_log *log, const char *path, json_t *question)
     if (answer) return answer;
     fprintf(stderr, "doorvervain-mount: --replica: no member answers %s\n", path);
     etcd_print_errors(&log->puts);
-    return 0;
+    return NULL;
 }
 
 // The number of a mount is how many there were: a key's version, which is put and read at one moment.
@@ -271,8 +272,8 @@ static int ask_number(struct etcd_log *log, uint64_t *out) {
     char *key = name_key(log->members.options, "mounts");
     json_t *question = key ? json_pack("{s:[{s:{s:o, s:s}}, {s:{s:o}}]}", "success", "request_put", "key",
                                        etcd_key(key), "value", "", "request_range", "key", etcd_key(key))
-                           : 0;
-    json_t *answer = question ? ask_all(log, "/v3/kv/txn", question) : 0;
+                           : NULL;
+    json_t *answer = question ? ask_all(log, "/v3/kv/txn", question) : NULL;
     json_t *range = json_object_get(json_array_get(json_object_get(answer, "responses"), 1), "response_range");
     *out = etcd_number(json_array_get(json_object_get(range, "kvs"), 0), "version");
     json_decref(answer);
@@ -290,7 +291,7 @@ static int name_mark(struct etcd_log *log, uint64_t number) {
 
 static int ask_newest(struct etcd_log *log, uint64_t *newest) {
     json_t *question = json_pack("{s:o}", "key", etcd_key(log->key));
-    json_t *answer = question ? ask_all(log, "/v3/kv/range", question) : 0;
+    json_t *answer = question ? ask_all(log, "/v3/kv/range", question) : NULL;
     json_t *pair = json_array_get(json_object_get(answer, "kvs"), 0);
     *newest = etcd_number(pair, "version");
     log->revision =
@@ -302,8 +303,8 @@ static int ask_newest(struct etcd_log *log, uint64_t *newest) {
 }
 
 static int begin_threads(struct etcd_log *log) {
-    int err = pthread_create(&log->putter, 0, serve_puts, log);
-    if (!err) err = pthread_create(&log->watcher, 0, watch, log);
+    int err = pthread_create(&log->putter, NULL, serve_puts, log);
+    if (!err) err = pthread_create(&log->watcher, NULL, watch, log);
     return err;
 }
 
@@ -324,7 +325,7 @@ const struct members *etcd_log_members(const struct etcd_log *log) { return &log
 
 static int open_all(struct etcd_log *log, const struct etcd_options *options, struct log_start *start) {
     int err = members_read(options, &log->members);
-    log->key = err ? 0 : name_key(options, "log");
+    log->key = err ? NULL : name_key(options, "log");
     if (!err && !log->key) err = ENOMEM;
     if (!err) err = etcd_open(&log->puts, &log->members, (size_t)getpid());
     if (!err) err = etcd_open(&log->watches, &log->members, (size_t)getpid());
@@ -341,14 +342,14 @@ int etcd_log_open(const struct etcd_options *options, struct etcd_log **out, str
     if (!log) return ENOMEM;
     json_set_alloc_funcs(malloc, free);
     curl_global_init(CURL_GLOBAL_DEFAULT);
-    pthread_mutex_init(&log->lock, 0);
-    pthread_cond_init(&log->wakes, 0);
-    pthread_cond_init(&log->has_space, 0);
-    pthread_cond_init(&log->goes_on, 0);
+    pthread_mutex_init(&log->lock, NULL);
+    pthread_cond_init(&log->wakes, NULL);
+    pthread_cond_init(&log->has_space, NULL);
+    pthread_cond_init(&log->goes_on, NULL);
     log->event = eventfd(0, EFD_CLOEXEC | EFD_NONBLOCK);
     int err = log->event < 0 ? errno : open_all(log, options, start);
     if (err) etcd_log_close(log);
-    *out = err ? 0 : log;
+    *out = err ? NULL : log;
     return err;
 }
 
@@ -359,8 +360,8 @@ static void end_threads(struct etcd_log *log) {
     pthread_cond_broadcast(&log->has_space);
     pthread_cond_broadcast(&log->goes_on);
     pthread_mutex_unlock(&log->lock);
-    if (log->putter) pthread_join(log->putter, 0);
-    if (log->watcher) pthread_join(log->watcher, 0);
+    if (log->putter) pthread_join(log->putter, NULL);
+    if (log->watcher) pthread_join(log->watcher, NULL);
     log->putter = log->watcher = 0;
 }
 

@@ -74,7 +74,7 @@ static int take_away(const char *mount_point) {
     pid_t child = fork();
     if (child < 0) return report("no process", "", errno);
     if (child == 0) {
-        execlp("fusermount3", "fusermount3", "-u", "--", mount_point, (char *)0);
+        execlp("fusermount3", "fusermount3", "-u", "--", mount_point, (char *)NULL);
         _exit(127);
     }
     waitpid(child, &status, 0);
@@ -92,7 +92,7 @@ static void wait_for_end(int fd) {
 
 // Reads what a mount says until its process has ended. The last byte is its status.
 static int read_end(int fd) {
-    struct bytes text = {0};
+    struct bytes text = {NULL};
     int err = bytes_read_all(&text, fd);
     char last = text.length ? text.at[--text.length] : 0;
     fwrite(text.at, 1, text.length, stderr);

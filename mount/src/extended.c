@@ -67,7 +67,7 @@ static int read_all(struct mount *mount, struct inode *inode, struct bytes *out)
     int err = attrs_of(mount, inode, &attrs);
     if (!err) err = bytes_reserve(out, 1);
     if (err || !attrs->has_extended) return err;
-    err = inode_path(inode, 0, &resolved);
+    err = inode_path(inode, NULL, &resolved);
     return err ? err : attrs_read(mount, &resolved, inode->is_directory, &read, out);
 }
 
@@ -81,7 +81,7 @@ static bool is_refused(const char *name) {
 
 int extended_get(struct mount *mount, struct inode *inode, const char *name, struct bytes *out) {
     assert(request_lock_is_held(mount));
-    struct bytes all = {0};
+    struct bytes all = {NULL};
     struct packed one;
     int err = is_refused(name) ? EOPNOTSUPP : read_all(mount, inode, &all);
     if (!err && !find(&all, name, &one)) err = ENODATA;
@@ -92,7 +92,7 @@ int extended_get(struct mount *mount, struct inode *inode, const char *name, str
 
 int extended_list(struct mount *mount, struct inode *inode, bool is_root, struct bytes *out) {
     assert(request_lock_is_held(mount));
-    struct bytes all = {0};
+    struct bytes all = {NULL};
     int err = read_all(mount, inode, &all);
     for (struct packed one = {0}; !err && one.end < all.length;) {
         one = read_at(&all, one.end);
@@ -107,7 +107,7 @@ static int write_all(struct mount *mount, struct inode *inode, const struct byte
     struct txn txn;
     struct attrs attrs = inode->attrs;
     struct resolved_path resolved;
-    int err = inode_path(inode, 0, &resolved);
+    int err = inode_path(inode, NULL, &resolved);
     if (err) return err;
     txn_begin(&txn, mount, at);
     err = txn_end(&txn, attrs_write(&txn, resolved.path, &attrs, all));
@@ -120,7 +120,7 @@ static int write_all(struct mount *mount, struct inode *inode, const struct byte
 // A null value takes the attribute away.
 static int change(const struct request *request, struct inode *inode, const char *name, const char *value,
                   size_t length, int flags) {
-    struct bytes all = {0}, changed = {0};
+    struct bytes all = {NULL}, changed = {NULL};
     struct packed one;
     int err = read_all(request->mount, inode, &all);
     bool stands = !err && find(&all, name, &one);
@@ -153,5 +153,5 @@ int extended_set(struct request *request, struct inode *inode, const char *name,
 int extended_remove(const struct request *request, struct inode *inode, const char *name) {
     assert(request_lock_is_held(request->mount));
     int err = may_change(inode, name);
-    return err ? err : change(request, inode, name, 0, 0, XATTR_REPLACE);
+    return err ? err : change(request, inode, name, NULL, 0, XATTR_REPLACE);
 }

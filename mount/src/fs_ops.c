@@ -58,7 +58,7 @@ int fs_node_stat(struct mount *mount, const struct inode *inode, struct node_sta
     bool is_gone_directory = inode->is_directory && !inode->parent && inode->role != LIVE_ROOT;
     *out = (struct node_stat){.is_directory = inode->is_directory};
     if (inode->role == SNAPSHOT_FOLDER || is_gone_directory) return 0;
-    int err = inode_path(inode, 0, &resolved);
+    int err = inode_path(inode, NULL, &resolved);
     return err ? err : stand(mount, &resolved, out);
 }
 
@@ -121,7 +121,7 @@ static struct inode *known_inode(struct inode *parent, const char *name, const s
     struct inode *known = inode_find(parent, name);
     if (!known || !known->attrs_gen || known->attrs.base.kind == base->kind) return known;
     inode_detach(known);
-    return 0;
+    return NULL;
 }
 
 // The entry of what stands under a name, by what its record says.
@@ -205,7 +205,7 @@ static bool is_other(const struct doorvervain_attributes *one, const struct door
 
 static int cut_file(struct mount *mount, struct inode *inode, const struct truncation *truncation) {
     struct resolved_path resolved;
-    int err = inode_path(inode, 0, &resolved);
+    int err = inode_path(inode, NULL, &resolved);
     if (!err)
         err = mount->backend.ops->truncate(mount->backend.self, resolved.path, truncation->length, truncation->at);
     if (!err) holes_cut(mount, inode, truncation->length);
@@ -264,7 +264,7 @@ int fs_setattr(struct request *request, struct inode *inode, const struct setatt
     attrs_untrust(mount, &wanted.base);
     err = set_attributes(request, inode, &truncation, &wanted, is_other(&wanted.base, &before));
     if (err) return err;
-    inode->has_access |= setattr->access != 0;
+    inode->has_access |= setattr->access != NULL;
     if (setattr->access) inode->access = *setattr->access;
     inode->change = ns_to_timespec(request->at);
     return 0;
@@ -315,7 +315,7 @@ int fs_read(const struct request *request, struct inode *inode, uint64_t offset,
     assert(request_lock_is_held(request->mount));
     struct resolved_path resolved;
     *got = 0;
-    int err = inode_path(inode, 0, &resolved);
+    int err = inode_path(inode, NULL, &resolved);
     while (!err && *got < capacity) {
         size_t part = capacity - *got < LARGEST_READ ? capacity - *got : LARGEST_READ, count = 0;
         struct path_ref ref = {resolved.snapshot, resolved.path};
@@ -349,7 +349,7 @@ int fs_write(struct request *request, struct inode *inode, uint64_t offset, cons
     const struct backend *backend = &request->mount->backend;
     struct resolved_path resolved;
     *done = 0;
-    int err = inode_path(inode, 0, &resolved);
+    int err = inode_path(inode, NULL, &resolved);
     if (!err && resolved.snapshot) err = EROFS;
     if (err) return err;
     do {
@@ -391,7 +391,7 @@ int fs_readdir(struct mount *mount, struct inode *inode, struct bytes *out) {
     assert(request_lock_is_held(mount));
     struct resolved_path resolved;
     if (inode->role == SNAPSHOT_FOLDER) return list_snapshots(inode, out);
-    int err = inode_path(inode, 0, &resolved);
+    int err = inode_path(inode, NULL, &resolved);
     if (!err) err = backend_readdir(&mount->backend, (struct path_ref){resolved.snapshot, resolved.path}, out);
     if (!err && (inode->role == LIVE_ROOT || inode->role == SNAPSHOT_ROOT)) {
         leave_out(out, RESERVED);

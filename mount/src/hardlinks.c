@@ -44,7 +44,7 @@ int hardlink_find(struct mount *mount, struct inode *parent, const struct resolv
                   struct node_stat *node_stat, struct lookup_result *out) {
     assert(request_lock_is_held(mount));
     struct node_stat file;
-    struct inode *inode = 0;
+    struct inode *inode = NULL;
     int err = find_file(mount, parent, attrs->base.link, &file, &inode);
     if (!err) {
         *node_stat = file;
@@ -69,21 +69,21 @@ static struct attrs name_of(const struct mount *mount, uint64_t number) {
 
 static int make_name_of(struct txn *txn, struct inode *parent, const char *path, uint64_t number) {
     struct attrs name = name_of(txn->mount, number);
-    return attrs_create(txn, parent, path, &name, 0);
+    return attrs_create(txn, parent, path, &name, NULL);
 }
 
 // What the only name of a file was leads to its place: a record that it had is written over.
 static int lead(struct txn *txn, struct inode *inode, const char *path, uint64_t number) {
     struct attrs name = name_of(txn->mount, number);
-    if (!inode->attrs.has_record) return attrs_create(txn, inode->parent, path, &name, 0);
+    if (!inode->attrs.has_record) return attrs_create(txn, inode->parent, path, &name, NULL);
     name.has_record = true;
-    return attrs_write(txn, path, &name, 0);
+    return attrs_write(txn, path, &name, NULL);
 }
 
 // The file's record, with the extended attributes that it has, in its place.
 static int put_record(struct txn *txn, struct inode *inode, const struct resolved_path *resolved, const char *path,
                       struct attrs *attrs) {
-    struct bytes extended = {0};
+    struct bytes extended = {NULL};
     int err = 0;
     if (inode->attrs.has_extended) err = attrs_read_extended(txn, resolved->path, &extended);
     if (!err) err = attrs_create(txn, inode->parent, path, attrs, &extended);
@@ -115,7 +115,7 @@ static int give_place(struct txn *txn, struct link_args *args) {
     struct private_path path = private_link(args->number);
     struct resolved_path resolved;
     int err = private_make(txn->mount, PRIVATE_LINKS);
-    if (!err) err = inode_path(args->inode, 0, &resolved);
+    if (!err) err = inode_path(args->inode, NULL, &resolved);
     if (!err) err = put_record(txn, args->inode, &resolved, path.text, &args->attrs);
     if (!err) err = place_bytes(txn, args, &resolved, path.text);
     return err ? err : lead(txn, args->inode, resolved.path, args->number);
@@ -146,7 +146,7 @@ static int make_name(struct mount *mount, struct link_args *args, uint64_t at) {
     struct inode *inode = args->inode;
     struct private_path path = private_link(args->number);
     struct inode *folder = inode_private_dir(mount->root, LINKS);
-    char *name = folder ? mem_strdup(private_name(&path)) : 0;
+    char *name = folder ? mem_strdup(private_name(&path)) : NULL;
     if (!name) return ENOMEM;
     args->attrs = inode->attrs;
     args->attrs.base.names++;
@@ -215,7 +215,7 @@ void hardlink_follow(struct mount *mount, struct inode *inode, const struct attr
 static int remove_once(struct txn *txn, struct inode *inode, const char *path, struct attrs *out) {
     const struct backend *backend = &txn->mount->backend;
     int err = hardlink_count_down(txn, inode, out);
-    if (!err) err = attrs_drop(txn, 0, path);
+    if (!err) err = attrs_drop(txn, NULL, path);
     return err ? err : backend->ops->change(backend->self, CALL_UNLINK, path, txn->at);
 }
 
@@ -233,8 +233,8 @@ static int remove_file_once(struct txn *txn, const struct inode *inode, const st
                             const char *path) {
     const struct backend *backend = &txn->mount->backend;
     struct attrs name = name_of(txn->mount, inode->link);
-    struct bytes none = {0};
-    int err = attrs_erase(txn, 0, path, &name);
+    struct bytes none = {NULL};
+    int err = attrs_erase(txn, NULL, path, &name);
     if (!err) err = txn_unlink(txn, path, &none);
     if (!err) err = attrs_drop_one(txn, file->path, &inode->attrs);
     return err ? err : backend->ops->change(backend->self, CALL_UNLINK, file->path, txn->at);
@@ -243,7 +243,7 @@ static int remove_file_once(struct txn *txn, const struct inode *inode, const st
 static int remove_file(struct mount *mount, struct inode *inode, const char *path, uint64_t at) {
     struct txn txn;
     struct resolved_path file;
-    int err = inode_path(inode, 0, &file);
+    int err = inode_path(inode, NULL, &file);
     if (err) return err;
     txn_begin(&txn, mount, at);
     err = txn_end(&txn, remove_file_once(&txn, inode, &file, path));

@@ -19,7 +19,9 @@ static struct tried tried(void *at) {
 }
 
 // No bytes are a block of their own too.
-struct tried rattle_alloc(size_t count, size_t alignment) { return tried(mem_alloc(count ? count : alignment)); }
+struct tried rattle_alloc(size_t count, size_t alignment) {
+    return tried(mem_alloc(count ? count : alignment));
+}
 
 struct tried rattle_realloc(void *old, size_t kept, size_t count, size_t alignment) {
     (void)kept;

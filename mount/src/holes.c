@@ -50,7 +50,7 @@ static int next_data(struct mount *mount, const struct resolved_path *resolved, 
 static int count_stored(struct mount *mount, struct inode *inode, uint64_t length, uint64_t *out) {
     struct resolved_path resolved;
     struct extent extent = {0, 0};
-    int err = inode_path(inode, 0, &resolved);
+    int err = inode_path(inode, NULL, &resolved);
     *out = 0;
     for (uint64_t at = 0; !err && at < length; at = extent.to) {
         err = next_data(mount, &resolved, at, &extent);
@@ -79,7 +79,7 @@ int holes_seek(struct mount *mount, struct inode *inode, uint64_t offset, int wh
     struct node_stat node_stat;
     struct extent extent = {0, 0};
     if (whence != SEEK_DATA && whence != SEEK_HOLE) return EINVAL;
-    int err = inode_path(inode, 0, &resolved);
+    int err = inode_path(inode, NULL, &resolved);
     if (!err) err = fs_node_stat(mount, inode, &node_stat);
     if (!err && node_stat.is_directory) return EINVAL;
     if (!err && offset >= node_stat.length) return ENXIO;
@@ -142,7 +142,7 @@ int holes_allocate(struct request *request, struct inode *inode, int mode, uint6
     if (count > UINT64_MAX - offset) return EFBIG;
     struct extent range = {offset, offset + count};
     int err = fs_may_write(inode);
-    if (!err) err = inode_path(inode, 0, &resolved);
+    if (!err) err = inode_path(inode, NULL, &resolved);
     if (err) return err;
     // It gives room back, so that no size of the mount refuses it.
     if (mode & FALLOC_FL_PUNCH_HOLE) return allocate(request, inode, &resolved, mode, range);

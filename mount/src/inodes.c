@@ -76,7 +76,7 @@ static void widen(void) {
 
 static void link_in(struct inode *inode, struct inode *parent) {
     inode->parent = parent;
-    inode->before = 0;
+    inode->before = NULL;
     inode->after = parent->first;
     if (parent->first) parent->first->before = inode;
     parent->first = inode;
@@ -88,14 +88,14 @@ static void link_out(struct inode *inode) {
     if (inode->before) inode->before->after = inode->after;
     else inode->parent->first = inode->after;
     if (inode->after) inode->after->before = inode->before;
-    inode->parent = 0;
+    inode->parent = NULL;
 }
 
 static struct inode *new_inode(char *name, bool is_directory) {
-    struct inode *inode = name ? mem_calloc(1, sizeof *inode) : 0;
+    struct inode *inode = name ? mem_calloc(1, sizeof *inode) : NULL;
     if (!inode) {
         mem_free(name);
-        return 0;
+        return NULL;
     }
     inode->name = name;
     inode->is_directory = is_directory;
@@ -118,12 +118,12 @@ void inodes_renumber(struct inode *root) {
 struct inode *inode_find(const struct inode *parent, const char *name) {
     for (struct inode *inode = slots[slot_of(parent, name)]; inode; inode = inode->same_slot)
         if (inode->parent == parent && !strcmp(inode->name, name)) return inode;
-    return 0;
+    return NULL;
 }
 
 struct inode *inode_add(struct inode *parent, const char *name, bool is_directory) {
     struct inode *inode = new_inode(mem_strdup(name), is_directory);
-    if (!inode) return 0;
+    if (!inode) return NULL;
     if (++entry_count > slot_count) widen();
     link_in(inode, parent);
     return inode;
@@ -138,9 +138,9 @@ struct inode *inodes_start(void) {
     began = now();
     slot_count = 1024;
     slots = mem_calloc(slot_count, sizeof(*slots));
-    struct inode *root = slots ? new_inode(mem_strdup(""), true) : 0;
-    struct inode *snapshots = root ? inode_add(root, SNAPSHOTS, true) : 0;
-    if (!snapshots) return 0;
+    struct inode *root = slots ? new_inode(mem_strdup(""), true) : NULL;
+    struct inode *snapshots = root ? inode_add(root, SNAPSHOTS, true) : NULL;
+    if (!snapshots) return NULL;
     root->role = LIVE_ROOT;
     snapshots->role = SNAPSHOT_FOLDER;
     return root;
@@ -154,13 +154,13 @@ static struct inode *private_dir(struct inode *parent, const char *name) {
 
 struct inode *inode_private_dir(struct inode *inode, const char *name) {
     struct inode *reserved = private_dir((struct inode *)inode_root(inode), RESERVED);
-    return reserved ? private_dir(reserved, name) : 0;
+    return reserved ? private_dir(reserved, name) : NULL;
 }
 
 bool inode_is_held(const struct inode *inode) { return inode->nlookup || inode->open_count; }
 
 static void enter_gone(struct inode *inode) {
-    inode->before = 0;
+    inode->before = NULL;
     inode->after = gone;
     if (gone) gone->before = inode;
     gone = inode;
@@ -245,7 +245,7 @@ int inode_path(const struct inode *inode, const char *name, struct resolved_path
         inode = inode->parent;
     }
     if (err) return err;
-    resolved->snapshot = inode->role == SNAPSHOT_ROOT ? inode->name : 0;
+    resolved->snapshot = inode->role == SNAPSHOT_ROOT ? inode->name : NULL;
     return *resolved->path ? 0 : put_in_front(resolved, "");
 }
 

@@ -54,7 +54,7 @@ struct inode {
     // Times that no volume keeps.
     struct timespec access, change;
     bool has_access;
-    bool is_pinned;      // an unlinked file that could not be removed yet: not freed with its directory
+    bool is_pinned; // an unlinked file that could not be removed yet: not freed with its directory
 };
 
 // The path of an inode. `path` points into `text`.

@@ -7,6 +7,7 @@
 #include "library.h"
 #include "backend.h"
 #include "memlimit.h"
+#include "text.h"
 #include <errno.h>
 #include <fcntl.h>
 #include <inttypes.h>
@@ -44,8 +45,8 @@ static int done(struct library *library, uint8_t number) { return done_many(libr
 
 static int library_change(void *self, enum path_call what, const char *path, uint64_t at) {
     static uint8_t (*const calls[])(struct doorvervain *, const char *, size_t, uint64_t) = {
-        [CALL_MKDIR] = doorvervain_mkdir,   [CALL_CREATE] = doorvervain_create, [CALL_UNLINK] = doorvervain_unlink,
-        [CALL_RMDIR] = doorvervain_rmdir,   [CALL_RMTREE] = doorvervain_rmtree,
+        [CALL_MKDIR] = doorvervain_mkdir, [CALL_CREATE] = doorvervain_create, [CALL_UNLINK] = doorvervain_unlink,
+        [CALL_RMDIR] = doorvervain_rmdir, [CALL_RMTREE] = doorvervain_rmtree,
     };
     struct library *library = self;
     return done(library, calls[what](&library->volume, path, strlen(path), at));
@@ -82,7 +83,7 @@ static int look_into(struct library *library, const char *snapshot) {
     forget_tree(library);
     uint8_t number = doorvervain_open_snapshot(&library->volume, snapshot, strlen(snapshot), &library->tree);
     if (number) return doorvervain_errno(number);
-    strcpy(library->snapshot, snapshot);
+    text_copy(library->snapshot, sizeof library->snapshot, snapshot);
     return 0;
 }
 

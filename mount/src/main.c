@@ -2,6 +2,7 @@
 //
 // Invariant: in the background the parent exits with 0 only after the file system is mounted; else with the status of
 // the child.
+#define _GNU_SOURCE
 #include "diff_cmd.h"
 #include "exit_report.h"
 #include "options.h"
@@ -31,7 +32,7 @@ static int report(const char *what, const char *which, int err) {
 static int ask_to_restore(const char *mount_point, const char *name) {
     struct restore_request wanted = {{0}};
     if (strlen(name) > LONGEST_SNAPSHOT) return report("cannot restore ", name, EINVAL);
-    strcpy(wanted.name, name);
+    snprintf(wanted.name, sizeof wanted.name, "%s", name);
     int root = open(mount_point, O_RDONLY | O_DIRECTORY | O_CLOEXEC);
     if (root < 0) return report("cannot open ", mount_point, errno);
     int err = ioctl(root, RESTORE_REQUEST, &wanted) ? errno : 0;
@@ -43,9 +44,9 @@ static int ask_to_restore(const char *mount_point, const char *name) {
 static const char *full_name(const char *file) {
     char folder[PATH_MAX];
     if (!file || file[0] == '/') return file;
-    char *name = getcwd(folder, sizeof folder) ? malloc(strlen(folder) + strlen(file) + 2) : 0;
-    if (!name) exit(report("no full name of ", file, errno));
-    sprintf(name, "%s/%s", folder, file);
+    char *name = NULL;
+    if (!getcwd(folder, sizeof folder) || asprintf(&name, "%s/%s", folder, file) < 0)
+        exit(report("no full name of ", file, errno));
     return name;
 }
 

@@ -1,8 +1,8 @@
 // Counts the memory that the library and the mount take, and limits it for calls that make the tree grow (--size).
 //
 // Invariant: `taken` is the sum of the usable sizes of all blocks that these functions gave. Only between
-// `memlimit_begin` and `memlimit_suspend` or `memlimit_retry` does the calling thread get no memory beyond the limit less
-// the reserve, so removals and undo always may take more.
+// `memlimit_begin` and `memlimit_suspend` or `memlimit_retry` does the calling thread get no memory beyond the limit
+// less the reserve, so removals and undo always may take more.
 #include "memlimit.h"
 #include <errno.h>
 #include <inttypes.h>
@@ -17,7 +17,8 @@ enum { STEPS_AT_ONCE = 256, MOST_ROUNDS = 64, WORTH_A_TRIM = 16 << 20 };
 static _Atomic size_t taken;
 static uint64_t size;
 static size_t most_taken; // since the last trim, as it was asked behind requests
-// Of the call that this thread makes; null: it is not limited. The library hands nothing of its caller to its allocator.
+// Of the call that this thread makes; null: it is not limited. The library hands nothing from its caller to its
+// allocator.
 static _Thread_local struct mem_budget *current;
 
 // What a piece of memory takes, with the word that malloc keeps in front of it.
@@ -76,7 +77,7 @@ static uint64_t machine_has(const char *what) {
     size_t length = strlen(what);
     FILE *file = fopen("/proc/meminfo", "re");
     while (file && fgets(line, sizeof line, file))
-        if (!strncmp(line, what, length) && line[length] == ':') kilobytes = strtoull(line + length + 1, 0, 10);
+        if (!strncmp(line, what, length) && line[length] == ':') kilobytes = strtoull(line + length + 1, NULL, 10);
     if (file) fclose(file);
     return kilobytes * 1024;
 }

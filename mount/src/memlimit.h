@@ -1,8 +1,9 @@
 // Memory that is taken, and how much of it `--size` lets the tree take.
 //
-// The library asks heap.c for memory, and the mount the functions below, which count it. A call that makes the tree grow
-// gets no memory beyond the size less a reserve. The volume then refuses it and is as it was, so that it is answered
-// ENOSPC. Every other call may take more, also out of the reserve: a removal needs some memory before it gives any back.
+// The library asks heap.c for memory, and the mount the functions below, which count it. A call that makes the tree
+// grow gets no memory beyond the size less a reserve. The volume then refuses it and is as it was, so that it is
+// answered ENOSPC. Every other call may take more, also out of the reserve: a removal needs some memory before it gives
+// any back.
 #ifndef MEMLIMIT_H
 #define MEMLIMIT_H
 #include "backend.h"

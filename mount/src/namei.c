@@ -40,7 +40,7 @@ static int make_once(struct txn *txn, struct inode *parent, const struct resolve
     enum path_call what = args->base.kind == DOORVERVAIN_DIRECTORY ? CALL_MKDIR : CALL_CREATE;
     int err = fs_node_stat(txn->mount, parent, &before);
     if (!err) err = txn_create(txn, what, resolved->path, txn->at, before.mtime_ns);
-    if (!err) err = attrs_create(txn, parent, resolved->path, attrs, 0);
+    if (!err) err = attrs_create(txn, parent, resolved->path, attrs, NULL);
     if (!err && args->target) err = write_target(txn, resolved->path, args->target);
     return err;
 }
@@ -109,7 +109,7 @@ static void bring_back(struct txn *txn, const char *path, const struct node_stat
 static int take_folder(struct txn *txn, struct inode *parent, const struct resolved_path *resolved) {
     const struct backend *backend = &txn->mount->backend;
     struct node_stat before, above;
-    int err = backend_stat(backend, (struct path_ref){0, resolved->path}, &before);
+    int err = backend_stat(backend, (struct path_ref){NULL, resolved->path}, &before);
     if (!err) err = fs_node_stat(txn->mount, parent, &above);
     if (!err) err = backend->ops->change(backend->self, CALL_RMDIR, resolved->path, txn->at);
     if (err) return err;
@@ -187,7 +187,7 @@ static int move_path(struct request *request, struct move *move) {
     struct txn txn;
     int err;
     do {
-        move->orphan.name = 0;
+        move->orphan.name = NULL;
         memlimit_begin(&request->budget);
         txn_begin(&txn, request->mount, request->at);
         err = txn_end(&txn, move_once(&txn, move));
@@ -212,7 +212,7 @@ static void follow(struct mount *mount, struct move *move, char *name, uint64_t 
 
 // A folder is replaced where it is empty. That is looked at first, since records move before it.
 static int may_replace(struct mount *mount, struct inode *source, struct inode *target) {
-    struct bytes names = {0};
+    struct bytes names = {NULL};
     if (source->is_directory != target->is_directory) return source->is_directory ? ENOTDIR : EISDIR;
     if (!target->is_directory) return 0;
     int err = fs_readdir(mount, target, &names);
@@ -226,7 +226,7 @@ static int find_both(struct mount *mount, struct move *move, const char *name, c
     int err = fs_lookup(mount, move->parent, name, &move->source);
     if (err) return err;
     err = fs_lookup(mount, move->new_parent, new_name, &move->target);
-    if (err == ENOENT) move->target = (struct lookup_result){0};
+    if (err == ENOENT) move->target = (struct lookup_result){NULL};
     if (err) return err == ENOENT ? 0 : err;
     if (flags & RENAME_NOREPLACE) return EEXIST;
     return may_replace(mount, move->source.inode, move->target.inode);

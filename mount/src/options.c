@@ -68,38 +68,38 @@ void print_help(void) { fputs(help, stdout); }
 void print_version(void) { printf("doorvervain-mount %s\n", doorvervain_build()); }
 
 static const struct option known[] = {
-    {"load", required_argument, 0, 'l'},
-    {"image", required_argument, 0, 'i'},
-    {"trace", required_argument, 0, 'g'},
-    {"steps", required_argument, 0, 's'},
-    {"restore", required_argument, 0, 'r'},
-    {"diff", required_argument, 0, 'c'},
-    {"send", required_argument, 0, 'e'},
-    {"receive", no_argument, 0, 'x'},
-    {"store", required_argument, 0, 'd'},
-    {"replica", required_argument, 0, 'R'},
-    {"prefix", required_argument, 0, 'P'},
-    {"cacert", required_argument, 0, 'A'},
-    {"cert", required_argument, 0, 'C'},
-    {"key", required_argument, 0, 'K'},
-    {"user", required_argument, 0, 'U'},
-    {"password-file", required_argument, 0, 'W'},
-    {"sync", no_argument, 0, 'y'},
-    {"log-size", required_argument, 0, 'o'},
-    {"size", required_argument, 0, 'z'},
-    {"busy-poll", required_argument, 0, 'w'},
-    {"unmount", no_argument, 0, 'u'},
-    {"status", no_argument, 0, 'S'},
-    {"json", no_argument, 0, 'j'},
-    {"dump-log", no_argument, 0, 'n'},
-    {"allow-other", no_argument, 0, 'a'},
-    {"foreground", no_argument, 0, 'f'},
-    {"trust-attributes", no_argument, 0, 't'},
-    {"nosuid", no_argument, 0, 'N'},
-    {"nodev", no_argument, 0, 'D'},
-    {"help", no_argument, 0, 'h'},
-    {"version", no_argument, 0, 'v'},
-    {0},
+    {"load", required_argument, NULL, 'l'},
+    {"image", required_argument, NULL, 'i'},
+    {"trace", required_argument, NULL, 'g'},
+    {"steps", required_argument, NULL, 's'},
+    {"restore", required_argument, NULL, 'r'},
+    {"diff", required_argument, NULL, 'c'},
+    {"send", required_argument, NULL, 'e'},
+    {"receive", no_argument, NULL, 'x'},
+    {"store", required_argument, NULL, 'd'},
+    {"replica", required_argument, NULL, 'R'},
+    {"prefix", required_argument, NULL, 'P'},
+    {"cacert", required_argument, NULL, 'A'},
+    {"cert", required_argument, NULL, 'C'},
+    {"key", required_argument, NULL, 'K'},
+    {"user", required_argument, NULL, 'U'},
+    {"password-file", required_argument, NULL, 'W'},
+    {"sync", no_argument, NULL, 'y'},
+    {"log-size", required_argument, NULL, 'o'},
+    {"size", required_argument, NULL, 'z'},
+    {"busy-poll", required_argument, NULL, 'w'},
+    {"unmount", no_argument, NULL, 'u'},
+    {"status", no_argument, NULL, 'S'},
+    {"json", no_argument, NULL, 'j'},
+    {"dump-log", no_argument, NULL, 'n'},
+    {"allow-other", no_argument, NULL, 'a'},
+    {"foreground", no_argument, NULL, 'f'},
+    {"trust-attributes", no_argument, NULL, 't'},
+    {"nosuid", no_argument, NULL, 'N'},
+    {"nodev", no_argument, NULL, 'D'},
+    {"help", no_argument, NULL, 'h'},
+    {"version", no_argument, NULL, 'v'},
+    {NULL},
 };
 
 static int refuse(const char *text, const char *word) {
@@ -146,7 +146,7 @@ static const char **replica_option(int letter, struct etcd_options *out) {
     case 'K': return &out->key;
     case 'U': return &out->user;
     case 'W': return &out->password_file;
-    default: return 0;
+    default: return NULL;
     }
 }
 
@@ -200,7 +200,7 @@ static int try_replica(const struct options *options) {
 int read_options(int count, char **words, struct options *out) {
     int letter, err = 0;
     *out = (struct options){.busy_poll = 30, .open.steps = 4, .open.log_size = (uint64_t)64 << 20};
-    while (!err && (letter = getopt_long(count, words, "h", known, 0)) != -1) err = read_option(letter, out);
+    while (!err && (letter = getopt_long(count, words, "h", known, NULL)) != -1) err = read_option(letter, out);
     if (err || out->prints_help || out->prints_version) return err;
     if ((out->diff_from || out->send_from) && optind + 2 == count) out->until = words[optind++];
     if (optind + 1 != count)

@@ -25,8 +25,8 @@ static int move(struct txn *txn, struct inode *inode, const struct resolved_path
 int orphan_move(struct txn *txn, struct inode *inode, struct orphan *out) {
     const struct attrs *attrs;
     struct resolved_path resolved;
-    out->name = 0;
-    int err = inode_path(inode, 0, &resolved);
+    out->name = NULL;
+    int err = inode_path(inode, NULL, &resolved);
     if (!err) err = attrs_of(txn->mount, inode, &attrs);
     if (!err) err = private_orphan_path(txn->mount, &out->path);
     if (err) return err;
@@ -38,7 +38,7 @@ int orphan_move(struct txn *txn, struct inode *inode, struct orphan *out) {
 
 void orphan_free(struct orphan *orphan) {
     mem_free(orphan->name);
-    orphan->name = 0;
+    orphan->name = NULL;
 }
 
 void orphan_moved(struct mount *mount, struct inode *inode, struct orphan *orphan, uint64_t at) {
@@ -68,7 +68,7 @@ static int move_orphan(struct mount *mount, struct inode *inode, uint64_t at) {
 static int take_record(struct txn *txn, struct inode *inode, const struct resolved_path *resolved) {
     bool is_known = inode->attrs_gen == txn->mount->tree_gen;
     if (is_known && !inode->attrs.has_record) return 0;
-    const struct attrs *known = is_known ? &inode->attrs : 0;
+    const struct attrs *known = is_known ? &inode->attrs : NULL;
     if (inode->parent->role == PRIVATE_DIR) return attrs_drop_one(txn, resolved->path, known);
     return is_known ? attrs_erase(txn, inode->parent, resolved->path, known)
                     : attrs_drop(txn, inode->parent, resolved->path);
@@ -83,7 +83,7 @@ static int take_once(struct txn *txn, struct inode *inode, const struct resolved
 int orphan_delete(struct mount *mount, struct inode *inode, uint64_t at) {
     struct txn txn;
     struct resolved_path resolved;
-    int err = inode_path(inode, 0, &resolved);
+    int err = inode_path(inode, NULL, &resolved);
     if (err && err != ENOENT) return err;
     if (!err) {
         txn_begin(&txn, mount, at);
@@ -106,14 +106,14 @@ int orphan_flush_deferred(struct mount *mount) {
     struct inode *inode = mount->deferred;
     char *name = mount->deferred_path;
     if (!inode) return 0;
-    mount->deferred = 0;
+    mount->deferred = NULL;
     int err = settle(mount, inode, name, mount->deferred_at);
     if (err) {
         mount->deferred = inode;
         return err;
     }
     mem_free(name);
-    mount->deferred_path = 0;
+    mount->deferred_path = NULL;
     return 0;
 }
 
@@ -126,7 +126,7 @@ bool orphan_defer(struct mount *mount, struct inode *inode, const char *name, ui
     // In the log of several mounts a request's change is its own. Where a store refuses changes, that is answered now.
     if (!inode_is_held(inode) || inode->open_count || mount->replica) return false;
     if (mount->store && store_refuses(mount->store)) return false;
-    mount->deferred_path = name ? mem_strdup(name) : 0;
+    mount->deferred_path = name ? mem_strdup(name) : NULL;
     if (name && !mount->deferred_path) return false;
     mount->deferred = inode;
     mount->deferred_at = at;
@@ -134,7 +134,7 @@ bool orphan_defer(struct mount *mount, struct inode *inode, const char *name, ui
 }
 
 int orphan_unlink(struct mount *mount, struct inode *inode, uint64_t at) {
-    return orphan_defer(mount, inode, 0, at) ? 0 : orphan_unlink_now(mount, inode, at);
+    return orphan_defer(mount, inode, NULL, at) ? 0 : orphan_unlink_now(mount, inode, at);
 }
 
 int orphan_put(struct mount *mount, struct inode *inode, uint64_t at) {

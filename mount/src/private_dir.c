@@ -22,7 +22,7 @@ static int change(struct mount *mount, enum path_call what, const char *path, ui
 // The moment of the root, which the coming and going of the mount's own folder leaves.
 static int root_mtime(struct mount *mount, uint64_t *out) {
     struct node_stat root = {0};
-    int err = backend_stat(&mount->backend, (struct path_ref){0, "/"}, &root);
+    int err = backend_stat(&mount->backend, (struct path_ref){NULL, "/"}, &root);
     *out = root.mtime_ns;
     return err;
 }
@@ -79,10 +79,10 @@ int private_end(struct mount *mount) {
 
 // A file with several names has the number that it had as an entry before.
 int private_find_links(struct mount *mount, const char *snapshot) {
-    struct bytes names = {0};
+    struct bytes names = {NULL};
     int err = backend_readdir(&mount->backend, (struct path_ref){snapshot, LINKS_PATH}, &names);
     for (size_t at = 0; !err && at < names.length; at += strlen(names.at + at) + 1) {
-        uint64_t number = strtoull(names.at + at + 1, 0, 10);
+        uint64_t number = strtoull(names.at + at + 1, NULL, 10);
         if (number < MOST_NUMBER) inodes_number_above(number);
     }
     bytes_free(&names);
@@ -91,7 +91,7 @@ int private_find_links(struct mount *mount, const char *snapshot) {
 
 static bool stands(struct mount *mount, const char *path) {
     struct node_stat node_stat;
-    return !backend_stat(&mount->backend, (struct path_ref){0, path}, &node_stat);
+    return !backend_stat(&mount->backend, (struct path_ref){NULL, path}, &node_stat);
 }
 
 bool private_tidy(struct mount *mount) {
@@ -106,7 +106,7 @@ bool private_tidy(struct mount *mount) {
 static int leave_out_file(struct mount *mount, const char *path) {
     struct node_stat node_stat;
     uint64_t at = 0;
-    int err = backend_stat(&mount->backend, (struct path_ref){0, path}, &node_stat);
+    int err = backend_stat(&mount->backend, (struct path_ref){NULL, path}, &node_stat);
     if (err || node_stat.is_directory) return err == ENOENT || err == ENOTDIR ? 0 : err;
     fprintf(stderr, "doorvervain-mount: the image has a file %s, a name of the mount's own: it is left out\n", path);
     err = root_mtime(mount, &at);
@@ -121,5 +121,5 @@ int private_start(struct mount *mount) {
     if (!mount->store && !mount->replica && stands(mount, UNLINKED_PATH))
         fputs("doorvervain-mount: the image has " UNLINKED_PATH ", which is left out\n", stderr);
     err = private_drop_orphans(mount);
-    return err ? err : private_find_links(mount, 0);
+    return err ? err : private_find_links(mount, NULL);
 }

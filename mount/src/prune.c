@@ -18,7 +18,7 @@ enum { ESCAPE = 1 };
 
 static bool exists(const struct mount *mount, const char *path) {
     struct node_stat node_stat;
-    return !backend_stat(&mount->backend, (struct path_ref){0, path}, &node_stat);
+    return !backend_stat(&mount->backend, (struct path_ref){NULL, path}, &node_stat);
 }
 
 static bool has_name(const struct mount *mount, const char *folder, const char *name) {
@@ -61,7 +61,7 @@ static bool has_known_inode(const struct mount *mount, const char *folder, const
 
 static void forget_name(struct inode *directory) {
     mem_free(directory->known_record);
-    directory->known_record = 0;
+    directory->known_record = NULL;
 }
 
 // Whether a folder is seen not to be empty. Where nothing is seen it may have records all the same.
@@ -81,9 +81,9 @@ static const char *name_at(const struct bytes *listing, size_t at) {
 // Remembers a name of a folder that was just found not to be empty. It is any of them: in whatever order names are
 // removed, half of them mostly are before this one is, so that all listings together cost little for each.
 static void remember_name(const struct mount *mount, const char *folder, struct inode *directory, uint64_t at) {
-    struct bytes names = {0};
+    struct bytes names = {NULL};
     if (++directory->refusals < REFUSALS_BEFORE_LISTING) return;
-    int err = backend_readdir(&mount->backend, (struct path_ref){0, folder}, &names);
+    int err = backend_readdir(&mount->backend, (struct path_ref){NULL, folder}, &names);
     if (!err && names.length) {
         forget_name(directory);
         directory->known_record = mem_strdup(name_at(&names, at % names.length));

@@ -35,7 +35,7 @@ static bool find_device(const char *folder, char device[32]) {
     bool found = false;
     while (mounts && fgets(line, sizeof line, mounts))
         if (is_mount_on(line, folder, number)) {
-            strcpy(device, number);
+            memcpy(device, number, sizeof number);
             found = true;
         }
     if (mounts) fclose(mounts);

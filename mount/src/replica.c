@@ -124,7 +124,7 @@ int replica_change_ends(struct mount *mount, int err) {
 
 static struct bytes *call_begins(void *self, int *err) {
     struct replica *replica = self;
-    if (replica->is_over) return 0;
+    if (replica->is_over) return NULL;
     change_begins(replica);
     *err = replica->mode == NO_REPLAY ? EROFS : replica_savepoint(replica);
     return &replica->calls;
@@ -212,6 +212,6 @@ int replica_open(const struct open_options *options, struct mount *mount) {
     begin_at(replica, mount, &start);
     err = replica_catch_up(replica, start.newest);
     if (err) etcd_log_print_errors(replica->log);
-    if (err) replica_close(replica, 0);
+    if (err) replica_close(replica, NULL);
     return err;
 }

@@ -48,7 +48,7 @@ static int load_once(struct catchup *catchup) {
     memlimit_begin(&budget);
     if (!err) err = replica_load(&catchup->options, file, &catchup->tree, &catchup->size);
     memlimit_suspend();
-    if (err) catchup->tree = (struct backend){0};
+    if (err) catchup->tree = (struct backend){NULL};
     if (file >= 0) close(file);
     return err;
 }
@@ -82,11 +82,11 @@ static void *serve(void *self) {
     int err;
     while ((err = load_once(catchup)) && err != ENOMEM && wait_again(catchup, err)) continue;
     hand_over(catchup, err);
-    if (catchup->tree.self) catchup->tree.ops->close(catchup->tree.self, 0);
+    if (catchup->tree.self) catchup->tree.ops->close(catchup->tree.self, NULL);
     pthread_mutex_lock(&catchup->lock);
     catchup->phase = IS_OVER;
     pthread_mutex_unlock(&catchup->lock);
-    return 0;
+    return NULL;
 }
 
 // ---- who serves requests
@@ -95,7 +95,7 @@ static void begin_waiting(struct catchup *catchup) {
     pthread_condattr_t by;
     pthread_condattr_init(&by);
     pthread_condattr_setclock(&by, CLOCK_MONOTONIC);
-    pthread_mutex_init(&catchup->lock, 0);
+    pthread_mutex_init(&catchup->lock, NULL);
     pthread_cond_init(&catchup->goes_on, &by);
     pthread_condattr_destroy(&by);
 }
@@ -117,7 +117,7 @@ static void start(struct replica *replica) {
     catchup->number = replica->number;
     begin_waiting(catchup);
     int err = etcd_open(&catchup->etcd, etcd_log_members(replica->log), (size_t)getpid());
-    if (!err) err = pthread_create(&catchup->thread, 0, serve, catchup);
+    if (!err) err = pthread_create(&catchup->thread, NULL, serve, catchup);
     if (err) free_catchup(catchup);
     else replica->catchup = catchup;
 }
@@ -166,9 +166,9 @@ static void take(struct replica *replica, struct catchup *catchup) {
 }
 
 static void end_thread(struct replica *replica) {
-    pthread_join(replica->catchup->thread, 0);
+    pthread_join(replica->catchup->thread, NULL);
     free_catchup(replica->catchup);
-    replica->catchup = 0;
+    replica->catchup = NULL;
 }
 
 void catchup_step(struct replica *replica) {

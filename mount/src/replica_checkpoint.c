@@ -51,7 +51,7 @@ static const char *name_key(const struct etcd_client *etcd, char out[LONGEST_KEY
 
 // Asks until a member answers, for some time, and each at least once. The question goes.
 static json_t *ask(struct etcd_client *etcd, const char *path, json_t *question) {
-    json_t *answer = 0;
+    json_t *answer = NULL;
     uint64_t end = replica_clock() + (uint64_t)SECONDS_TO_ASK * NANOSECONDS;
     for (size_t asked = 0; question && !answer && !gives_up; asked++) {
         if (asked >= etcd->members->count && replica_clock() >= end) break;
@@ -96,10 +96,10 @@ static void drop_before(struct etcd_client *etcd, uint64_t version) {
 
 static int read_checkpoint(struct etcd_client *etcd, struct checkpoint *out) {
     char key[LONGEST_KEY];
-    struct bytes text = {0};
+    struct bytes text = {NULL};
     *out = (struct checkpoint){0};
     int err = get_put(etcd, name_key(etcd, key, "checkpoint", 0, 0), &text, &out->put_at);
-    json_t *reply = err ? 0 : json_loadb(text.at, text.length, 0, 0);
+    json_t *reply = err ? NULL : json_loadb(text.at, text.length, 0, NULL);
     const char *sum = json_string_value(json_object_get(reply, "sum"));
     if (!err && !sum) err = EBADMSG;
     if (!err) {
@@ -127,7 +127,7 @@ static int write_all(int file, const struct bytes *bytes) {
 
 static int fetch_parts(struct etcd_client *etcd, const struct checkpoint *checkpoint, int file, struct sha256 *sum) {
     char key[LONGEST_KEY];
-    struct bytes part = {0};
+    struct bytes part = {NULL};
     int err = 0;
     for (uint64_t i = 0; !err && i < checkpoint->parts; i++) {
         part.length = 0;
@@ -224,7 +224,7 @@ static int put_behind(struct etcd_client *etcd, const char *key, const char *tex
 static int put_checkpoint(struct checkpoint_task *task, uint64_t put_at) {
     char key[LONGEST_KEY];
     json_t *object = print_checkpoint(&task->checkpoint);
-    char *text = object ? json_dumps(object, JSON_COMPACT) : 0;
+    char *text = object ? json_dumps(object, JSON_COMPACT) : NULL;
     name_key(&task->etcd, key, "checkpoint", 0, 0);
     int err = text ? put_behind(&task->etcd, key, text, put_at) : ENOMEM;
     free(text);
@@ -271,7 +271,7 @@ static void *run_task(void *self) {
     pthread_mutex_lock(&task->lock);
     task->has_ended = true;
     pthread_mutex_unlock(&task->lock);
-    return 0;
+    return NULL;
 }
 
 static int open_task(struct checkpoint_task *task) {
@@ -280,7 +280,7 @@ static int open_task(struct checkpoint_task *task) {
     if (!err) err = sha256_begin(&task->sum);
     if (!err) err = doorvervain_errno(doorvervain_freeze(task->replica->volume, &tree));
     if (!err) err = doorvervain_errno(doorvervain_print_begin(&task->printing, &tree));
-    return err ? err : pthread_create(&task->thread, 0, run_task, task);
+    return err ? err : pthread_create(&task->thread, NULL, run_task, task);
 }
 
 static void free_task(struct checkpoint_task *task) {
@@ -299,8 +299,8 @@ void checkpoint_begin(struct replica *replica) {
     task->former = replica->checkpoint_version;
     task->size = replica->image_size;
     task->checkpoint = (struct checkpoint){.version = replica->done, .revision = replica->revision};
-    pthread_mutex_init(&task->lock, 0);
-    pthread_cond_init(&task->printed, 0);
+    pthread_mutex_init(&task->lock, NULL);
+    pthread_cond_init(&task->printed, NULL);
     replica->bytes_since_checkpoint = 0;
     if (open_task(task)) free_task(task);
     else replica->checkpoint_task = task;
@@ -322,13 +322,13 @@ static void print_piece(struct checkpoint_task *task) {
 // What is known here meanwhile may be newer.
 static void finish(struct replica *replica) {
     struct checkpoint_task *task = replica->checkpoint_task;
-    pthread_join(task->thread, 0);
+    pthread_join(task->thread, NULL);
     if (task->former >= replica->checkpoint_version) {
         replica->checkpoint_version = task->former;
         replica->image_size = task->size;
     }
     free_task(task);
-    replica->checkpoint_task = 0;
+    replica->checkpoint_task = NULL;
 }
 
 void checkpoint_step(struct replica *replica) {

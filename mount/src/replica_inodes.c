@@ -8,6 +8,7 @@
 #include "requests.h"
 #include "snapshots.h"
 #include "memlimit.h"
+#include "text.h"
 #include <errno.h>
 #include <stdlib.h>
 #include <string.h>
@@ -36,7 +37,7 @@ static bool is_known_to_kernel(const struct inode *inode) { return inode->role =
 
 // What cannot be noted the kernel asks anew for after a second.
 static void note(struct replica *replica, uint64_t parent_ino, uint64_t ino, const char *name) {
-    struct stale_dentry stale = {parent_ino, ino, name ? mem_strdup(name) : 0};
+    struct stale_dentry stale = {parent_ino, ino, name ? mem_strdup(name) : NULL};
     pthread_mutex_lock(&replica->lock);
     if (bytes_append(&replica->stale, &stale, sizeof stale)) mem_free(stale.name);
     pthread_cond_signal(&replica->wakes);
@@ -44,7 +45,7 @@ static void note(struct replica *replica, uint64_t parent_ino, uint64_t ino, con
 }
 
 static void note_inode(struct replica *replica, const struct inode *inode) {
-    if (inode && is_known_to_kernel(inode)) note(replica, 0, ino_of(inode), 0);
+    if (inode && is_known_to_kernel(inode)) note(replica, 0, ino_of(inode), NULL);
 }
 
 void replica_note_moved(struct mount *mount, const struct inode *inode) {
@@ -65,7 +66,7 @@ static void notify_one(struct fuse_session *session, struct stale_dentry *stale)
 // Telling may wait for a request, so no other thread waits for it.
 static void *run_inval(void *self) {
     struct replica *replica = self;
-    struct bytes list = {0};
+    struct bytes list = {NULL};
     pthread_mutex_lock(&replica->lock);
     while (!replica->ends || replica->stale.length) {
         if (!replica->stale.length) {
@@ -84,13 +85,13 @@ static void *run_inval(void *self) {
     replica->inval_has_ended = true;
     pthread_mutex_unlock(&replica->lock);
     bytes_free(&list);
-    return 0;
+    return NULL;
 }
 
 int inval_start(struct replica *replica) {
-    pthread_mutex_init(&replica->lock, 0);
-    pthread_cond_init(&replica->wakes, 0);
-    return pthread_create(&replica->inval_thread, 0, run_inval, replica);
+    pthread_mutex_init(&replica->lock, NULL);
+    pthread_cond_init(&replica->wakes, NULL);
+    return pthread_create(&replica->inval_thread, NULL, run_inval, replica);
 }
 
 bool inval_stop(struct replica *replica) {
@@ -99,7 +100,7 @@ bool inval_stop(struct replica *replica) {
     pthread_cond_signal(&replica->wakes);
     bool has_ended = replica->inval_has_ended;
     pthread_mutex_unlock(&replica->lock);
-    if (has_ended) pthread_join(replica->inval_thread, 0);
+    if (has_ended) pthread_join(replica->inval_thread, NULL);
     return has_ended;
 }
 
@@ -125,8 +126,8 @@ static struct reach reach_path(struct replica *replica, const char *path, size_t
     while (next_name(&path, end, name)) {
         if (!reach.inode && adds && reach.parent) reach.inode = inode_add(reach.parent, reach.name, true);
         reach.parent = reach.inode;
-        strcpy(reach.name, name);
-        reach.inode = reach.parent ? inode_find(reach.parent, name) : 0;
+        text_copy(reach.name, sizeof reach.name, name);
+        reach.inode = reach.parent ? inode_find(reach.parent, name) : NULL;
     }
     return reach;
 }
@@ -144,7 +145,7 @@ static struct inode *inode_of_record(struct replica *replica, const char *path, 
     if (begins(path, length, LINKS_PATH) && length > sizeof ending &&
         !memcmp(end - (sizeof ending - 1), ending, sizeof ending - 1))
         return reach_path(replica, path, length - (sizeof ending - 1), false).inode;
-    if (!begins(path, length, tree)) return 0;
+    if (!begins(path, length, tree)) return NULL;
     while (inode && next_name(&at, end, name)) {
         if (!strcmp(name, "\1")) return inode;
         inode = inode_find(inode, name[0] == 1 ? name + 1 : name);
@@ -166,21 +167,22 @@ static void follow_record(struct replica *replica, struct inode *inode) {
     struct resolved_path resolved;
     note_inode(replica, inode);
     bool has_name = inode && inode->role == ORDINARY && !inode->is_directory && inode->parent->role != PRIVATE_DIR;
-    if (!has_name || inode_path(inode, 0, &resolved) || attrs_read(replica->mount, &resolved, false, &attrs, 0)) return;
+    if (!has_name || inode_path(inode, NULL, &resolved) || attrs_read(replica->mount, &resolved, false, &attrs, NULL))
+        return;
     if (attrs.base.kind == DOORVERVAIN_OTHER_NAME) take_out(inode);
 }
 
 // A file that gets a place of its own keeps its entry.
 static void move(struct replica *replica, struct inode *inode, const char *path, size_t length) {
     struct reach to = reach_path(replica, path, length, true);
-    char *name = to.parent ? mem_strdup(to.name) : 0;
+    char *name = to.parent ? mem_strdup(to.name) : NULL;
     take_out(to.inode);
     if (!name) {
         take_out(inode);
         return;
     }
     inode_move(inode, to.parent, name);
-    if (begins(path, length, LINKS_PATH)) inode->link = strtoull(name, 0, 10);
+    if (begins(path, length, LINKS_PATH)) inode->link = strtoull(name, NULL, 10);
 }
 
 static void follow_rename(struct replica *replica, const struct reach *from, const char *path, size_t length) {
@@ -213,13 +215,13 @@ static bool is_same(struct replica *replica, const struct backend *former, const
     struct node_stat before, now;
     struct attrs attrs;
     struct resolved_path resolved;
-    if (inode_path(inode, 0, &resolved)) return false;
-    struct path_ref ref = {0, resolved.path};
+    if (inode_path(inode, NULL, &resolved)) return false;
+    struct path_ref ref = {NULL, resolved.path};
     if (backend_stat(inner, ref, &now) || now.is_directory != inode->is_directory) return false;
     if (inode->is_directory || inode->parent->role == PRIVATE_DIR) return true;
     if (backend_stat(former, ref, &before) || before.is_directory) return false;
     if (before.mtime_ns != now.mtime_ns || before.length != now.length) return false;
-    return !attrs_read(replica->mount, &resolved, false, &attrs, 0) && attrs.base.kind == inode->attrs.base.kind;
+    return !attrs_read(replica->mount, &resolved, false, &attrs, NULL) && attrs.base.kind == inode->attrs.base.kind;
 }
 
 static void note_below(struct replica *replica, const struct inode *inode) {

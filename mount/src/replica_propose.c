@@ -143,7 +143,7 @@ static int add_leftovers(struct replica *replica) {
         err = replica_savepoint(replica);
         if (err) break;
         replica->leftovers = leftover->next;
-        leftover->next = 0;
+        leftover->next = NULL;
         bool is_done =
             !doorvervain_wal_apply(replica->volume, (const uint8_t *)leftover->calls.at, leftover->calls.length, &done);
         if (is_done) {
@@ -177,11 +177,11 @@ static void put_part(struct replica *replica) {
 // What was put is not in the log, and is not to come there: its requests wait again.
 void replica_abandon_proposal(struct replica *replica) {
     struct proposal *proposal = &replica->proposal;
-    etcd_log_put(replica->log, 0, 0);
+    etcd_log_put(replica->log, 0, NULL);
     proposal->is_under_way = false;
     append_leftover(&proposal->leftovers, replica->leftovers);
     replica->leftovers = proposal->leftovers;
-    proposal->leftovers = 0;
+    proposal->leftovers = NULL;
     proposal->requests = 0;
 }
 
@@ -213,7 +213,8 @@ static void follow(struct replica *replica, const struct bytes *calls) {
 // The calls of a record of this mount, where its request does not make them.
 static void run(struct replica *replica, const struct bytes *calls) {
     size_t done;
-    int err = doorvervain_errno(doorvervain_wal_apply(replica->volume, (const uint8_t *)calls->at, calls->length, &done));
+    int err =
+        doorvervain_errno(doorvervain_wal_apply(replica->volume, (const uint8_t *)calls->at, calls->length, &done));
     if (err) replica_fail(replica, "a record of its own is refused", err);
     follow(replica, calls);
 }

@@ -100,14 +100,14 @@ static void free_deferred(struct deferred_request *request) {
 void replica_remove_first(struct replica *replica) {
     struct deferred_request *request = replica->first;
     replica->first = request->next;
-    if (!replica->first) replica->last = 0;
+    if (!replica->first) replica->last = NULL;
     free_deferred(request);
 }
 
 // It is tried already: what the kernel wrote is kept, with the calls of that.
 static void defer(struct replica *replica, const struct fuse_buf *buffer, uint64_t at, uint64_t orphans) {
     struct deferred_request *request = mem_calloc(1, sizeof *request);
-    char *bytes = request ? mem_alloc(buffer->size) : 0;
+    char *bytes = request ? mem_alloc(buffer->size) : NULL;
     struct deferred_request spare = {.bytes = buffer->mem};
     if (!bytes || bytes_append(&request->calls, replica->calls.at, replica->calls.length)) {
         answer_err(&spare, ENOMEM);
@@ -223,12 +223,12 @@ int replica_serve(struct fuse_session *used, struct mount *mount) {
 // The kernel has forgotten all orphans of this mount.
 static void note_orphans(struct replica *replica) {
     const struct backend *backend = &replica->mount->backend;
-    struct bytes names = {0};
+    struct bytes names = {NULL};
     replica_pass(replica, REPORTING, NULL, clock_now_ns());
-    if (backend_readdir(backend, (struct path_ref){0, UNLINKED_PATH}, &names)) names.length = 0;
+    if (backend_readdir(backend, (struct path_ref){NULL, UNLINKED_PATH}, &names)) names.length = 0;
     for (size_t at = 0; at < names.length; at += strlen(names.at + at) + 1) {
         char path[LONGEST_PATH + 1];
-        bool is_own = strtoull(names.at + at + 1, 0, 10) >> NUMBERS_OF_A_MOUNT == replica->number;
+        bool is_own = strtoull(names.at + at + 1, NULL, 10) >> NUMBERS_OF_A_MOUNT == replica->number;
         snprintf(path, sizeof path, UNLINKED_PATH "/%s", names.at + at + 1);
         if (is_own) backend->ops->change(backend->self, CALL_RMTREE, path, replica->at);
     }

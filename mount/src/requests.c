@@ -239,16 +239,16 @@ static void on_setattr(fuse_req_t req, fuse_ino_t ino, struct stat *wanted, int 
     uint64_t length = (uint64_t)wanted->st_size;
     struct timespec time = ns_to_timespec(request.at);
     struct setattr setattr = {
-        .mode = which & FUSE_SET_ATTR_MODE ? &wanted->st_mode : 0,
-        .user = which & FUSE_SET_ATTR_UID ? &wanted->st_uid : 0,
-        .group = which & FUSE_SET_ATTR_GID ? &wanted->st_gid : 0,
-        .length = which & FUSE_SET_ATTR_SIZE ? &length : 0,
+        .mode = which & FUSE_SET_ATTR_MODE ? &wanted->st_mode : NULL,
+        .user = which & FUSE_SET_ATTR_UID ? &wanted->st_uid : NULL,
+        .group = which & FUSE_SET_ATTR_GID ? &wanted->st_gid : NULL,
+        .length = which & FUSE_SET_ATTR_SIZE ? &length : NULL,
         .access = which & FUSE_SET_ATTR_ATIME_NOW ? &time
                   : which & FUSE_SET_ATTR_ATIME   ? &wanted->st_atim
-                                                  : 0,
+                                                  : NULL,
         .modify = which & FUSE_SET_ATTR_MTIME_NOW ? &time
                   : which & FUSE_SET_ATTR_MTIME   ? &wanted->st_mtim
-                                                  : 0,
+                                                  : NULL,
         .modifies_now = which & FUSE_SET_ATTR_MTIME_NOW,
     };
     struct stat stat;
@@ -310,7 +310,7 @@ static void on_symlink(fuse_req_t req, const char *target, fuse_ino_t parent, co
 
 static void on_readlink(fuse_req_t req, fuse_ino_t ino) {
     struct request request = request_of(req);
-    struct bytes target = {0};
+    struct bytes target = {NULL};
     int err = request_begin(&request);
     if (!err) err = fs_readlink(&request, inode_of(&request, ino), &target);
     err = request_end(&request, err);
@@ -371,7 +371,7 @@ static struct handle *open_handle(const struct request *request, struct fuse_fil
     struct store *store = request->mount->store;
     struct handle *handle = mem_calloc(1, sizeof *handle);
     info->fh = (uint64_t)(uintptr_t)handle;
-    if (!handle) return 0;
+    if (!handle) return NULL;
     handle->errseq_seen = store ? store_sync_errseq(store) : 0;
     handle->before = &handles;
     handle->after = handles.after;
@@ -552,7 +552,8 @@ struct line {
 static bool put_line(struct page *page, const struct line *line) {
     char *to = page->out + page->length;
     size_t capacity = page->capacity - page->length, size;
-    if (page->is_plus) size = fuse_add_direntry_plus(page->request->req, to, capacity, line->name, &line->param, line->next);
+    if (page->is_plus)
+        size = fuse_add_direntry_plus(page->request->req, to, capacity, line->name, &line->param, line->next);
     else size = fuse_add_direntry(page->request->req, to, capacity, line->name, &line->param.attr, line->next);
     if (size > capacity) return false;
     if (line->held) line->held->nlookup++;
@@ -571,7 +572,7 @@ static bool put_dots(struct page *page, const char *name, off_t next) {
 // A name of the listing: what stands there, or its number alone. A name that is gone is left out.
 static bool put_name(struct page *page, const char *name, bool is_directory, off_t next) {
     struct line line = {.name = name, .next = next};
-    struct inode *known = page->is_plus ? 0 : inode_find(page->directory, name);
+    struct inode *known = page->is_plus ? NULL : inode_find(page->directory, name);
     struct lookup_result result = {.inode = known};
     int err = known ? 0 : fs_lookup(page->request->mount, page->directory, name, &result);
     if (err == ENOENT) return true;
@@ -680,7 +681,7 @@ static void answer_sized(const struct request *request, int err, const struct by
 
 static void on_getxattr(fuse_req_t req, fuse_ino_t ino, const char *name, size_t capacity) {
     struct request request = request_of(req);
-    struct bytes value = {0};
+    struct bytes value = {NULL};
     int err = begin_bytes(&request, ino);
     if (!err) err = extended_get(request.mount, inode_of(&request, ino), name, &value);
     err = request_end(&request, err);
@@ -690,7 +691,7 @@ static void on_getxattr(fuse_req_t req, fuse_ino_t ino, const char *name, size_t
 
 static void on_listxattr(fuse_req_t req, fuse_ino_t ino, size_t capacity) {
     struct request request = request_of(req);
-    struct bytes names = {0};
+    struct bytes names = {NULL};
     int err = begin_bytes(&request, ino);
     if (!err) err = extended_list(request.mount, inode_of(&request, ino), !fuse_req_ctx(req)->uid, &names);
     err = request_end(&request, err);
@@ -732,7 +733,7 @@ struct restoring {
 static void *restore(void *argument) {
     struct restoring *restoring = argument;
     struct request *request = &restoring->request;
-    struct bytes stale = {0};
+    struct bytes stale = {NULL};
     int err = request_begin(request);
     if (!err) err = snapshot_restore(request->mount, restoring->wanted.name, &stale);
     struct store *store = request->mount->store;
@@ -749,7 +750,7 @@ static void *restore(void *argument) {
 static int start_thread(void *(*run)(void *argument), void *argument) {
     pthread_t thread;
     threads++;
-    int err = pthread_create(&thread, 0, run, argument);
+    int err = pthread_create(&thread, NULL, run, argument);
     if (err) threads--;
     else pthread_detach(thread);
     return err;
@@ -775,7 +776,7 @@ struct receiving {
 static void *receive(void *argument) {
     struct receiving *receiving = argument;
     struct request *request = &receiving->request;
-    struct bytes stale = {0};
+    struct bytes stale = {NULL};
     struct delta_answer answer;
     int err = request_begin(request);
     if (!err) err = delta_apply(request, &receiving->text, &answer, &stale);
@@ -795,7 +796,7 @@ static int start_receiving(const struct request *request, struct handle *handle)
     struct receiving *receiving = mem_alloc(sizeof *receiving);
     if (!receiving) return ENOMEM;
     *receiving = (struct receiving){*request, handle->text};
-    handle->text = (struct bytes){0};
+    handle->text = (struct bytes){NULL};
     int err = start_thread(receive, receiving);
     if (!err) return 0;
     bytes_free(&receiving->text);
@@ -830,7 +831,7 @@ struct sending {
 static void *print_text(void *argument) {
     struct sending *sending = argument;
     struct request *request = &sending->request;
-    struct delta_trees trees = {{0}, {0}};
+    struct delta_trees trees = {{NULL}, {NULL}};
     int err = request_begin(request);
     if (!err) err = delta_open_trees(request->mount, &sending->wanted, &trees);
     err = request_end(request, err);

@@ -40,7 +40,7 @@ static int open_volume(const struct options *options, struct mount *mount) {
     requests_unlock();
     if (!err) entry_count_walk(mount);
     if (!err && mount->store) err = store_start_writeback(mount->store, mount);
-    if (err) mount->backend.ops->close(mount->backend.self, 0);
+    if (err) mount->backend.ops->close(mount->backend.self, NULL);
     return err;
 }
 
@@ -136,7 +136,7 @@ static struct fuse_session *open_session(const struct options *options, struct m
     snprintf(how, sizeof how, "default_permissions,fsname=%s,subtype=doorvervain%s%s%s", source,
              options->allows_other ? ",allow_other" : "", trusts && !options->no_suid ? ",suid" : "",
              trusts && !options->no_dev ? ",dev" : "");
-    char *words[] = {"doorvervain-mount", "-o", how, 0};
+    char *words[] = {"doorvervain-mount", "-o", how, NULL};
     struct fuse_args args = FUSE_ARGS_INIT(3, words);
     struct fuse_session *session = fuse_session_new(&args, &requests, sizeof requests, mount);
     fuse_opt_free_args(&args);
@@ -200,7 +200,7 @@ static int serve_volume(const struct options *options, struct image *image, void
     int status = open_volume(options, &mount) != 0;
     if (!status) {
         status = mount_and_serve(options, &mount, stands, &stood);
-        status |= close_volume(&mount, stood ? image : 0);
+        status |= close_volume(&mount, stood ? image : NULL);
     }
     if (image && !stood) image_drop(image);
     return status;
@@ -215,5 +215,5 @@ int serve_mount(const struct options *options, void (*stands)(void)) {
     keep_memory();
     memlimit_set(options->size);
     busy_poll_set(options->busy_poll);
-    return exit_report_status(serve_volume(options, options->image ? &image : 0, stands));
+    return exit_report_status(serve_volume(options, options->image ? &image : NULL, stands));
 }

@@ -10,7 +10,7 @@
 
 int sha256_begin(struct sha256 *sum) {
     sum->context = EVP_MD_CTX_new();
-    return sum->context && EVP_DigestInit_ex(sum->context, EVP_sha256(), 0) ? 0 : ENOMEM;
+    return sum->context && EVP_DigestInit_ex(sum->context, EVP_sha256(), NULL) ? 0 : ENOMEM;
 }
 
 int sha256_add(struct sha256 *sum, const void *bytes, size_t count) {
@@ -23,7 +23,7 @@ int sha256_end(struct sha256 *sum, char digits[SHA256_DIGITS + 1]) {
     bool is_told = sum->context && EVP_DigestFinal_ex(sum->context, bytes, &count) && count == sizeof bytes;
     for (size_t i = 0; i < sizeof bytes && is_told; i++) snprintf(digits + 2 * i, 3, "%02x", bytes[i]);
     EVP_MD_CTX_free(sum->context);
-    sum->context = 0;
+    sum->context = NULL;
     return is_told ? 0 : ENOMEM;
 }
 

@@ -54,7 +54,7 @@ static int take_tree(struct mount *mount, const char *name, struct inode **out) 
 
 static int add_folder(struct mount *mount, const char *name) {
     int err = private_find_links(mount, name);
-    struct inode *inode = err ? 0 : inode_add(folder(mount), name, true);
+    struct inode *inode = err ? NULL : inode_add(folder(mount), name, true);
     if (!inode) return err ? err : ENOMEM;
     inode->role = SNAPSHOT_ROOT;
     return 0;
@@ -62,7 +62,7 @@ static int add_folder(struct mount *mount, const char *name) {
 
 int snapshots_find(struct mount *mount) {
     assert(request_lock_is_held(mount));
-    struct bytes names = {0};
+    struct bytes names = {NULL};
     int err = store_snapshots(mount->store, &names);
     for (size_t at = 0; !err && at < names.length; at += strlen(names.at + at) + 1)
         err = add_folder(mount, names.at + at);
@@ -108,7 +108,7 @@ static void note_names(const struct inode *directory, struct bytes *names, struc
 
 // Notes the names in a directory that may be others of a file, whose entry lies elsewhere.
 static void note_other_names(struct mount *mount, struct inode *directory, struct bytes *out) {
-    struct bytes names = {0};
+    struct bytes names = {NULL};
     if (directory->is_directory && directory->role != PRIVATE_DIR && !attrs_list(mount, directory, &names))
         note_names(directory, &names, out);
     bytes_free(&names);
@@ -126,7 +126,7 @@ static void note_held(struct mount *mount, struct inode *inode, struct bytes *ou
 
 // Notes the names of the root, below which the kernel may know of names that were missing.
 static void note_root(struct mount *mount, struct bytes *out) {
-    struct bytes names = {0};
+    struct bytes names = {NULL};
     if (!fs_readdir(mount, mount->root, &names)) note_names(mount->root, &names, out);
 }
 

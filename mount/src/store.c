@@ -56,7 +56,7 @@ static int store_snapshot(void *self, enum snapshot_call what, const char *snaps
 // All that a list has. The list has nothing then.
 static struct waiter *waiters_take(struct waiters *list) {
     struct waiter *first = list->first;
-    *list = (struct waiters){0};
+    *list = (struct waiters){NULL};
     return first;
 }
 
@@ -90,7 +90,7 @@ bool store_wait_for_space(struct store *store, struct waiter *waiter) {
 void store_unlock_wal(struct store *store) {
     lock_drop(&store->wal_lock);
     pthread_mutex_lock(&store->wake_lock);
-    struct waiter *first = store_is_full(store) ? 0 : waiters_take(&store->for_space);
+    struct waiter *first = store_is_full(store) ? NULL : waiters_take(&store->for_space);
     pthread_mutex_unlock(&store->wake_lock);
     waiters_answer(first, 0);
 }
@@ -147,7 +147,7 @@ static int sync_all(struct store *store, struct waiter **waiters) {
     return err;
 }
 
-int store_sync(struct store *store) { return sync_all(store, 0); }
+int store_sync(struct store *store) { return sync_all(store, NULL); }
 
 static bool has_little(struct store *store) {
     requests_lock();
@@ -158,7 +158,7 @@ static bool has_little(struct store *store) {
 
 bool store_try_sync(struct store *store, int *err) {
     if (store->took > SOON || !has_little(store) || !lock_try(&store->wal_lock)) return false;
-    *err = take_and_sync(store, 0);
+    *err = take_and_sync(store, NULL);
     store_unlock_wal(store);
     return true;
 }
@@ -248,7 +248,7 @@ static void *run_syncs(void *self) {
         int err = sync_all(store, &first);
         answered = waiters_answer(first, err);
     }
-    return 0;
+    return NULL;
 }
 
 // ---- the writeback thread
@@ -302,7 +302,7 @@ static void *run_writeback(void *self) {
         tick(store);
         if (checkpoint_is_due(store)) store_checkpoint(store, tick);
     }
-    return 0;
+    return NULL;
 }
 
 int store_start_writeback(struct store *store, struct mount *mount) {
@@ -311,14 +311,14 @@ int store_start_writeback(struct store *store, struct mount *mount) {
     store->synced_at = store_clock();
     pool_begin(&store->pool);
     set_next_sync(store);
-    pthread_mutex_init(&store->wake_lock, 0);
+    pthread_mutex_init(&store->wake_lock, NULL);
     pthread_condattr_init(&how);
     pthread_condattr_setclock(&how, CLOCK_MONOTONIC);
     pthread_cond_init(&store->wakes, &how);
     pthread_cond_init(&store->asks, &how);
-    int err = pthread_create(&store->writeback_thread, 0, run_writeback, store);
+    int err = pthread_create(&store->writeback_thread, NULL, run_writeback, store);
     store->has_writeback = !err;
-    if (!err) err = pthread_create(&store->sync_thread, 0, run_syncs, store);
+    if (!err) err = pthread_create(&store->sync_thread, NULL, run_syncs, store);
     store->has_sync_thread = !err;
     return err;
 }
@@ -330,8 +330,8 @@ static void end_threads(struct store *store) {
     pthread_cond_signal(&store->wakes);
     pthread_cond_signal(&store->asks);
     pthread_mutex_unlock(&store->wake_lock);
-    pthread_join(store->writeback_thread, 0);
-    if (store->has_sync_thread) pthread_join(store->sync_thread, 0);
+    pthread_join(store->writeback_thread, NULL);
+    if (store->has_sync_thread) pthread_join(store->sync_thread, NULL);
     store->has_writeback = false;
 }
 
@@ -350,7 +350,7 @@ static void free_store(struct store *store) {
 // What cannot be kept in the log goes into an image.
 static int write_rest(struct store *store) {
     int err = store_sync(store);
-    if (err) err = store_checkpoint(store, 0);
+    if (err) err = store_checkpoint(store, NULL);
     int other = store_close_log(store);
     return err ? err : other;
 }
@@ -385,7 +385,7 @@ int store_open(const struct open_options *options, struct backend *backend, stru
     struct store *store = mem_calloc(1, sizeof *store);
     if (!store) return ENOMEM;
     store->directory = store->lock_file = -1;
-    pthread_mutex_init(&store->wal_lock.mutex, 0);
+    pthread_mutex_init(&store->wal_lock.mutex, NULL);
     store->syncs_each = options->syncs_each;
     store->log_size = options->log_size;
     store->took = UINT64_MAX;

@@ -76,7 +76,7 @@ static bool read_number(const char *name, const char *kind, uint64_t *out) {
     size_t length = strlen(kind);
     char again[STORE_NAME];
     if (strncmp(name, kind, length) || name[length] != '.') return false;
-    *out = strtoull(name + length + 1, 0, 10);
+    *out = strtoull(name + length + 1, NULL, 10);
     store_name(again, kind, *out);
     return !strcmp(name, again);
 }

@@ -42,7 +42,7 @@ static int open_log_file(const struct store *store, struct wal_file *file) {
     if (err) return err;
     file->length = (size_t)stat.st_size;
     if (!file->length) return 0;
-    void *at = mmap(0, file->length, PROT_READ, MAP_PRIVATE, file->fd, 0);
+    void *at = mmap(NULL, file->length, PROT_READ, MAP_PRIVATE, file->fd, 0);
     if (at == MAP_FAILED) return errno;
     file->bytes = at;
     return 0;
@@ -134,7 +134,7 @@ static int cut_logs(const struct wal_files *files) {
 }
 
 static int go_on(struct store *store, const struct wal_files *files, uint64_t first) {
-    const struct wal_file *last = files->count ? &files->at[files->count - 1] : 0;
+    const struct wal_file *last = files->count ? &files->at[files->count - 1] : NULL;
     int err = cut_logs(files);
     if (!err) err = store_open_log(store, last ? last->number : first, last ? last->whole : 0);
     if (!err && fsync(store->directory)) err = errno;
@@ -174,7 +174,7 @@ static int choose_logs(const struct store *store, const struct bytes *numbers, u
 }
 
 static int load_logs(struct store *store, uint64_t first) {
-    struct bytes numbers = {0}, chosen = {0};
+    struct bytes numbers = {NULL}, chosen = {NULL};
     int err = store_numbers(store, "log", &numbers);
     if (!err) err = choose_logs(store, &numbers, first, &chosen);
     struct wal_files files = {(struct wal_file *)chosen.at, chosen.length / sizeof(struct wal_file)};
@@ -188,7 +188,7 @@ static int load_logs(struct store *store, uint64_t first) {
 
 // The highest tree that is whole; none where there is none at all. Its name stands in `out`.
 static int find_tree(const struct store *store, uint64_t *number, char out[PATH_MAX]) {
-    struct bytes numbers = {0};
+    struct bytes numbers = {NULL};
     char name[STORE_NAME];
     int err = store_numbers(store, "tree", &numbers);
     size_t count = count_of(&numbers);
@@ -220,11 +220,11 @@ int store_load(struct store *store, const struct open_options *options, struct b
     int err = find_tree(store, &number, tree);
     if (err) return err;
     struct open_options inner = *options;
-    inner.image = *tree ? tree : 0;
+    inner.image = *tree ? tree : NULL;
     err = open_library(&inner, backend);
     if (err) return err;
     store->volume = library_volume(backend->self);
     err = load_behind(store, tree, number, backend);
-    if (err) backend->ops->close(backend->self, 0);
+    if (err) backend->ops->close(backend->self, NULL);
     return err;
 }

@@ -8,6 +8,7 @@
 #include "requests.h"
 #include "snapshots.h"
 #include "store_inside.h"
+#include "text.h"
 #include <errno.h>
 #include <fcntl.h>
 #include <stdio.h>
@@ -132,7 +133,7 @@ struct snapshot_writer {
 // Lines that are alike take little time between two pieces: so a request that waits for the lock gets it.
 static int next_piece(void *self, struct doorvervain_printer *image, uint8_t *out, size_t capacity, size_t *size) {
     struct snapshot_writer *writer = self;
-    nanosleep(&(struct timespec){0, REST}, 0);
+    nanosleep(&(struct timespec){0, REST}, NULL);
     return store_print(&writer->file, image, out, capacity, size);
 }
 
@@ -158,7 +159,7 @@ static void end_printing(struct doorvervain_printer *printing) {
 static int put_difference(struct snapshot_writer *writer, struct doorvervain_frozen *old,
                           struct doorvervain_frozen *new) {
     struct delta_io io = {.next = next_piece, .put = put_text, .self = writer};
-    struct doorvervain_printer from = {0}, to = {0};
+    struct doorvervain_printer from = {NULL}, to = {NULL};
     struct delta_sums sums;
     memcpy(sums.old, writer->sum, sizeof sums.old);
     int err = begin_printing(&from, old);
@@ -203,7 +204,7 @@ static const struct snapshot_entry *find_entry(const struct store *store, uint64
     const struct snapshot_index *all = &store->snapshot_index;
     for (unsigned i = 0; over && i < all->count; i++)
         if (all->at[i].number == number && all->at[i].over == over) return &all->at[i];
-    return 0;
+    return NULL;
 }
 
 static int put_body(struct snapshot_writer *writer, struct frozen_snapshots *frozen, unsigned index) {
@@ -222,7 +223,7 @@ static int put_body(struct snapshot_writer *writer, struct frozen_snapshots *fro
 
 static int put_one(struct snapshot_writer *writer, struct frozen_snapshots *frozen, unsigned index) {
     struct snapshot_entry *entry = &writer->index->at[index];
-    struct bytes heading = {0};
+    struct bytes heading = {NULL};
     int err = bytes_print(&heading, "snapshot %s\n", frozen->at[index].name);
     if (!err) err = store_put_bytes(&writer->file, heading.at, heading.length);
     bytes_free(&heading);
@@ -330,7 +331,7 @@ static int apply(struct snapshot_reader *reader) {
 // The live tree becomes that of the next snapshot.
 static int make_next(struct snapshot_reader *reader) {
     uint64_t line = 0;
-    strcpy(reader->name, "?");
+    text_copy(reader->name, sizeof reader->name, "?");
     if (!read_heading(reader) || !read_text(reader)) return refuse(reader, "its text is cut off, or none");
     int err = delta_find_bad_line(&reader->text, &line);
     if (line) err = refuse(reader, "its text is no difference");
@@ -373,7 +374,7 @@ static int make_of_file(struct snapshot_reader *reader, int file, uint64_t *size
     if (fstat(file, &stat)) return errno;
     *size = (uint64_t)stat.st_size;
     if (!*size) return 0;
-    void *bytes = mmap(0, *size, PROT_READ, MAP_PRIVATE, file, 0);
+    void *bytes = mmap(NULL, *size, PROT_READ, MAP_PRIVATE, file, 0);
     if (bytes == MAP_FAILED) return errno;
     reader->at = bytes;
     reader->end = reader->at + *size;

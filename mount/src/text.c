@@ -6,6 +6,10 @@
 #include <stdbool.h>
 #include <string.h>
 
+void text_copy(char *out, size_t capacity, const char *text) {
+    if (!memccpy(out, text, 0, capacity)) out[capacity - 1] = 0;
+}
+
 static void put_digits(struct bytes *out, unsigned char byte, const char *digits) {
     out->at[out->length++] = digits[byte / 16];
     out->at[out->length++] = digits[byte % 16];

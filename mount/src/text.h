@@ -3,6 +3,8 @@
 #define TEXT_H
 #include "bytes.h"
 
+// Copies a text into so much room, cut where it is longer, and ends it with a byte 0.
+void text_copy(char *out, size_t capacity, const char *text);
 // Each puts something behind what `out` has: 0 or ENOMEM.
 int text_escape(struct bytes *out, const char *path);
 // `-` stands for no bytes.

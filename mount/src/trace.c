@@ -95,7 +95,7 @@ static void put_note(struct trace *trace, const char *form, ...) {
     va_start(words, form);
     int length = vsnprintf(text, sizeof text, form, words);
     va_end(words);
-    put_lines(trace, &(struct bytes){text, (size_t)length, 0}, 0);
+    put_lines(trace, &(struct bytes){text, (size_t)length, 0}, NULL);
 }
 
 // What was refused for want of memory another program would do.
@@ -207,7 +207,7 @@ static int trace_snapshot(void *self, enum snapshot_call what, const char *snaps
 static int find_extents(struct trace *trace, const char *path, struct extent range, struct bytes *out) {
     struct extent extent = range;
     for (uint64_t from = range.from; from < range.to; from = extent.to) {
-        int err = backend_next_extent(&trace->inner, (struct path_ref){0, path}, from, &extent);
+        int err = backend_next_extent(&trace->inner, (struct path_ref){NULL, path}, from, &extent);
         if (err) return err;
         if (extent.from >= range.to || extent.from == extent.to) break;
         if (extent.to > range.to) extent.to = range.to;
@@ -244,8 +244,8 @@ static struct extent within(uint64_t offset, uint64_t count, uint64_t length) {
 static int trace_punch(void *self, const char *path, uint64_t offset, uint64_t count, uint64_t at) {
     struct trace *trace = self;
     struct node_stat node_stat = {0};
-    struct bytes runs = {0};
-    int err = backend_stat(&trace->inner, (struct path_ref){0, path}, &node_stat);
+    struct bytes runs = {NULL};
+    int err = backend_stat(&trace->inner, (struct path_ref){NULL, path}, &node_stat);
     struct extent hole = within(offset, count, node_stat.length);
     if (!err) err = find_extents(trace, path, hole, &runs);
     if (!err) err = trace->inner.ops->punch(trace->inner.self, path, offset, count, at);
@@ -288,7 +288,7 @@ static const struct backend_ops trace_ops = {
 
 // The bytes of files that only their owner may read go into a record: so may it only be read. An older one stays.
 static int open_file(const char *name, const char *ending, struct trace_file *out) {
-    struct bytes file = {0};
+    struct bytes file = {NULL};
     int err = bytes_append(&file, name, strlen(name));
     if (!err) err = bytes_append(&file, ending, strlen(ending) + 1);
     if (!err) out->fd = open(file.at, O_WRONLY | O_CREAT | O_EXCL | O_CLOEXEC, 0600);
@@ -310,7 +310,6 @@ int open_trace(const struct open_options *options, struct backend *backend) {
         free_trace(trace);
         return err;
     }
-    *backend = (struct backend){
-        .ops = &trace_ops, .self = trace, .tree = trace->inner.tree};
+    *backend = (struct backend){.ops = &trace_ops, .self = trace, .tree = trace->inner.tree};
     return 0;
 }

@@ -7,6 +7,7 @@
 #include "replica.h"
 #include "memlimit.h"
 #include "request.h"
+#include "text.h"
 #include <assert.h>
 #include <errno.h>
 #include <string.h>
@@ -16,20 +17,20 @@ void txn_begin(struct txn *txn, struct mount *mount, uint64_t at) {
     txn->mount = mount;
     txn->at = at;
     txn->count = 0;
-    txn->read = (struct bytes){0};
-    strcpy(txn->read_path, "");
+    txn->read = (struct bytes){NULL};
+    txn->read_path[0] = 0;
     replica_change_begins(mount);
 }
 
 static struct undo_entry *note(struct txn *txn, enum undo_kind how, const char *path, uint64_t at) {
     struct undo_entry *undo = &txn->undone[txn->count];
-    if (txn->count == MAX_UNDO || strlen(path) > LONGEST_PATH) return 0;
+    if (txn->count == MAX_UNDO || strlen(path) > LONGEST_PATH) return NULL;
     undo->how = how;
     undo->is_removal = false;
     undo->at = at;
-    undo->text = (struct bytes){0};
-    strcpy(undo->path, path);
-    strcpy(undo->back, "");
+    undo->text = (struct bytes){NULL};
+    text_copy(undo->path, sizeof undo->path, path);
+    undo->back[0] = 0;
     return undo;
 }
 
@@ -54,7 +55,7 @@ int txn_rename(struct txn *txn, const char *from, const char *to, uint64_t at, u
     const struct backend *backend = &txn->mount->backend;
     struct undo_entry *undo = note(txn, BY_RENAME, to, back_at);
     if (!undo || strlen(from) > LONGEST_PATH) return ENAMETOOLONG;
-    strcpy(undo->back, from);
+    text_copy(undo->back, sizeof undo->back, from);
     int err = backend->ops->rename(backend->self, from, to, at);
     if (!err) txn->count++;
     return err;
@@ -62,7 +63,7 @@ int txn_rename(struct txn *txn, const char *from, const char *to, uint64_t at, u
 
 static int read_whole(const struct backend *backend, const char *path, struct bytes *out) {
     struct node_stat node_stat;
-    struct path_ref ref = {0, path};
+    struct path_ref ref = {NULL, path};
     int err = backend_stat(backend, ref, &node_stat);
     if (!err && node_stat.length > LARGEST_READ) err = EFBIG;
     if (!err) err = bytes_reserve(out, node_stat.length + 1);
@@ -72,7 +73,7 @@ static int read_whole(const struct backend *backend, const char *path, struct by
 int txn_read(struct txn *txn, const char *path, const struct bytes **out) {
     int err = read_whole(&txn->mount->backend, path, &txn->read);
     *out = &txn->read;
-    strcpy(txn->read_path, err ? "" : path);
+    text_copy(txn->read_path, sizeof txn->read_path, err ? "" : path);
     return err;
 }
 
@@ -80,8 +81,8 @@ int txn_read(struct txn *txn, const char *path, const struct bytes **out) {
 static int take_text(struct txn *txn, const char *path, struct bytes *out) {
     if (strcmp(path, txn->read_path)) return read_whole(&txn->mount->backend, path, out);
     *out = txn->read;
-    txn->read = (struct bytes){0};
-    strcpy(txn->read_path, "");
+    txn->read = (struct bytes){NULL};
+    txn->read_path[0] = 0;
     return 0;
 }
 
@@ -119,7 +120,7 @@ static int note_text(struct txn *txn, enum undo_kind how, const char *file, stru
     if (!undo) return ENOMEM;
     if (!text) return read_whole(&txn->mount->backend, file, &undo->text);
     undo->text = *text;
-    *text = (struct bytes){0};
+    *text = (struct bytes){NULL};
     return 0;
 }
 
@@ -143,7 +144,7 @@ int txn_remove_record(struct txn *txn, const char *folder, const char *file, str
     const struct backend *backend = &txn->mount->backend;
     int err = note_text(txn, BY_REMAKING, file, text);
     if (!err) err = backend->ops->change(backend->self, CALL_RMTREE, folder, txn->at);
-    if (!err) strcpy(txn->undone[txn->count].back, folder);
+    if (!err) text_copy(txn->undone[txn->count].back, sizeof txn->undone[0].back, folder);
     return end_removal(txn, err);
 }
 

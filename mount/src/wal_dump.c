@@ -16,7 +16,7 @@
 // The lines of a record's body, into room that grows: where there is none, their length alone is told.
 static int put_lines(const uint8_t *body, size_t length, struct bytes *room) {
     size_t size = 0;
-    uint8_t number = doorvervain_wal_dump(body, length, 0, 0, &size);
+    uint8_t number = doorvervain_wal_dump(body, length, NULL, 0, &size);
     if (number || !size) return doorvervain_errno(number);
     if (bytes_reserve(room, size)) return ENOMEM;
     number = doorvervain_wal_dump(body, length, (uint8_t *)room->at, room->capacity, &size);
@@ -26,7 +26,7 @@ static int put_lines(const uint8_t *body, size_t length, struct bytes *room) {
 
 // Of the records that lie whole in front.
 static int put_records(uint64_t log, const uint8_t *bytes, size_t length) {
-    struct bytes room = {0};
+    struct bytes room = {NULL};
     size_t at = 0, size = 0;
     int err = 0;
     for (uint64_t index = 0; !err; index++) {
@@ -47,7 +47,7 @@ static int put_log(const struct store *store, uint64_t number) {
     int err = 0, file = openat(store->directory, name, O_RDONLY | O_CLOEXEC | O_NOFOLLOW);
     if (file < 0 || fstat(file, &stat)) err = errno;
     if (!err && stat.st_size) {
-        void *bytes = mmap(0, (size_t)stat.st_size, PROT_READ, MAP_PRIVATE, file, 0);
+        void *bytes = mmap(NULL, (size_t)stat.st_size, PROT_READ, MAP_PRIVATE, file, 0);
         err = bytes == MAP_FAILED ? errno : put_records(number, bytes, (size_t)stat.st_size);
         if (bytes != MAP_FAILED) munmap(bytes, (size_t)stat.st_size);
     }
@@ -57,7 +57,7 @@ static int put_log(const struct store *store, uint64_t number) {
 }
 
 static int put_logs(const struct store *store) {
-    struct bytes numbers = {0};
+    struct bytes numbers = {NULL};
     int err = store_numbers(store, "log", &numbers);
     for (size_t at = 0; !err && at < numbers.length; at += sizeof(uint64_t)) {
         uint64_t number;

@@ -130,7 +130,7 @@ static int put_records(struct store *store, const struct framing *framing) {
 }
 
 static int write_batch(struct store *store, const struct wal_batch *batch) {
-    struct framing framing = {store, batch, 0, batch->ends.length / sizeof(size_t), 0};
+    struct framing framing = {store, batch, NULL, batch->ends.length / sizeof(size_t), 0};
     int err = framing.count ? write_sync_marker(store) : 0;
     if (!err) err = frame_all(store, &framing);
     return err ? err : put_records(store, &framing);

@@ -13,7 +13,7 @@
 enum { MOST_OF_ONE = 6 << 20, MOST_SPARE = 8, ROOM_KEPT = 2 * MOST_OF_ONE };
 
 static void put_last(struct batch_list *list, struct wal_batch *batch) {
-    batch->next = 0;
+    batch->next = NULL;
     if (list->last) list->last->next = batch;
     else list->first = batch;
     list->last = batch;
@@ -21,9 +21,9 @@ static void put_last(struct batch_list *list, struct wal_batch *batch) {
 
 static struct wal_batch *take_first(struct batch_list *list) {
     struct wal_batch *batch = list->first;
-    if (!batch) return 0;
+    if (!batch) return NULL;
     list->first = batch->next;
-    if (!list->first) list->last = 0;
+    if (!list->first) list->last = NULL;
     return batch;
 }
 
@@ -66,7 +66,7 @@ static void give_back(struct store *store, struct wal_batch *batch) {
 }
 
 int store_batches_begin(struct store *store) {
-    pthread_mutex_init(&store->queue_lock, 0);
+    pthread_mutex_init(&store->queue_lock, NULL);
     store->batch = mem_calloc(1, sizeof *store->batch);
     store->reserved_batch = mem_calloc(1, sizeof *store->reserved_batch);
     return store->batch && store->reserved_batch ? 0 : ENOMEM;
@@ -116,7 +116,7 @@ int wal_take_batches(struct store *store) {
     if (store_end_calls(store)) return ENOMEM;
     if (store->batch->calls.length) {
         end_batch(store, store->reserved_batch);
-        store->reserved_batch = 0;
+        store->reserved_batch = NULL;
     }
     while ((batch = take_first(&store->full_batches))) put_last(&store->in_flight, batch);
     return 0;

@@ -17,7 +17,7 @@ static struct pool_task *wait_for_work(struct worker_pool *pool, uint64_t *seen)
         pthread_cond_wait(&pool->begins, &pool->lock);
     }
     *seen = pool->tasks;
-    return pool->ends ? 0 : pool->task;
+    return pool->ends ? NULL : pool->task;
 }
 
 static void *serve(void *self) {
@@ -33,16 +33,16 @@ static void *serve(void *self) {
         if (!--pool->busy) pthread_cond_signal(&pool->ended);
     }
     pthread_mutex_unlock(&pool->lock);
-    return 0;
+    return NULL;
 }
 
 void pool_begin(struct worker_pool *pool) {
     long wanted = sysconf(_SC_NPROCESSORS_ONLN) / 2;
-    pthread_mutex_init(&pool->lock, 0);
-    pthread_cond_init(&pool->begins, 0);
-    pthread_cond_init(&pool->ended, 0);
+    pthread_mutex_init(&pool->lock, NULL);
+    pthread_cond_init(&pool->begins, NULL);
+    pthread_cond_init(&pool->ended, NULL);
     while (pool->count < MAX_WORKERS && pool->count < wanted &&
-           !pthread_create(&pool->threads[pool->count], 0, serve, pool))
+           !pthread_create(&pool->threads[pool->count], NULL, serve, pool))
         pool->count++;
 }
 
@@ -57,7 +57,7 @@ void pool_run(struct worker_pool *pool, struct pool_task *task) {
     do_parts(task);
     if (!pool->task) return;
     pthread_mutex_lock(&pool->lock);
-    pool->task = 0;
+    pool->task = NULL;
     while (pool->busy) pthread_cond_wait(&pool->ended, &pool->lock);
     pthread_mutex_unlock(&pool->lock);
 }
@@ -68,5 +68,5 @@ void pool_end(struct worker_pool *pool) {
     pool->ends = true;
     pthread_cond_broadcast(&pool->begins);
     pthread_mutex_unlock(&pool->lock);
-    while (pool->count) pthread_join(pool->threads[--pool->count], 0);
+    while (pool->count) pthread_join(pool->threads[--pool->count], NULL);
 }
