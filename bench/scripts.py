@@ -273,6 +273,12 @@ def numbered_files(size: int, width: int) -> Lines:
         yield f"create {numbered(number, width)}"
 
 
+def numbered_readdirs(size: int, width: int) -> Lines:
+    """Listings of the directories, in turn."""
+    for number in range(LISTINGS):
+        yield f"readdir /w{number % (size // width)}"
+
+
 def replaces(size: int, width: int) -> Lines:
     """For half of the files: a new one is made, and renamed over the old one."""
     for number in random.Random(size).sample(range(size), size // 2):
@@ -411,6 +417,13 @@ WORKLOADS |= {
         readdirs_above,
     ),
 }
+WORKLOADS[f"readdir-{SMALL}"] = Workload(
+    f"{LISTINGS:,} readdirs of {SMALL} names each, of files in all",
+    25_000,
+    1_000,
+    lambda size: numbered_files(size, SMALL),
+    lambda size: numbered_readdirs(size, SMALL),
+)
 WORKLOADS |= removal("", "of one directory", None)
 WORKLOADS |= removal(f"-{SMALL}", f"of directories of {SMALL}", SMALL)
 

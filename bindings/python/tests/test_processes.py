@@ -179,7 +179,9 @@ print(os.WIFEXITED(status) and os.WEXITSTATUS(status))
 
 class LateThreads(unittest.TestCase):
     def test_a_lock_that_is_held_as_the_process_forks(self):
-        said = subprocess.run([sys.executable, "-c", LATE_THREAD], check=True, stdout=subprocess.PIPE, text=True, timeout=60).stdout
+        # (elsewhere than beside the sources of the package, which have no module in C)
+        words, here = [sys.executable, "-c", LATE_THREAD], os.path.dirname(os.path.abspath(__file__))
+        said = subprocess.run(words, cwd=here, check=True, stdout=subprocess.PIPE, text=True, timeout=60).stdout
         self.assertEqual(said, "7\n")
 
 

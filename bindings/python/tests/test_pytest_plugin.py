@@ -65,7 +65,9 @@ class Plugin(unittest.TestCase):
 
     def test_the_package_needs_no_pytest(self):
         words = "import sys; sys.modules['pytest'] = None; import doorvervain; print(doorvervain.Volume().listdir())"
-        said = subprocess.run([sys.executable, "-c", words], check=True, stdout=subprocess.PIPE, text=True).stdout
+        # (elsewhere than beside the sources of the package, which have no module in C)
+        with tempfile.TemporaryDirectory() as empty:
+            said = subprocess.run([sys.executable, "-c", words], cwd=empty, check=True, stdout=subprocess.PIPE, text=True).stdout
         self.assertEqual(said, "[]\n")
 
 

@@ -3,8 +3,8 @@
 //!
 //! Under the lock the volume's method of that name is asked. So no path is copied, and each answer tells its reply. A call is
 //! recorded once, as by `Client::call`; one that only looks is recorded at the moment 0, which changes no answer.
-ghost use Rattle.reference.specs.PathCalls.{call_at};
 ghost use Rattle.reference.specs.Pairs.{pairs_of};
+ghost use Rattle.reference.specs.PathCalls.{call_at};
 ghost use Rattle.reference.specs.Worlds.{Ask, Replied};
 ghost use Rattle.engine.specs.Clients.{Calls};
 ghost use Rattle.volume.specs.Typed.{replied};

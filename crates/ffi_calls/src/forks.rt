@@ -2,7 +2,7 @@
 ghost use Rattle.std.specs.Prelude.{◌≡◌, IfErr, MatchResult};
 ghost use Rattle.volume.specs.Forks.{IsForkOf, RestoresTree};
 
-use pathkey::Errno;
+use pathkey::{Errno, NoMemory};
 use std::alloc::Global;
 use volume::{Frozen, Volume};
 
@@ -28,6 +28,8 @@ pub fn restore_frozen(volume: &mut Volume, tree: &Frozen) -> Result<(), Errno>
     ensures restored { RestoresTree tree.now result volume.old volume.new }
     ensures refused { IfErr result (λ e. e ≡ Errno.ENOMEM) }
 {
-    volume.restore_frozen(tree)?;
-    Ok(())
+    match volume.restore_frozen(tree) {
+        Ok(()) => Ok(()),
+        Err(NoMemory) => Err(Errno::ENOMEM),
+    }
 }

@@ -90,5 +90,5 @@ restore_frozen_is_restore s r v new named there a b =
     let h : (finite.get v.snapshots s ≡ Some named.live) × (named.snapshots ≡ v.snapshots) × (named.marks ≡ no_marks v.marks.given) = b.done in
     let same : Some r ≡ Some named.live = sym there ∙ h.0 in
     let live : r ≡ named.live = cc in
-    let last : with_live r v ≡ named = λ k. record { live = live k; snapshots = sym h.1.0 k; marks = sym h.1.1 k } in
+    let last : with_live r v ≡ named = λ k. record { live = live k; snapshots = sym h.1 k; marks = sym h.2 k } in
     is ∙ last

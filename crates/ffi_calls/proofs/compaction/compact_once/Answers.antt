@@ -32,5 +32,8 @@ returns-in-Some-clause-unchanged c = λ e. undone c.in-Some.turn.reply _ (sym c.
 pub returns-in-Some-clause-rest : goal.returns-in-Some-clause-rest
 returns-in-Some-clause-rest c = λ e. stuck c.in-Some.turn c.args.volume.now c.compact_step.new.self c.in-Some.ensures.busier c.in-Some.ensures.stepped (sym c.is_done.ensures ∙ e)
 
+pub returns-in-None-clause-unchanged : goal.returns-in-None-clause-unchanged
+returns-in-None-clause-unchanged c = λ e. c.in-None.ensures.unchanged
+
 pub returns-in-None-clause-rest : goal.returns-in-None-clause-rest
 returns-in-None-clause-rest c = λ e. subst (λ (v : PVolume). IsIdle v ⊎ IsStuck v) (sym c.in-None.ensures.unchanged) (inl (c.in-None.ensures.nothing.0 refl))

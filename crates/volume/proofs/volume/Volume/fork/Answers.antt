@@ -1,4 +1,4 @@
-use Rattle.std.proofs.Common.{◌≡◌, ap, subst, sym, ◌∙◌}
+use Rattle.std.proofs.Common.{ap, subst, sym, ◌∙◌}
 use Rattle.call_compiler.specs.declared.indexes.Indexes.{Indexes}
 use Rattle.volume.specs.Forks.{IsForkOf}
 use Rattle.volume.specs.Volumes.{MeanSome, PVolume}

@@ -1,4 +1,4 @@
-use Rattle.std.proofs.Common.{◌≡◌, ap, subst, sym, ◌∙◌, Ok}
+use Rattle.std.proofs.Common.{subst, sym, ◌∙◌, Ok}
 use Rattle.pathkey.specs.declared.errno.NoMemory.{NoMemory}
 use Rattle.volume.specs.Forks.{RestoresTree}
 use Rattle.volume.specs.Volumes.{IsVolume, PVolume}
