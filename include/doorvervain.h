@@ -24,8 +24,8 @@
 // Caller obligations, which no check can see:
 //   - Set `ptr` to null before the first use (`struct doorvervain fs = {0};`), and do not change it.
 //   - A copy of a struct is the same volume. Do not use a copy after a close: that is a use of freed memory.
-//   - A volume and the trees frozen from it share nodes, so only one thread at a time may call any of them: put one
-//     lock around them, or keep them on one thread. Any two volumes may be called by two threads at once, also a volume
+//   - Only one thread at a time may be in a volume and in the trees frozen from it: put one lock around them, or keep
+//     them on one thread. Any two volumes may be called by two threads at once, also a volume
 //     and a fork of it: a node that both have is never changed, but copied.
 //   - A pointer with a length points to at least that many bytes. Bytes that a call writes overlap no bytes that it
 //     reads, and no other result.

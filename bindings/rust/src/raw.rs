@@ -151,8 +151,8 @@ pub(crate) struct Held {
     lock: Arc<Mutex<()>>,
 }
 
-// SAFETY: the object is bound to no thread, and each call into it, also that of a tree which shares nodes with it, holds the
-// lock that they share.
+// SAFETY: the object is bound to no thread, each call into it and into the trees frozen from it holds the lock that they share, and
+// nodes that a fork shares with it are not changed.
 unsafe impl Send for Held {}
 
 impl Held {
