@@ -798,6 +798,7 @@ static int start_receiving(const struct request *request, struct handle *handle)
     if (!receiving) return ENOMEM;
     *receiving = (struct receiving){*request, handle->text};
     handle->text = (struct bytes){NULL};
+    handle->sent = 0;
     int err = start_thread(receive, receiving);
     if (!err) return 0;
     bytes_free(&receiving->text);
@@ -838,6 +839,7 @@ static void *print_text(void *argument) {
     err = request_end(request, err);
     if (!err) err = delta_print(&trees, &sending->handle->text);
     delta_close_trees(&trees);
+    if (err) bytes_free(&sending->handle->text);
     sending->handle->is_printing = false;
     if (!answer_failed(request, err)) fuse_reply_ioctl(request->req, 0, NULL, 0);
     mem_free(sending);
