@@ -73,7 +73,7 @@ static void pair(struct delta_applier *applier) {
     while (i < count_entries(&delta->removed) && k < count_entries(&delta->added)) {
         struct delta_entry *old = applier->removed[i], *new = applier->added[k];
         int order = strcmp(path_at(delta, old->path), path_at(delta, new->path));
-        if (!order) old->is_kept = new->is_kept = old->is_directory == new->is_directory &&may_stay(delta, new);
+        if (!order) old->is_kept = new->is_kept = old->is_directory == new->is_directory && may_stay(delta, new);
         i += order <= 0;
         k += order >= 0;
     }
