@@ -912,8 +912,8 @@ static void on_ioctl(fuse_req_t req, fuse_ino_t ino, unsigned what, void *argume
     bool has_all = in_size == (_IOC_DIR(what) & _IOC_WRITE ? _IOC_SIZE(what) : 0) &&
                    out_size == (_IOC_DIR(what) & _IOC_READ ? _IOC_SIZE(what) : 0);
     int err = ENOTTY;
-    if (asks && asks != getuid()) err = EPERM;
-    else if (ino == FUSE_ROOT_ID && handle && has_all) err = answer_asked(&request, what, in, handle);
+    if (ino == FUSE_ROOT_ID && handle && has_all)
+        err = asks && asks != getuid() ? EPERM : answer_asked(&request, what, in, handle);
     if (err) answer_failed(&request, err);
 }
 
