@@ -1,4 +1,4 @@
-use Rattle.std.proofs.Common.{◌≡◌, ℕ, ◌+◌, sym, subst, add-one}
+use Rattle.std.proofs.Common.{ℕ, ◌+◌, sym, subst, add-one}
 use Rattle.volume.specs.Volumes.{PVolume}
 use Rattle.ffi_calls.specs.Upkeep.{Relieved, Relieves}
 use Rattle.ffi_calls.proofs.compaction.compact.Goals as goal

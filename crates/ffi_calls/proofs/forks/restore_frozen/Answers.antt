@@ -1,4 +1,4 @@
-use Rattle.std.proofs.Common.{refl, Ok, Err}
+use Rattle.std.proofs.Common.{Ok, Err}
 use Rattle.volume.specs.Forks.{RestoresTree}
 use Rattle.volume.specs.Volumes.{PVolume}
 use Rattle.volume.specs.declared.fs_root.FsRoot.{FsRoot}
