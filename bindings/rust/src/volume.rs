@@ -503,9 +503,10 @@ impl Volume {
         self.handle.snapshot_call(SnapshotCall::Restore, name.as_bytes())
     }
 
-    /// The names of the snapshots, in order.
-    pub fn snapshots(&self) -> impl Iterator<Item = String> + '_ {
-        (0..).map_while(|index| self.handle.snapshot_name(index))
+    /// The names of the snapshots as they are now, in order: a snapshot may be taken or dropped meanwhile.
+    pub fn snapshots(&self) -> impl Iterator<Item = String> {
+        let names: Vec<String> = (0..).map_while(|index| self.handle.snapshot_name(index)).collect();
+        names.into_iter()
     }
 
     /// Freezes the current tree, in constant time.
@@ -636,7 +637,7 @@ impl Volume {
 
 impl Frozen {
     /// Makes a volume of its own with this tree and its shape, in constant time, without snapshots. Later changes of it do not affect
-    /// the tree.
+    /// the tree. Its clock is that of the system.
     ///
     /// # Errors
     /// `ENOMEM`.
