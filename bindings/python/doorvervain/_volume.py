@@ -411,7 +411,6 @@ def _forked(tree: Tree, clock: Optional[Callable[[], int]]) -> Volume:
     return volume
 
 
-
 def _volume_of(kind: Type[Volume], image: bytes, shape: Tuple[int, int, int], clock: Callable[[], int]) -> Volume:
     """The volume of a pickle."""
     return kind.load(image, shape=shape, clock=clock)
