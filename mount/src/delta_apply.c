@@ -73,7 +73,7 @@ static void pair(struct delta_applier *applier) {
     while (i < count_entries(&delta->removed) && k < count_entries(&delta->added)) {
         struct delta_entry *old = applier->removed[i], *new = applier->added[k];
         int order = strcmp(path_at(delta, old->path), path_at(delta, new->path));
-        if (!order) old->is_kept = new->is_kept = old->is_directory == new->is_directory &&may_stay(delta, new);
+        if (!order) old->is_kept = new->is_kept = old->is_directory == new->is_directory && may_stay(delta, new);
         i += order <= 0;
         k += order >= 0;
     }
@@ -281,7 +281,7 @@ static int gather(struct delta_applier *applier, const struct delta_entry *file,
 static int write_all(struct delta_applier *applier, const struct delta_entry *file, struct block_range blocks) {
     struct gathered *gathered = mem_alloc(sizeof *gathered);
     int err = gathered ? 0 : ENOMEM;
-    if (gathered) gathered->length = 0;
+    if (gathered) gathered->from = gathered->length = 0;
     for (size_t i = 0; !err && i < blocks.count; i++)
         if (blocks.at[i].digits) err = gather(applier, file, &blocks.at[i], gathered);
     if (!err) err = write_gathered(applier, file, gathered);

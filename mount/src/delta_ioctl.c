@@ -3,6 +3,7 @@
 // Invariant: --receive is atomic. A hidden snapshot is taken before the delta is applied, and restored if a call fails
 // or if the digest of the resulting image is not that of the image which the delta makes.
 #include "delta_ioctl.h"
+#include "entry_count.h"
 #include "private_dir.h"
 #include "delta_parse.h"
 #include "delta_print.h"
@@ -109,6 +110,7 @@ static int apply(struct request *request, const struct bytes *given, struct byte
         err = apply_once(mount, given);
     } while (memlimit_retry(&request->budget, &mount->backend, &err));
     if (!err) inodes_renumber(mount->root);
+    if (!err) entry_count_set(mount, ENTRIES_UNKNOWN);
     snapshot_after_switch(mount, err, stale);
     return err;
 }

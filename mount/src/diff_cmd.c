@@ -128,7 +128,7 @@ static int compare(struct pair in, const char *name, const struct stat *old, con
     *same = same_marks(old, new) && old->st_rdev == new->st_rdev;
     if (!*same || (same_time(old->st_ctim, new->st_ctim) && same_time(old->st_mtim, new->st_mtim))) return 0;
     if (S_ISLNK(old->st_mode)) return compare_targets(in, name, same);
-    if (S_ISREG(old->st_mode)) *same = old->st_size == new->st_size &&same_time(old->st_mtim, new->st_mtim);
+    if (S_ISREG(old->st_mode)) *same = old->st_size == new->st_size && same_time(old->st_mtim, new->st_mtim);
     if (!*same || !(S_ISREG(old->st_mode) || S_ISDIR(old->st_mode))) return 0;
     return compare_inside(in, name, old, same);
 }
@@ -169,7 +169,7 @@ static int print_name(struct pair in, const char *name, bool had, bool has, stru
     struct stat old, new;
     if (had && fstatat(in.old, name, &old, AT_SYMLINK_NOFOLLOW)) return errno;
     if (has && fstatat(in.new, name, &new, AT_SYMLINK_NOFOLLOW)) return errno;
-    if (had && has && (old.st_mode & S_IFMT) == (new.st_mode &S_IFMT)) return print_kept(in, name, &old, &new, path);
+    if (had && has && (old.st_mode & S_IFMT) == (new.st_mode & S_IFMT)) return print_kept(in, name, &old, &new, path);
     int err = had ? print_line('-', path, old.st_mode) : 0;
     return err || !has ? err : print_line('+', path, new.st_mode);
 }

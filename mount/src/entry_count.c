@@ -76,7 +76,7 @@ static int begin(struct walk *walk, uint64_t *walks) {
     requests_lock();
     int err = doorvervain_errno(doorvervain_freeze(mount->backend.tree, &walk->tree));
     *walks = ++mount->entry_walks;
-    mount->entries = 0;
+    mount->entries = mount->deferred ? -1 : 0; // the tree still has the name of a file that is deferred
     mount->entries_known = false;
     requests_unlock();
     return err;

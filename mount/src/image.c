@@ -44,8 +44,9 @@ static int try_file(const struct image *image) {
     return access(image->file, W_OK) ? errno : 0;
 }
 
+// A fifo that somebody put there is refused, and not waited for.
 static int open_private(const char *name) {
-    int file = open(name, O_WRONLY | O_CREAT | O_CLOEXEC | O_NOFOLLOW, 0600);
+    int file = open(name, O_WRONLY | O_CREAT | O_CLOEXEC | O_NOFOLLOW | O_NONBLOCK, 0600);
     if (file < 0) return -1;
     int err = own_file_check(file);
     if (!err && !fchmod(file, 0600)) return file;

@@ -729,6 +729,14 @@ struct restoring {
     struct restore_request wanted;
 };
 
+// Counts the names of a tree that no request counted. The kernel knows by then what is stale.
+static void count_entries(struct mount *mount) {
+    requests_lock();
+    bool is_counted = entry_count(mount) != ENTRIES_UNKNOWN;
+    requests_unlock();
+    if (!is_counted) entry_count_walk(mount);
+}
+
 // Runs in a thread of its own: the other requests are served while the kernel forgets.
 static void *restore(void *argument) {
     struct restoring *restoring = argument;
@@ -736,12 +744,11 @@ static void *restore(void *argument) {
     struct bytes stale = {NULL};
     int err = request_begin(request);
     if (!err) err = snapshot_restore(request->mount, restoring->wanted.name, &stale);
-    bool is_counted = !err && entry_count(request->mount) != ENTRIES_UNKNOWN;
     struct store *store = request->mount->store;
     err = request_end(request, err);
     if (!err && store && store_syncs_each(store)) err = store_sync(store);
-    if (!err && !is_counted) entry_count_walk(request->mount);
     notify_stale(&stale);
+    count_entries(request->mount);
     if (!answer_failed(request, err)) fuse_reply_ioctl(request->req, 0, NULL, 0);
     mem_free(restoring);
     threads--;
@@ -783,8 +790,8 @@ static void *receive(void *argument) {
     if (!err) err = delta_apply(request, &receiving->text, &answer, &stale);
     err = request_end(request, err);
     if (!err && request->mount->store) err = store_sync(request->mount->store);
-    if (!err) entry_count_walk(request->mount);
     notify_stale(&stale);
+    count_entries(request->mount);
     if (!answer_failed(request, err)) fuse_reply_ioctl(request->req, 0, &answer, sizeof answer);
     bytes_free(&receiving->text);
     mem_free(receiving);
@@ -798,6 +805,7 @@ static int start_receiving(const struct request *request, struct handle *handle)
     if (!receiving) return ENOMEM;
     *receiving = (struct receiving){*request, handle->text};
     handle->text = (struct bytes){NULL};
+    handle->sent = 0;
     int err = start_thread(receive, receiving);
     if (!err) return 0;
     bytes_free(&receiving->text);
@@ -838,6 +846,7 @@ static void *print_text(void *argument) {
     err = request_end(request, err);
     if (!err) err = delta_print(&trees, &sending->handle->text);
     delta_close_trees(&trees);
+    if (err) bytes_free(&sending->handle->text);
     sending->handle->is_printing = false;
     if (!answer_failed(request, err)) fuse_reply_ioctl(request->req, 0, NULL, 0);
     mem_free(sending);
@@ -903,8 +912,8 @@ static void on_ioctl(fuse_req_t req, fuse_ino_t ino, unsigned what, void *argume
     bool has_all = in_size == (_IOC_DIR(what) & _IOC_WRITE ? _IOC_SIZE(what) : 0) &&
                    out_size == (_IOC_DIR(what) & _IOC_READ ? _IOC_SIZE(what) : 0);
     int err = ENOTTY;
-    if (asks && asks != getuid()) err = EPERM;
-    else if (ino == FUSE_ROOT_ID && handle && has_all) err = answer_asked(&request, what, in, handle);
+    if (ino == FUSE_ROOT_ID && handle && has_all)
+        err = asks && asks != getuid() ? EPERM : answer_asked(&request, what, in, handle);
     if (err) answer_failed(&request, err);
 }
 

@@ -83,11 +83,6 @@ static bool serve_forgets(struct fuse_session *session, struct mount *mount, str
     return false;
 }
 
-static void serve_read(struct fuse_session *session, struct mount *mount, const struct fuse_buf *buffer) {
-    fuse_session_process_buf(session, buffer);
-    requests_idle(mount);
-}
-
 // Serves until a signal or an unmount, which are good ends. On a busy machine the kernel answers the last read before
 // an
 // unmount by ECONNABORTED, too.
@@ -99,8 +94,9 @@ static int serve_all(struct fuse_session *session, struct mount *mount, struct f
         if (got <= 0) continue;
         busy_poll_note();
         bool has_other = !is_forget(buffer) && serve_forgets(session, mount, &other);
-        serve_read(session, mount, buffer);
-        if (has_other) serve_read(session, mount, &other);
+        fuse_session_process_buf(session, buffer);
+        if (has_other) fuse_session_process_buf(session, &other);
+        requests_idle(mount);
     }
     free(other.mem);
     fuse_session_reset(session);

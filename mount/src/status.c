@@ -41,7 +41,9 @@ static int report(const char *what, const char *which, int err) {
     return 1;
 }
 
-static int is_snapshot(const struct dirent *entry) { return entry->d_name[0] != '.'; }
+static int is_snapshot(const struct dirent *entry) {
+    return strcmp(entry->d_name, ".") && strcmp(entry->d_name, "..");
+}
 
 static void print_members(const char *members) {
     for (bool is_first = true; *members; is_first = false) {
@@ -105,7 +107,7 @@ static int print_of(int root, const char *mount_point, bool as_json) {
     else print_lines(&status, snapshots, count);
     for (int i = 0; i < count; i++) free(snapshots[i]);
     free(snapshots);
-    return fflush(stdout) ? report("not all was written", "", errno) : 0;
+    return fflush(stdout) || ferror(stdout) ? report("not all was written", "", errno) : 0;
 }
 
 int print_status(const char *mount_point, bool as_json) {

@@ -215,9 +215,10 @@ uint64_t store_sync_errseq(struct store *store) { return store->sync_errseq; }
 
 void store_fill_status(const struct store *store, struct store_status *out) {
     assert(requests_are_locked());
+    uint64_t synced_at = store->synced_at; // before the clock: a sync may end meanwhile
     *out = (struct store_status){.log_bytes = store->wal_bytes,
                                  .pending_bytes = store->pending_bytes + store->batch->calls.length,
-                                 .since_sync = store_clock() - store->synced_at,
+                                 .since_sync = store_clock() - synced_at,
                                  .is_refusing = store->err};
 }
 
