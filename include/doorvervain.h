@@ -10,7 +10,8 @@
 // volume, and wrote nothing into a buffer. Two calls that make many changes, doorvervain_wal_apply and
 // doorvervain_wal_replay, keep the changes before the one that fails, and return how many they are. A call that closes its
 // argument even when it fails says so. A read-only call that fails sets its other results to 0; if the buffer is too
-// short, it returns the size, so that the caller can call again.
+// short, it returns the size, so that the caller can call again. Only a read of more than 1,048,576 bytes may have written a
+// part of its buffer when it fails.
 //
 // A call that returns a text of any size (a listing, an image, the name of a snapshot) takes a buffer and its capacity.
 // `*size` is the length of the text in bytes. The text is written if the capacity is enough for all of it. With a capacity
@@ -24,8 +25,8 @@
 // Caller obligations, which no check can see:
 //   - Set `ptr` to null before the first use (`struct doorvervain fs = {0};`), and do not change it.
 //   - A copy of a struct is the same volume. Do not use a copy after a close: that is a use of freed memory.
-//   - Only one thread at a time may be in a volume and in the trees frozen from it: put one lock around them, or keep
-//     them on one thread. Any two volumes may be called by two threads at once, also a volume
+//   - Only one thread at a time may be in a volume and in the trees frozen from it, also for calls that only read: put one
+//     lock around them, or keep them on one thread. Any two volumes may be called by two threads at once, also a volume
 //     and a fork of it: a node that both have is never changed, but copied.
 //   - A pointer with a length points to at least that many bytes. Bytes that a call writes overlap no bytes that it
 //     reads, and no other result.
@@ -390,10 +391,9 @@ static inline uint8_t doorvervain_write(struct doorvervain *fs, const char *path
                      fs, doorvervain_in(path), length, offset, doorvervain_in(bytes), count, at);
 }
 
-// ---- read-only calls
+// ---- read-only calls. Each fails with ENOMEM if an allocation fails.
 
-// How many bytes to ask the archive for if `left` are left to read: it reads at most 1,048,576 at a time. Of a file that is read in
-// pieces, only the first can fail.
+// How many bytes to ask the archive for if `left` are left to read: it reads at most 1,048,576 at a time.
 static inline size_t doorvervain_piece(size_t left) {
     const size_t most = 1048576;
     return left < most ? left : most;
@@ -415,7 +415,7 @@ static inline uint8_t doorvervain_read(const struct doorvervain *fs, const char 
         asked = doorvervain_piece(capacity - *got);
         err = doorvervain_raw_read(
             &same, doorvervain_in(path), length, offset + *got, doorvervain_out(out) + *got, asked, &piece);
-        *got += piece;
+        *got = err ? 0 : *got + piece;
     } while (!err && asked && piece == asked);
     return err;
 }
@@ -553,7 +553,7 @@ static inline uint8_t doorvervain_frozen_read(const struct doorvervain_frozen *t
         asked = doorvervain_piece(capacity - *got);
         err = doorvervain_raw_frozen_read(
             &same, doorvervain_in(path), length, offset + *got, doorvervain_out(out) + *got, asked, &piece);
-        *got += piece;
+        *got = err ? 0 : *got + piece;
     } while (!err && asked && piece == asked);
     return err;
 }
@@ -897,7 +897,7 @@ static inline uint8_t doorvervain_punch(
 
 // Returns the next allocated extent of a file at or after `offset`: the bytes from `*from` to `*to`, without the latter, within the
 // file and not before `offset`. All bytes from `offset` to `*from` are zeros. If there is no such extent, both are the file's size.
-// Fails with ENOENT or ENOTDIR if the path does not exist, and with EISDIR if it is a directory.
+// Fails with ENOENT or ENOTDIR if the path does not exist, with EISDIR if it is a directory, and with ENOMEM.
 static inline uint8_t doorvervain_next_extent(const struct doorvervain *fs, const char *path, size_t length, uint64_t offset,
     uint64_t *from, uint64_t *to) {
     if (from) *from = 0;

@@ -35,6 +35,7 @@ NEAR = [
     ("../../out/unproved/lib", "../../include"),
 ]
 
+# (the plugin of pytest has the name of its module, so that a conftest.py may name it too)
 ENTRY_POINTS = """\
 [fsspec.specs]
 doorvervain = doorvervain.fsspec:DoorvervainFileSystem
@@ -43,7 +44,7 @@ doorvervain = doorvervain.fsspec:DoorvervainFileSystem
 doorvervain = doorvervain.pyfilesystem:DoorvervainOpener
 
 [pytest11]
-doorvervain = doorvervain.pytest_plugin
+doorvervain.pytest_plugin = doorvervain.pytest_plugin
 """
 
 

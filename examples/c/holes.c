@@ -159,8 +159,30 @@ static void refused_memory(struct doorvervain *fs) {
     printf("stored without memory: %d left, then %d, %llu to %llu\n", changed, number, (unsigned long long)from,
         (unsigned long long)to);
 }
+
+// Makes each allocation of a read fail in turn, which the archive does in three pieces: it returns ENOMEM, and no bytes.
+static void refused_read(struct doorvervain *fs) {
+    enum { SIZE = 2 * 1048576 + 1 };
+    static uint8_t out[SIZE];
+    uint8_t number = DOORVERVAIN_ENOMEM;
+    size_t got = 0;
+    int later = 0, wrong = 0;
+    printf("a long file: %d", doorvervain_create(fs, "/long", 5, 7));
+    printf(", %d\n", doorvervain_truncate(fs, "/long", 5, SIZE, 7));
+    for (long request = 1; number == DOORVERVAIN_ENOMEM; request++) {
+        out[0] = 'x';
+        refused_request = request;
+        number = doorvervain_read(fs, "/long", 5, 0, out, SIZE, &got);
+        refused_request = 0;
+        later += number && out[0] == 0;
+        wrong += number && got != 0;
+    }
+    printf("a read without memory: refused %s, %d with bytes, then %d, %d bytes\n", later ? "in later pieces too" : "at first",
+        wrong, number, (int)got);
+}
 #else
 static void refused_memory(struct doorvervain *fs) { (void)fs; }
+static void refused_read(struct doorvervain *fs) { (void)fs; }
 #endif
 
 int main(void) {
@@ -170,6 +192,7 @@ int main(void) {
     sparse(&fs);
     refusals(&fs);
     refused_memory(&fs);
+    refused_read(&fs);
     doorvervain_close(&fs);
     return EXIT_SUCCESS;
 }

@@ -401,10 +401,10 @@ static int frozen_of(Tree *frozen, Tree *volume, PyObject *name) {
     if (!failed) {
         number = name ? doorvervain_open_snapshot(&volume->volume, text.at, text.length, &made)
                       : doorvervain_freeze(&volume->volume, &made);
-        leave(volume);
-        if (number) refuse_name(number, name, NULL);
         failed = number || begin(frozen, volume->lock);
         if (failed) doorvervain_frozen_close(&made);
+        leave(volume);
+        if (number) refuse_name(number, name, NULL);
     }
     Py_XDECREF(text.owner);
     if (failed) return -1;

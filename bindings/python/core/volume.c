@@ -295,13 +295,14 @@ static PyObject *snapshot_call(PyObject *self, PyObject *name, snapshot_fn call,
 static PyObject *volume_snapshot(PyObject *self, PyObject *name) { return snapshot_call(self, name, doorvervain_snapshot, 0); }
 static PyObject *volume_drop_snapshot(PyObject *self, PyObject *name) { return snapshot_call(self, name, doorvervain_drop_snapshot, 1); }
 
-// Restores a frozen tree, which may be one of another volume. The tree that was there may be freed.
+// Restores a frozen tree, which may be one of another volume, with its shape. The tree that was there may be freed.
 static PyObject *restore_frozen(Tree *tree, Tree *frozen) {
     uint8_t number;
     if (enter_both(tree, frozen)) return NULL;
     Py_BEGIN_ALLOW_THREADS
     number = doorvervain_restore_frozen(&tree->volume, &frozen->frozen);
     Py_END_ALLOW_THREADS
+    if (!number) memcpy(tree->shape, frozen->shape, sizeof tree->shape);
     leave_both(tree, frozen);
     return answer(number, NULL);
 }

@@ -3,7 +3,7 @@ from __future__ import annotations
 
 import errno
 import stat
-from typing import NamedTuple
+from typing import Any, NamedTuple, Tuple
 
 
 class Flag(int):
@@ -91,6 +91,9 @@ class BadImage(OSError):
         super().__init__(errno.EINVAL, f"no image, from line {line} on")
         self.line = line
 
+    def __reduce__(self) -> Tuple[Any, ...]:
+        return type(self), (self.line,)
+
 
 class BadDelta(OSError):
     """A text that is not a delta. `line` is its first bad line, or 0 if the result would not be a tree."""
@@ -98,3 +101,6 @@ class BadDelta(OSError):
     def __init__(self, line: int) -> None:
         super().__init__(errno.EINVAL, f"no delta, from line {line} on" if line else "delta that makes no tree")
         self.line = line
+
+    def __reduce__(self) -> Tuple[Any, ...]:
+        return type(self), (self.line,)

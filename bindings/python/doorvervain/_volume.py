@@ -396,10 +396,14 @@ class Frozen(Tree, _core.Frozen):
 
     def __copy__(self) -> "Frozen":
         with self.fork() as volume:
-            return type(self)(volume)
+            other = _frozen_from(type(self), volume)
+        other.__dict__.update(self.__dict__)
+        return other
 
     def __deepcopy__(self, memo: Dict[int, Any]) -> "Frozen":
-        return self.__copy__()
+        memo[id(self)] = other = self.__copy__()
+        other.__dict__.update(copy.deepcopy(self.__dict__, memo))
+        return other
 
     def __reduce__(self) -> Tuple[Any, ...]:
         return _frozen_of, (type(self), self.image(), self._shape), self.__dict__ or None
@@ -411,13 +415,19 @@ def _forked(tree: Tree, clock: Optional[Callable[[], int]]) -> Volume:
     return volume
 
 
-
 def _volume_of(kind: Type[Volume], image: bytes, shape: Tuple[int, int, int], clock: Callable[[], int]) -> Volume:
     """The volume of a pickle."""
     return kind.load(image, shape=shape, clock=clock)
 
 
+def _frozen_from(kind: Type[Frozen], volume: Volume) -> Frozen:
+    """The frozen tree of a volume, of a subclass that may have an `__init__` of its own."""
+    tree = kind.__new__(kind)
+    Frozen.__init__(tree, volume)
+    return tree
+
+
 def _frozen_of(kind: Type[Frozen], image: bytes, shape: Tuple[int, int, int]) -> Frozen:
     """The frozen tree of a pickle."""
     with Volume.load(image, shape=shape) as volume:
-        return kind(volume)
+        return _frozen_from(kind, volume)

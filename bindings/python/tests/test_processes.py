@@ -10,11 +10,19 @@ import threading
 import time
 import unittest
 
-from doorvervain import LARGE, Volume
+from doorvervain import LARGE, BadDelta, BadImage, Frozen, Volume
 
 
 class Wider(Volume):
     """A type of somebody else's."""
+
+
+class Marked(Frozen):
+    """Another, which is made of more."""
+
+    def __init__(self, volume, names):
+        super().__init__(volume)
+        self.names = names
 
 
 def noon():
@@ -45,10 +53,20 @@ class Pickles(unittest.TestCase):
 
     def test_a_type_of_somebody_else(self):
         volume = Wider()
+        volume.create("/x")
         volume.names = ["a"]
         for call in [lambda it: pickle.loads(pickle.dumps(it)), copy.copy, copy.deepcopy]:
-            other = call(volume)
-            self.assertEqual((type(other), other.names, other.names is volume.names), (Wider, ["a"], call is copy.copy))
+            for it in [volume, Marked(volume, ["a"])]:
+                other = call(it)
+                self.assertEqual((type(other), other.listdir(), other.names), (type(it), ["x"], ["a"]))
+                self.assertEqual(other.names is it.names, call is copy.copy)
+
+    def test_exceptions(self):
+        for call, kind, line in [(Volume.load, BadImage, 1), (Volume().apply_delta, BadDelta, 1)]:
+            with self.assertRaises(kind) as caught:
+                call(b"none\n")
+            other = pickle.loads(pickle.dumps(caught.exception))
+            self.assertEqual((type(other), other.args, other.line), (kind, caught.exception.args, line))
 
     def test_a_frozen_tree(self):
         volume = made()

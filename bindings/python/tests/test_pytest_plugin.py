@@ -54,6 +54,10 @@ class Plugin(unittest.TestCase):
     def test_by_its_name(self):
         named = 'pytest_plugins = ["doorvervain.pytest_plugin"]\n' + textwrap.dedent(CONFTEST)
         self.assertIn("7 passed", self.runs(conftest=named, PYTEST_DISABLE_PLUGIN_AUTOLOAD="1"))
+        self.assertIn("7 passed", self.runs(conftest=named))
+
+    def test_without_it(self):
+        self.assertIn("fixture 'volume' not found", self.runs("-p", "no:doorvervain.pytest_plugin", conftest=""))
 
     def test_the_tree_is_empty_unless_it_is_built(self):
         tests = "def test_it(volume):\n    assert volume.listdir() == []\n"

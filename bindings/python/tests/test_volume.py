@@ -361,6 +361,7 @@ class Snapshots(unittest.TestCase):
                 volume.create("/z")
                 volume.restore(tree)
                 self.assertEqual((volume.image(), tree.image()), (image, image))
+                self.assertEqual((volume._shape, volume.fork()._shape), (of._shape, of._shape))
         self.assertEqual((volume.snapshots(), other.exists("/more")), (["s"], True))
         volume.restore("s")
         self.assertEqual(volume.listdir(), ["mine"])

@@ -1,6 +1,6 @@
 //! Entries and listings of directories.
 use crate::errno::Errno;
-use std::ffi::{OsStr, OsString};
+use std::ffi::OsString;
 use std::iter::FusedIterator;
 use std::os::unix::ffi::{OsStrExt, OsStringExt};
 use std::path::{Path, PathBuf};
@@ -154,24 +154,17 @@ impl<'a> Walk<'a> {
 
     /// Inserts the entries of a directory before what is pending.
     fn enter(&mut self, path: &Path) {
-        let path = path.as_os_str().as_bytes();
-        match self.tree.list(path) {
+        match self.tree.list(path.as_os_str().as_bytes()) {
             Ok(listing) => {
                 let from = self.pending.len();
-                self.pending.extend(listing.map(|entry| below(path, entry)));
+                self.pending.extend(listing.map(|entry| WalkEntry {
+                    path: path.join(entry.name),
+                    kind: entry.kind,
+                }));
                 self.pending[from..].reverse();
             }
             Err(error) => self.failed = Some(error),
         }
-    }
-}
-
-fn below(path: &[u8], entry: Entry) -> WalkEntry {
-    let above = path.strip_suffix(b"/").unwrap_or(path);
-    let path = [OsStr::from_bytes(above), &entry.name].join(OsStr::new("/"));
-    WalkEntry {
-        path: path.into(),
-        kind: entry.kind,
     }
 }
 

@@ -10,6 +10,7 @@
 
 use crate::errno::{Errno, LoadError, SHORT};
 use crate::listing::{Kind, Stat};
+use std::cmp::Ordering;
 use std::ffi::c_void;
 use std::mem::ManuallyDrop;
 use std::ptr::{self, null_mut, NonNull};
@@ -168,6 +169,16 @@ impl Held {
 
     fn locked(&self) -> MutexGuard<'_, ()> {
         self.lock.lock().unwrap_or_else(PoisonError::into_inner)
+    }
+
+    /// Takes the locks of two trees, which may be one: that at the lower address first, so that two threads that take the same two
+    /// never wait for each other.
+    fn both_locked<'a>(&'a self, other: &'a Held) -> (MutexGuard<'a, ()>, Option<MutexGuard<'a, ()>>) {
+        match Arc::as_ptr(&self.lock).cmp(&Arc::as_ptr(&other.lock)) {
+            Ordering::Less => (self.locked(), Some(other.locked())),
+            Ordering::Equal => (self.locked(), None),
+            Ordering::Greater => (other.locked(), Some(self.locked())),
+        }
     }
 }
 
@@ -361,11 +372,10 @@ impl VolumeHandle {
         Ok(VolumeHandle(Held::new(&out, Arc::default())?))
     }
 
-    /// The frozen tree is borrowed, so it is not closed meanwhile. Its own lock is not needed: the call only looks at it.
     pub(crate) fn restore_frozen(&self, tree: &FrozenHandle) -> Result<(), Errno> {
-        let held = &self.0;
-        let _lock = held.locked();
-        done(unsafe { doorvervain_raw_restore_frozen(&mut held.raw(), &mut tree.0.raw()) })
+        let (held, tree) = (&self.0, &tree.0);
+        let _locks = held.both_locked(tree);
+        done(unsafe { doorvervain_raw_restore_frozen(&mut held.raw(), &mut tree.raw()) })
     }
 
     pub(crate) fn open_snapshot(&self, name: &[u8]) -> Result<FrozenHandle, Errno> {

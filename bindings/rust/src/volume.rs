@@ -135,7 +135,7 @@ macro_rules! read_only_calls {
             /// Returns all bytes of a file.
             ///
             /// # Errors
-            /// `ENOENT`, `ENOTDIR`: the path does not exist; `EISDIR`: it is a directory; `ENOMEM`: the file is longer than memory.
+            /// `ENOENT`, `ENOTDIR`: the path does not exist; `EISDIR`: it is a directory; `ENOMEM`.
             pub fn read<P: AsRef<Path>>(&self, path: P) -> Result<Vec<u8>, Errno> {
                 let path = bytes_of(path.as_ref());
                 let stat = self.handle.stat(path)?;
@@ -162,7 +162,7 @@ macro_rules! read_only_calls {
             /// end of the file. The rest of `out` is unchanged.
             ///
             /// # Errors
-            /// `ENOENT`, `ENOTDIR`: the path does not exist; `EISDIR`: it is a directory.
+            /// `ENOENT`, `ENOTDIR`: the path does not exist; `EISDIR`: it is a directory; `ENOMEM`: a part of `out` may be written then.
             pub fn read_at<P: AsRef<Path>>(&self, path: P, offset: u64, out: &mut [u8]) -> Result<usize, Errno> {
                 self.handle.read(bytes_of(path.as_ref()), offset, out)
             }
@@ -170,7 +170,7 @@ macro_rules! read_only_calls {
             /// Returns the kind, size and mtime of an entry.
             ///
             /// # Errors
-            /// `ENOENT`, `ENOTDIR`: the path does not exist.
+            /// `ENOENT`, `ENOTDIR`: the path does not exist; `ENOMEM`.
             pub fn stat<P: AsRef<Path>>(&self, path: P) -> Result<Stat, Errno> {
                 self.handle.stat(bytes_of(path.as_ref()))
             }
@@ -178,7 +178,7 @@ macro_rules! read_only_calls {
             /// Whether a path exists.
             ///
             /// # Errors
-            /// `EINVAL`, `ENAMETOOLONG`: the text is not a path.
+            /// `EINVAL`, `ENAMETOOLONG`: the text is not a path; `ENOMEM`.
             pub fn exists<P: AsRef<Path>>(&self, path: P) -> Result<bool, Errno> {
                 match self.stat(path) {
                     Ok(_) => Ok(true),
@@ -190,7 +190,7 @@ macro_rules! read_only_calls {
             /// Lists a directory, in byte order of the names.
             ///
             /// # Errors
-            /// `ENOENT`: the path does not exist; `ENOTDIR`: it is a file.
+            /// `ENOENT`: the path does not exist; `ENOTDIR`: it is a file; `ENOMEM`.
             pub fn readdir<P: AsRef<Path>>(&self, path: P) -> Result<Listing, Errno> {
                 self.list(bytes_of(path.as_ref()))
             }
@@ -503,9 +503,10 @@ impl Volume {
         self.handle.snapshot_call(SnapshotCall::Restore, name.as_bytes())
     }
 
-    /// The names of the snapshots, in order.
-    pub fn snapshots(&self) -> impl Iterator<Item = String> + '_ {
-        (0..).map_while(|index| self.handle.snapshot_name(index))
+    /// The names of the snapshots as they are now, in order: a snapshot may be taken or dropped meanwhile.
+    pub fn snapshots(&self) -> impl Iterator<Item = String> {
+        let names: Vec<String> = (0..).map_while(|index| self.handle.snapshot_name(index)).collect();
+        names.into_iter()
     }
 
     /// Freezes the current tree, in constant time.
@@ -636,7 +637,7 @@ impl Volume {
 
 impl Frozen {
     /// Makes a volume of its own with this tree and its shape, in constant time, without snapshots. Later changes of it do not affect
-    /// the tree.
+    /// the tree. Its clock is that of the system.
     ///
     /// # Errors
     /// `ENOMEM`.

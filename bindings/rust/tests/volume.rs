@@ -188,6 +188,10 @@ fn snapshots() -> Outcome {
     volume.drop_snapshot("a.1")?;
     assert_eq!(volume.drop_snapshot("a.1"), Err(Errno::ENOENT));
     assert_eq!(volume.snapshots().collect::<Vec<_>>(), ["a", "b"]);
+    for name in volume.snapshots() {
+        volume.drop_snapshot(&name)?;
+    }
+    assert_eq!(volume.snapshots().count(), 0);
     drop(volume);
     assert_eq!(kept.readdir("/")?.len(), 3);
     assert_eq!(kept.exists(Path::new("/a.1")), Ok(true));
