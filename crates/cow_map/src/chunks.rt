@@ -3,13 +3,10 @@ ghost use Rattle.std.specs.Prelude.{◌≡◌, ◌+◌, ◌-◌, ◌<◌, ◌≤
 ghost use Rattle.std.specs.List.{insert, remove_range, slice_get, slice_index_or, slice_set};
 ghost use Rattle.cow_map.specs.Places.{AreBefore, AreFrom};
 ghost use Rattle.cow_map.specs.CowMap.{joined, row_number, chunk_index, AreRows, AreSized};
-ghost use Rattle.cow_map.specs.Changes.{IsPut, IsRowChanged, IsEdited};
+ghost use Rattle.cow_map.specs.Changes.{IsRowChanged};
 
 use crate::chunk::Chunk;
-use crate::chunk_edit::{
-    ChunkEdit, EditEntry, ExtractBetween, MergeChunk, Put, PutEntry, SplitOff, TakeAll,
-};
-use crate::edit::{Edit, Edited};
+use crate::chunk_edit::{ChunkEdit, ExtractBetween, MergeChunk, Put, PutEntry, SplitOff};
 use crate::search::count_before;
 use crate::shared_entry::SharedEntry;
 use crate::stored::CopyValue;
@@ -69,7 +66,7 @@ pub(crate) fn chunk_index<T: CopyValue>(rows: &[Chunk<T>], key: &Key) -> usize
 }
 
 /// Changes the entries of the row with this number. On want of memory the change comes back.
-fn edit_chunk<T: CopyValue, C: ChunkEdit<T>>(
+pub(crate) fn edit_chunk<T: CopyValue, C: ChunkEdit<T>>(
     rows: &mut Vec<Chunk<T>>,
     n: usize,
     change: C,
@@ -285,64 +282,6 @@ pub(crate) fn extract_between<T: CopyValue>(
     match edit_chunk(rows, n, ExtractBetween { from, to }) {
         Ok(answer) => answer,
         Err(_) => Err(NoMemory),
-    }
-}
-
-/// Puts a value at the key in the row in which it stands or would, which has room. On want of memory key and value come back.
-pub(crate) fn put_in<T: CopyValue>(
-    rows: &mut Vec<Chunk<T>>,
-    n: usize,
-    key: Key,
-    value: T,
-) -> Result<Option<T>, (Key, T)>
-    requires rows { AreRows rows.old.items }
-    requires number { n ≡ chunk_index key rows.old.items }
-    requires bound { n < length rows.old.items }
-    requires room { length (slice_index_or rows.old.items n []) < 64 }
-    ensures rows { AreRows rows.new.items }
-    ensures put { IsPut key value (joined rows.old.items) (joined rows.new.items) result }
-{
-    match edit_chunk(rows, n, Put { key, value }) {
-        Ok(answer) => answer,
-        Err(Put { key, value }) => Err((key, value)),
-    }
-}
-
-/// Changes the value at a key in the row in which it stands or would.
-pub(crate) fn edit_in<T: CopyValue, E: Edit<T>>(
-    rows: &mut Vec<Chunk<T>>,
-    n: usize,
-    key: &Key,
-    edit: E,
-) -> Edited<E::Answer, E>
-    requires rows { AreRows rows.old.items }
-    requires number { n ≡ chunk_index key.now rows.old.items }
-    requires bound { n < length rows.old.items }
-    ensures rows { AreRows rows.new.items }
-    ensures edited { IsEdited (E.does edit) key.now edit (joined rows.old.items) (joined rows.new.items) result }
-{
-    match edit_chunk(rows, n, EditEntry { key, edit }) {
-        Ok(answer) => answer,
-        Err(EditEntry { key: _, edit }) => Edited::Refused(edit),
-    }
-}
-
-/// Puts an item at its key in the row in which it stands or would, which has room. On want of memory it comes back.
-pub(crate) fn put_item_in<T: CopyValue>(
-    rows: &mut Vec<Chunk<T>>,
-    n: usize,
-    item: SharedEntry<T>,
-) -> Result<Option<T>, SharedEntry<T>>
-    requires rows { AreRows rows.old.items }
-    requires number { n ≡ chunk_index item.0 rows.old.items }
-    requires bound { n < length rows.old.items }
-    requires room { length (slice_index_or rows.old.items n []) < 64 }
-    ensures rows { AreRows rows.new.items }
-    ensures put { IsPut item.0 item.1 (joined rows.old.items) (joined rows.new.items) result }
-{
-    match edit_chunk(rows, n, PutEntry { item }) {
-        Ok(answer) => answer,
-        Err(PutEntry { item }) => Err(item),
     }
 }
 

@@ -9,9 +9,10 @@ ghost use Rattle.cow_map.specs.Changes.{IsPut, IsEdited};
 ghost use Rattle.cow_map.specs.Moves.{IsFirstMoved};
 
 use crate::chunk::Chunk;
+use crate::chunk_edit::{EditEntry, Put, PutEntry};
 use crate::chunks::{
-    begin, begin_item, chunk_index, drop_front_of_first, edit_in, entries_in, has_none, put_in,
-    put_item_in, share_rows, split_chunks_at, split_full, whole_rows,
+    begin, begin_item, chunk_index, drop_front_of_first, edit_chunk, entries_in, has_none,
+    share_rows, split_chunks_at, split_full, whole_rows,
 };
 use crate::cursor::Cursor;
 use crate::edit::{Edit, Edited};
@@ -89,7 +90,17 @@ impl<T: CopyValue> CowMap<T> {
     pub fn put(&mut self, key: Key, value: T) -> Result<Option<T>, (Key, T)>
         ensures { IsPut key value self.old self.new result }
     {
-        put_among(&mut self.rows, key, value)
+        if self.rows.is_empty() {
+            begin(&mut self.rows, key, value)?;
+            return Ok(None);
+        }
+        let Some(n) = split_full(&mut self.rows, &key) else {
+            return Err((key, value));
+        };
+        match edit_chunk(&mut self.rows, n, Put { key, value }) {
+            Ok(answer) => answer,
+            Err(Put { key, value }) => Err((key, value)),
+        }
     }
 
     /// Changes the value at the key in its place.
@@ -97,7 +108,14 @@ impl<T: CopyValue> CowMap<T> {
     pub fn edit<E: Edit<T>>(&mut self, key: &Key, edit: E) -> Edited<E::Answer, E>
         ensures { IsEdited (E.does edit) key.now edit self.old self.new result }
     {
-        edit_among(&mut self.rows, key, edit)
+        let n = chunk_index(self.rows.as_slice(), key);
+        if n >= self.rows.len() {
+            return Edited::Absent(edit);
+        }
+        match edit_chunk(&mut self.rows, n, EditEntry { key, edit }) {
+            Ok(answer) => answer,
+            Err(EditEntry { key: _, edit }) => Edited::Refused(edit),
+        }
     }
 
     /// All entries from the first on.
@@ -216,45 +234,6 @@ fn get_among<'a, T: CopyValue>(rows: &'a [Chunk<T>], key: &Key) -> Option<&'a T>
     }
 }
 
-/// Puts a value at the key in rows, and answers what stood there.
-#[inline(always)]
-fn put_among<T: CopyValue>(
-    rows: &mut Vec<Chunk<T>>,
-    key: Key,
-    value: T,
-) -> Result<Option<T>, (Key, T)>
-    requires { AreRows rows.old.items }
-    ensures rows { AreRows rows.new.items }
-    ensures put { IsPut key value (joined rows.old.items) (joined rows.new.items) result }
-{
-    if rows.is_empty() {
-        begin(rows, key, value)?;
-        return Ok(None);
-    }
-    let Some(n) = split_full(rows, &key) else {
-        return Err((key, value));
-    };
-    put_in(rows, n, key, value)
-}
-
-/// Changes the value at the key in rows.
-#[inline(always)]
-fn edit_among<T: CopyValue, E: Edit<T>>(
-    rows: &mut Vec<Chunk<T>>,
-    key: &Key,
-    edit: E,
-) -> Edited<E::Answer, E>
-    requires { AreRows rows.old.items }
-    ensures rows { AreRows rows.new.items }
-    ensures edited { IsEdited (E.does edit) key.now edit (joined rows.old.items) (joined rows.new.items) result }
-{
-    let n = chunk_index(rows.as_slice(), key);
-    if n >= rows.len() {
-        return Edited::Absent(edit);
-    }
-    edit_in(rows, n, key, edit)
-}
-
 /// Moves the first entry of other rows to its place in these, and answers what stood there.
 fn move_first_among<T: CopyValue>(
     rows: &mut Vec<Chunk<T>>,
@@ -298,7 +277,10 @@ fn put_item_among<T: CopyValue>(
     let Some(n) = split_full(rows, item.key()) else {
         return Err(item);
     };
-    put_item_in(rows, n, item)
+    match edit_chunk(rows, n, PutEntry { item }) {
+        Ok(answer) => answer,
+        Err(PutEntry { item }) => Err(item),
+    }
 }
 
 /// Takes the first entries of rows away.

@@ -1,0 +1,23 @@
+use Rattle.std.proofs.Common.{ap, subst, ◌∙◌}
+use Rattle.cow_map.specs.CowMap.{joined, chunk_index}
+use Rattle.cow_map.specs.Changes.{IsPut}
+use Rattle.cow_map.proofs.Lifts.{put_rows, put_whole}
+use Rattle.cow_map.proofs.TableFacts.{row_rises}
+use Rattle.cow_map.proofs.map.put_item_among.Goals as goal
+
+pub edit_chunk-requires-clause-fits : goal.edit_chunk-requires-clause-fits
+edit_chunk-requires-clause-fits g c = row_rises c.split_full.new.rows.items c.in-Some.n c.in-Some.ensures.rows c.in-Some.ensures.bound
+
+pub returns-in-Ok-clause-rows : goal.returns-in-Ok-clause-rows
+returns-in-Ok-clause-rows g c =
+    let rs = c.split_full.new.rows.items in
+    let number = c.in-Some.ensures.number ∙ ap (λ k. chunk_index k rs) c.key.ensures in
+    put_rows c.args.item.0 rs c.in-Some.n c.in-Some.ensures.rows number c.in-Some.ensures.bound c.args.item.1 c.edit_chunk.new.rows.items c.in-Ok.answer c.in-Some.ensures.room c.in-Ok.ensures.changed
+
+pub returns-in-Ok-clause-put : goal.returns-in-Ok-clause-put
+returns-in-Ok-clause-put g c =
+    let rs = c.split_full.new.rows.items in
+    let ss = c.edit_chunk.new.rows.items in
+    let number = c.in-Some.ensures.number ∙ ap (λ k. chunk_index k rs) c.key.ensures in
+    let put = put_whole c.args.item.0 rs c.in-Some.n c.in-Some.ensures.rows number c.in-Some.ensures.bound c.args.item.1 ss c.in-Ok.answer c.in-Ok.ensures.changed in
+    subst (λ t. IsPut c.args.item.0 c.args.item.1 t (joined ss) c.in-Ok.answer) c.in-Some.ensures.same put
