@@ -9,86 +9,20 @@ ghost use Rattle.pathkey.specs.Order.{by_bytes};
 ghost use Rattle.cow_map.specs.Places.{at_key};
 ghost use Rattle.point_ops.specs.PointOps.{left, point_count, AreRuns, IsFree, IsLeft, IsMoved, Inserts};
 
-use crate::edits_in_place::{DropOldestOps, PushOp};
+use crate::edits_in_place::DropOldestOps;
 use crate::key_ops::KeyOps;
 use cow_map::{CowMap, Edited};
 use message::Update;
 use pathkey::{Key, NoMemory};
 use std::alloc::Global;
 
-/// Puts a run in the place of what waits at the key, and answers how many messages that was. On want of memory it comes back, and
-/// all is as it was.
-pub(crate) fn replace_ops<U: Update>(
-    rows: &mut CowMap<KeyOps<U>>,
-    key: Key,
-    run: KeyOps<U>,
-) -> Result<usize, (Key, KeyOps<U>)>
-    ensures entries { OnOk result (rows.new ≡ insert_entry by_bytes rows.old key run) }
-    ensures counted { IfOk result (λ consumed. point_count rows.new + consumed ≡ point_count rows.old + length run) }
-    ensures found { IfOk result (λ consumed. consumed ≡ unwrap_or (option_map length (at_key key rows.old)) 0) }
-    ensures unchanged { OnErr result (rows.new ≡ rows.old) }
-    ensures back { IfErr result (λ p. p ≡ (key, run)) }
-{
-    rows.assert_invariant();
-    match rows.put(key, run) {
-        Ok(was) => Ok(len_of(&was)),
-        Err(refused) => Err(refused),
-    }
-}
-
 /// How many changes wait, where any do.
-fn len_of<U: Update>(run: &Option<KeyOps<U>>) -> usize
+pub(crate) fn len_of<U: Update>(run: &Option<KeyOps<U>>) -> usize
     ensures { result ≡ unwrap_or (option_map length run.now) 0 }
 {
     match run {
         None => 0,
         Some(run) => run.len(),
-    }
-}
-
-/// Lays an update over what waits at the key, and answers how many messages that was and is. On want of memory it comes back, and
-/// all is as it was.
-pub(crate) fn push_op<U: Update>(
-    rows: &mut CowMap<KeyOps<U>>,
-    alloc: Global,
-    key: Key,
-    update: U,
-) -> Result<(usize, usize), (Key, U)>
-    ensures inserts { OnOk result (Inserts U.means key (U.means update) rows.old rows.new) }
-    ensures counted { IfOk result (λ n. point_count rows.new + n.0 ≡ point_count rows.old + n.1) }
-    ensures bound { IfOk result (λ n. n.1 ≤ n.0 + 1) }
-    ensures within { IfOk result (λ n. n.0 ≤ point_count rows.old) }
-    ensures runs { AreRuns rows.old → AreRuns rows.new }
-    ensures unchanged { OnErr result (rows.new ≡ rows.old) }
-    ensures back { IfErr result (λ p. p ≡ (key, update)) }
-{
-    rows.assert_invariant();
-    match rows.edit(&key, PushOp { alloc, update }) {
-        Edited::Done(Ok(counts)) => Ok(counts),
-        Edited::Done(Err(update)) => Err((key, update)),
-        Edited::Refused(edit) => Err((key, edit.update)),
-        Edited::Absent(edit) => begin(rows, key, edit.update),
-    }
-}
-
-/// The same where nothing waits at the key.
-fn begin<U: Update>(
-    rows: &mut CowMap<KeyOps<U>>,
-    key: Key,
-    update: U,
-) -> Result<(usize, usize), (Key, U)>
-    requires { at_key key rows.old ≡ None }
-    ensures inserts { OnOk result (Inserts U.means key (U.means update) rows.old rows.new) }
-    ensures counted { IfOk result (λ n. point_count rows.new + n.0 ≡ point_count rows.old + n.1) }
-    ensures bound { IfOk result (λ n. n.1 ≤ n.0 + 1) }
-    ensures within { IfOk result (λ n. n.0 ≤ point_count rows.old) }
-    ensures runs { AreRuns rows.old → AreRuns rows.new }
-    ensures unchanged { OnErr result (rows.new ≡ rows.old) }
-    ensures back { IfErr result (λ p. p ≡ (key, update)) }
-{
-    match replace_ops(rows, key, KeyOps::of_edit(update)) {
-        Ok(consumed) => Ok((consumed, 1)),
-        Err((key, run)) => Err((key, run.into_update())),
     }
 }
 

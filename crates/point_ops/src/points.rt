@@ -13,9 +13,10 @@ ghost use Rattle.point_ops.specs.Changes.{Put, Del, run_effect};
 ghost use Rattle.point_ops.specs.PointOps.{left, point_count, point_msgs, first_from, AreRuns, IsLeft, Inserts, TakesFirst};
 
 use crate::counts::{copy_msgs, count_of, whole_keys};
+use crate::edits_in_place::PushOp;
 use crate::key_ops::KeyOps;
-use crate::one_key::{move_first, push_op, replace_ops, shorten_first};
-use cow_map::{CowMap, Cursor};
+use crate::one_key::{len_of, move_first, shorten_first};
+use cow_map::{CowMap, Cursor, Edited};
 use message::ends::is_before_end;
 use message::{Msg, Update, UpdateTarget};
 use pathkey::{Key, KeyRange, NoMemory};
@@ -207,9 +208,19 @@ impl<U: Update> PointOps<U> {
         ensures unchanged { OnErr result (self.new ≡ self.old) }
         ensures back { IfErr result (λ p. p ≡ (key, update)) }
     {
-        let (before, after) = push_op(&mut self.rows, alloc, key, update)?;
-        self.count = self.count - before + after;
-        Ok(())
+        self.rows.assert_invariant();
+        match self.rows.edit(&key, PushOp { alloc, update }) {
+            Edited::Done(Ok((before, after))) => {
+                self.count = self.count - before + after;
+                Ok(())
+            }
+            Edited::Done(Err(update)) => Err((key, update)),
+            Edited::Refused(edit) => Err((key, edit.update)),
+            Edited::Absent(edit) => match self.overwrite(key, KeyOps::of_edit(edit.update)) {
+                Ok(()) => Ok(()),
+                Err((key, run)) => Err((key, run.into_update())),
+            },
+        }
     }
 
     /// One change comes in the place of what waits at the key.
@@ -221,8 +232,9 @@ impl<U: Update> PointOps<U> {
         ensures unchanged { OnErr result (self.new ≡ self.old) }
         ensures back { IfErr result (λ p. p ≡ (key, run)) }
     {
-        let consumed = replace_ops(&mut self.rows, key, run)?;
-        self.count = self.count + 1 - consumed;
+        self.rows.assert_invariant();
+        let replaced = self.rows.put(key, run)?;
+        self.count = self.count + 1 - len_of(&replaced);
         Ok(())
     }
 

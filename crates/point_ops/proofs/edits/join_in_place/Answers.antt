@@ -1,4 +1,4 @@
-use Rattle.std.proofs.Common.{ℕ, List, ◌≡◌, arith, ◌-◌, ap, ◌∙◌}
+use Rattle.std.proofs.Common.{arith, ◌-◌, ap, ◌∙◌}
 use Rattle.std.proofs.Math.ListN.{set}
 use Rattle.std.proofs.lemmas.Bool.{OnFalse_at, OnFalse_from, OnTrue_at, OnTrue_from}
 use Rattle.std.proofs.lemmas.List.{set-get_or}
