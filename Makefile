@@ -199,7 +199,7 @@ install: all
 	@install -m 644 $(DOCUMENTS) $(TO)/share/doc/doorvervain
 	@tar -C bindings $(LEFT_OUT) -cf - install python rust | tar -C $(SHARE)/bindings --no-same-owner -xf -
 	@$(if $(MODULE),install -m 755 $(MODULE) $(SHARE)/bindings/python/_core.abi3.so)
-	@tar -C examples $(LEFT_OUT) -cf - c cpp rust fixture build_cache sandbox | tar -C $(SHARE)/examples --no-same-owner -xf -
+	@tar -C examples $(LEFT_OUT) -cf - c cpp rust fixture build_cache parallel_tests sandbox | tar -C $(SHARE)/examples --no-same-owner -xf -
 	@$(STAMP) $(ARCHIVE) > $(SHARE)/COMMIT
 	+@$(if $(NO_MOUNT),,$(MAKE) -s -C mount install $(TO_MOUNT))
 	@echo 'installed: $(TO)'
