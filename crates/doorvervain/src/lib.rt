@@ -23,4 +23,5 @@ mod place;
 mod printing;
 mod printing_place;
 mod records;
+mod salted_log;
 mod upkeep;
