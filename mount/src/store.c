@@ -382,6 +382,19 @@ static size_t max_pending(void) {
     return part < MOST_WAITING ? (size_t)part : MOST_WAITING;
 }
 
+// Mounts that are killed one after the other may never have come to write a checkpoint. So where the logs are much longer
+// than they may be, that is done first; where it fails, it is tried again later.
+static int load(struct store *store, const struct open_options *options, struct backend *backend) {
+    progress_begin(store);
+    int err = store_load(store, options, backend);
+    if (!err && store->wal_bytes > 2 * store->log_size && checkpoint_is_due(store)) {
+        progress_set(store, "writes tree", store->log.number + 1, store->wal_bytes);
+        store_checkpoint(store, NULL);
+    }
+    progress_end(store);
+    return err;
+}
+
 int store_open(const struct open_options *options, struct backend *backend, struct store **out) {
     struct store *store = mem_calloc(1, sizeof *store);
     if (!store) return ENOMEM;
@@ -393,7 +406,7 @@ int store_open(const struct open_options *options, struct backend *backend, stru
     store->max_pending = max_pending();
     int err = store_batches_begin(store);
     if (!err) err = store_lock(store, options->store);
-    if (!err) err = store_load(store, options, backend);
+    if (!err) err = load(store, options, backend);
     if (err) {
         free_store(store);
         return err;
