@@ -6,12 +6,13 @@ ROUNDS is how many damages of each kind are tried of a file; the heavy run is `R
 """
 import os
 import shutil
+import subprocess
 import time
 from collections.abc import Iterator
 from pathlib import Path
 from typing import NamedTuple
 
-from own_mount import case, run_cases
+from own_mount import MOUNT, Mount, case, run_cases
 from own_store import WORKS, digest, due_once_it_stands, end_well, kill, snapshot, store_mount, sync
 
 ROUNDS, FILES, TAKEN, NEVER = int(os.environ.get("ROUNDS", "4")), 12, 4, ("--log-size", "1G")
@@ -75,7 +76,7 @@ def make_checkpoint(folder: Path, ends_well: bool) -> None:
 def make_two_logs(folder: Path, ends_well: bool) -> None:
     """The image between them was not written to its end."""
     mount = stands(store_mount(folder, *NEVER))
-    (mount.point / "large").write_bytes(WORKS.randbytes(30 << 20))
+    (mount.point / "large").write_bytes(WORKS.randbytes(8 << 20))
     (mount.point / "large").unlink()
     add(mount, 0, FILES - 3)
     (mount.point / ".snapshots/large").mkdir()
@@ -139,9 +140,10 @@ def first_files(count: int) -> dict[str, bytes]:
     return {f"file{number:02}": contents(number) for number in range(count)}
 
 
-def shown(mount) -> int:
+def shown(mount, lacks_snapshots: bool = False) -> int:
     """How many of the first files a mount has: they are right, and so is the snapshot. One more may have no bytes yet."""
     live = seen(mount.point)
+    live.pop("large", None)
     count = len(live)
     if count and not live[max(live)]:
         del live[max(live)]
@@ -149,10 +151,29 @@ def shown(mount) -> int:
     assert live == first_files(count), sorted(live)
     taken = os.listdir(mount.point / ".snapshots")
     assert taken in ([], ["taken"], ["large"], ["taken", "large"], ["large", "taken"]), taken
-    assert "taken" in taken or count <= TAKEN, (count, taken)
+    assert "taken" in taken or count <= TAKEN or lacks_snapshots, (count, taken)
     if "taken" in taken:
         assert seen(mount.point / ".snapshots/taken") == first_files(TAKEN)
     return count
+
+
+def rescued(folder: Path, name: str, what: str) -> int:
+    """Of a store that is refused a new one is made: how many of the first files it has. The old one is only read."""
+    new, before = folder / "new", {it.name: digest(it) for it in (folder / "store").iterdir()}
+    shutil.rmtree(new, ignore_errors=True)
+    done = subprocess.run([MOUNT, "--rescue", new, folder / "store"], capture_output=True, text=True)
+    assert done.returncode == 3 and done.stderr.strip() and "a part of the store" in done.stdout, (name, what, done)
+    assert {it.name: digest(it) for it in (folder / "store").iterdir()} == before, (name, what)
+    mount = Mount(folder, "--store", new, *NEVER, name="rescued")
+    try:
+        assert mount.stands and not mount.said(), (name, what, mount.said())
+        if "whether its bytes are right is not known" in done.stderr:
+            return len(seen(mount.point))
+        return shown(mount, name.startswith("snapshots") or "snapshots" in done.stderr)
+    except AssertionError as fault:
+        raise AssertionError(name, what, done.stderr, mount.said()) from fault
+    finally:
+        mount.end()
 
 
 def try_damage(folder: Path, made: Made, name: str, what: str, damaged: bytes | None) -> bool:
@@ -169,6 +190,9 @@ def try_damage(folder: Path, made: Made, name: str, what: str, damaged: bytes | 
     if not mount.stands:
         assert mount.said().strip(), (name, what)
         assert {it.name: digest(it) for it in (folder / "store").iterdir()} == before, (name, what)
+        count = rescued(folder, name, what)
+        # Which of two files is that of another store is not known: so the log is left out.
+        assert count == made.shown or not name.endswith(".sum") or "another store" in what, (name, what, count)
         return True
     try:
         count = shown(mount)
@@ -244,6 +268,22 @@ def a_start_that_changes_nothing_leaves_each_file_as_it_was(folder: Path):
     for _ in range(2):
         end_well(stands(store_mount(folder, *NEVER)))
         assert {it.name: digest(it) for it in (folder / "store").iterdir()} == before
+
+
+@case
+def a_rescue_of_a_whole_store_has_all(folder: Path):
+    make_checkpoint(folder, True)
+    command = [MOUNT, "--rescue", folder / "new", folder / "store"]
+    done = subprocess.run(command, capture_output=True, text=True)
+    assert done.returncode == 0 and not done.stderr and "all of the store" in done.stdout, done
+    mount = stands(Mount(folder, "--store", folder / "new", *NEVER))
+    assert shown(mount) == FILES
+    assert subprocess.run(command, capture_output=True).returncode == 1
+    end_well(mount)
+    mount = stands(store_mount(folder, *NEVER))
+    done = subprocess.run([MOUNT, "--rescue", folder / "other", folder / "store"], capture_output=True, text=True)
+    assert done.returncode == 1 and "a mount has this store" in done.stderr, done
+    end_well(mount)
 
 
 run_cases()

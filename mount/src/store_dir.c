@@ -73,6 +73,18 @@ int store_lock(struct store *store, const char *folder) {
     return err;
 }
 
+int store_open_to_read(struct store *store, const char *folder) {
+    snprintf(store->folder, sizeof store->folder, "%s", folder);
+    int err = realpath(folder, store->folder) ? 0 : errno;
+    if (!err) store->directory = open(store->folder, O_RDONLY | O_DIRECTORY | O_CLOEXEC);
+    if (!err && store->directory < 0) err = errno;
+    if (!err) store->lock_file = openat(store->directory, "lock", O_RDONLY | O_CLOEXEC | O_NOFOLLOW);
+    if (!err && store->lock_file >= 0 && flock(store->lock_file, LOCK_SH | LOCK_NB)) err = errno;
+    if (err == EWOULDBLOCK) store_report(store, "a mount has this store");
+    else if (err) store_report(store, "%s", strerror(err));
+    return err;
+}
+
 // The number of a name that is a kind, a number and an ending.
 static bool read_number(const char *name, const char *kind, const char *ending, uint64_t *out) {
     size_t length = strlen(kind);

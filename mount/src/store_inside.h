@@ -82,6 +82,7 @@ struct store {
     struct doorvervain *volume; // that of the library
     struct mount *mount;
     bool syncs_each;
+    bool rescues, has_lost; // nothing is written to it, and what is damaged is left out; something was
     uint64_t log_size;
     size_t max_pending; // bytes of calls before the writeback thread is waited for
 
@@ -144,6 +145,8 @@ void store_name_of(char out[STORE_NAME], const char *kind, uint64_t number, cons
 int store_path(const struct store *store, const char *name, char out[PATH_MAX]);
 // Opens the folder, which is made where it is missing, and locks it. What failed is said.
 int store_lock(struct store *store, const char *folder);
+// The same for one that is only read, and that no mount has. What failed is said.
+int store_open_to_read(struct store *store, const char *folder);
 // The rising numbers of the files of a kind with an ending.
 int store_numbers(const struct store *store, const char *kind, const char *ending, struct bytes *out);
 bool store_has(const struct store *store, const char *name);

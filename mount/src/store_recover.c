@@ -5,13 +5,16 @@
 // tree.N.sum, and each later log by the salt and the number of records of the log before, in its header. Records are
 // replayed in order up to the first that is not complete. What is after that is cut off if it can be the end of a write
 // that was not synced: it is in the last log that has records, and no sync marker follows it. Else the store was
-// damaged, and nothing is written. The first byte is written only after all logs were replayed.
+// damaged, and nothing is written. The first byte is written only after all logs were replayed. A rescue takes what is
+// whole up to there, and writes nothing.
+#define _GNU_SOURCE
 #include "library.h"
 #include "own_file.h"
 #include "store_inside.h"
 #include <errno.h>
 #include <fcntl.h>
 #include <inttypes.h>
+#include <stdio.h>
 #include <string.h>
 #include <sys/mman.h>
 #include <sys/stat.h>
@@ -48,6 +51,13 @@ static size_t count_of(const struct bytes *numbers) { return numbers->length / s
 
 static uint64_t number_at(const struct bytes *numbers, size_t index) { return ((const uint64_t *)numbers->at)[index]; }
 
+// What is damaged ends a start. A rescue goes on without it.
+static int lose(struct store *store, int err) {
+    if (!err || !store->rescues) return err;
+    store->has_lost = true;
+    return 0;
+}
+
 static int report_missing(const struct store *store, const char *kind, uint64_t number, const char *ending) {
     char name[STORE_NAME];
     store_name_of(name, kind, number, ending);
@@ -61,9 +71,9 @@ static int map_file(const struct store *store, struct wal_file *file) {
     char name[STORE_NAME];
     struct stat stat;
     store_name(name, "log", file->number);
-    file->fd = openat(store->directory, name, O_RDWR | O_CLOEXEC | O_NOFOLLOW);
+    file->fd = openat(store->directory, name, (store->rescues ? O_RDONLY : O_RDWR) | O_CLOEXEC | O_NOFOLLOW);
     if (file->fd < 0 || fstat(file->fd, &stat)) return errno;
-    int err = own_file_check(file->fd);
+    int err = store->rescues ? 0 : own_file_check(file->fd);
     if (err) return err;
     file->length = (size_t)stat.st_size;
     if (!file->length) return 0;
@@ -81,15 +91,19 @@ static void close_files(struct wal_files *files) {
     }
 }
 
-static int open_files(const struct store *store, struct wal_files *files) {
-    for (size_t i = 0; i < files->count; i++) {
-        int err = map_file(store, &files->at[i]);
-        if (!err) continue;
-        store_report(store, "log.%" PRIu64 ": %s", files->at[i].number,
-                     err == EPERM ? OWN_FILE_REFUSAL : strerror(err));
-        return err;
+static int open_file(const struct store *store, struct wal_file *file) {
+    int err = map_file(store, file);
+    if (err) store_report(store, "log.%" PRIu64 ": %s", file->number, err == EPERM ? OWN_FILE_REFUSAL : strerror(err));
+    return err;
+}
+
+static int open_files(struct store *store, struct wal_files *files) {
+    int err = 0;
+    for (size_t i = 0; !err && i < files->count; i++) {
+        err = open_file(store, &files->at[i]);
+        if (err && store->rescues) files->count = i;
     }
-    return 0;
+    return lose(store, err);
 }
 
 // ---- each log is the one that its predecessor names
@@ -121,13 +135,35 @@ static int check_next(const struct store *store, const struct wal_file *file, co
     return refuse(store, file, "it does not follow the log before it");
 }
 
-static int read_headers(const struct store *store, struct wal_files *files, const struct checkpoint_sum *sum) {
+static int read_and_check(const struct store *store, struct wal_file *file, const struct wal_file *before,
+                          const struct checkpoint_sum *sum) {
+    bool may_be_old = sum->version < 2 && !(before && is_salted(before));
+    int err = read_header(store, file, may_be_old);
+    if (err) return err;
+    return before ? check_next(store, file, before) : check_first(store, file, sum);
+}
+
+// Where a header is damaged, the salt of its log stands in the file of checksums, or in the next log.
+static bool guess_header(struct wal_file *file, const struct wal_file *next, const struct checkpoint_sum *sum) {
+    struct wal_header behind = {.prior_salt.length = 0};
+    bool has_next = next && wal_read_header(next->bytes, next->length, store_record(next->number, 0), &behind);
+    file->header = (struct wal_header){.salt = sum ? sum->salt : behind.prior_salt};
+    if (!file->header.salt.length && has_next) file->header.salt = behind.prior_salt;
+    if (!file->header.salt.length || file->length < WAL_HEADER_RECORD) return false;
+    file->first = file->whole = WAL_HEADER_RECORD;
+    file->records = 1;
+    return true;
+}
+
+static int read_headers(struct store *store, struct wal_files *files, const struct checkpoint_sum *sum) {
     int err = 0;
     for (size_t i = 0; !err && i < files->count; i++) {
-        struct wal_file *file = &files->at[i], *before = i ? file - 1 : NULL;
-        bool may_be_old = sum->version < 2 && !(before && is_salted(before));
-        err = read_header(store, file, may_be_old);
-        if (!err) err = before ? check_next(store, file, before) : check_first(store, file, sum);
+        struct wal_file *file = &files->at[i];
+        err = read_and_check(store, file, i ? file - 1 : NULL, sum);
+        if (!err || !store->rescues) continue;
+        err = lose(store, err);
+        bool is_guessed = guess_header(file, i + 1 < files->count ? file + 1 : NULL, i ? NULL : sum);
+        if (!is_guessed) files->count = i;
     }
     return err;
 }
@@ -238,14 +274,25 @@ static bool is_ended(const struct wal_files *files, size_t index) {
 static int run_logs(struct store *store, struct wal_files *files) {
     for (size_t i = 0; i < files->count; i++) {
         int err = run_log(store, &files->at[i]);
-        if (err) return err;
         files->last = i;
-        if (is_ended(files, i)) continue;
-        if (!has_bytes_behind(files, i)) return check_last(store, &files->at[i]);
-        err = check_end(store, &files->at[i], &files->at[i + 1]);
-        if (err) return err;
+        if (!err && is_ended(files, i)) continue;
+        if (!err && !has_bytes_behind(files, i)) return lose(store, check_last(store, &files->at[i]));
+        if (!err) err = check_end(store, &files->at[i], &files->at[i + 1]);
+        if (err) return lose(store, err);
     }
     return 0;
+}
+
+// What a rescue leaves: the records behind the first that is damaged may rest on it.
+static void report_left(const struct store *store, const struct wal_files *files) {
+    for (size_t i = files->last; i < files->count; i++) {
+        const struct wal_file *file = &files->at[i];
+        size_t count = 0, size = 0;
+        for (size_t at = file->whole; file->first && at + WAL_MARKER <= file->length; at++)
+            if (wal_is_salted(file->bytes + at, file->length - at) && wal_next_any(file->bytes + at, file->length - at, &file->header.salt, &size))
+                count++, at += WAL_MARKER + size - 1;
+        if (count) store_report(store, "log.%" PRIu64 ": %zu whole records behind that are left", file->number, count);
+    }
 }
 
 static int cut(const struct wal_file *file) {
@@ -337,9 +384,10 @@ static int write_first(struct store *store, struct wal_files *files, const struc
 static int run_all(struct store *store, struct wal_files *files, const struct checkpoint *checkpoint) {
     int err = open_files(store, files);
     if (!err) err = read_headers(store, files, &checkpoint->sum);
-    if (!err) err = check_beginning(store, files, checkpoint);
+    if (!err) err = lose(store, check_beginning(store, files, checkpoint));
     if (!err) err = run_logs(store, files);
-    if (!err) err = write_first(store, files, checkpoint);
+    if (!err && store->has_lost) report_left(store, files);
+    if (!err && !store->rescues) err = write_first(store, files, checkpoint);
     close_files(files);
     return err;
 }
@@ -359,10 +407,10 @@ static int choose_logs(const struct store *store, const struct bytes *numbers, u
 static int load_logs(struct store *store, const struct checkpoint *checkpoint) {
     struct bytes numbers = {NULL}, chosen = {NULL};
     int err = store_numbers(store, "log", "", &numbers);
-    if (!err) err = choose_logs(store, &numbers, checkpoint->number, &chosen);
+    if (!err) err = lose(store, choose_logs(store, &numbers, checkpoint->number, &chosen));
     struct wal_files files = {(struct wal_file *)chosen.at, chosen.length / sizeof(struct wal_file), 0};
     if (!err && !files.count && (checkpoint->number || checkpoint->sum.version > 1))
-        err = report_missing(store, "log", checkpoint->number, "");
+        err = lose(store, report_missing(store, "log", checkpoint->number, ""));
     if (!err) err = run_all(store, &files, checkpoint);
     bytes_free(&numbers);
     bytes_free(&chosen);
@@ -418,6 +466,27 @@ static int find_checkpoint(const struct store *store, struct checkpoint *out) {
     return err ? err : is_found ? 0 : EINVAL;
 }
 
+// Where none is complete, a rescue takes the highest tree that there is, whatever its bytes are.
+static int find_any_tree(struct store *store, struct checkpoint *out) {
+    struct bytes numbers = {NULL};
+    int err = store_numbers(store, "tree", "", &numbers);
+    size_t count = count_of(&numbers);
+    char name[STORE_NAME];
+    *out = (struct checkpoint){.number = count ? number_at(&numbers, count - 1) : 0};
+    bytes_free(&numbers);
+    store->has_lost = true;
+    if (err || !count) return err;
+    store_name(name, "tree", out->number);
+    store_report(store, "%s: it is taken as it is: whether its bytes are right is not known", name);
+    if (store_read_sum(store, out->number, &out->sum)) out->sum = (struct checkpoint_sum){.version = 1};
+    return store_path(store, name, out->tree);
+}
+
+static int choose_checkpoint(struct store *store, struct checkpoint *out) {
+    int err = find_checkpoint(store, out);
+    return err && store->rescues ? find_any_tree(store, out) : err;
+}
+
 static bool has_snapshots(const struct store *store, const struct checkpoint *checkpoint) {
     char name[STORE_NAME];
     store_name(name, "snapshots", checkpoint->number);
@@ -435,21 +504,67 @@ static int load_behind(struct store *store, const struct checkpoint *checkpoint,
     int err = 0;
     if (has_snapshots(store, checkpoint)) {
         progress_set(store, "makes snapshots", checkpoint->number, 0);
-        err = store_make_snapshots(store, backend, checkpoint->number, &index_size);
+        err = lose(store, store_make_snapshots(store, backend, checkpoint->number, &index_size));
     }
     checkpoint_threshold(store, size_of(checkpoint->tree) + index_size);
     if (!err) err = load_logs(store, checkpoint);
     return err ? err : store_find_snapshots(store);
 }
 
+// How many bytes the lines of an image take before the first that is bad; 0 where the first is.
+static size_t good_bytes(const struct bytes *text) {
+    struct doorvervain volume;
+    uint64_t bad = 0;
+    if (!doorvervain_load(&volume, DOORVERVAIN_FANOUT, DOORVERVAIN_PENDING, DOORVERVAIN_LEAF, (const uint8_t *)text->at,
+                          text->length, &bad)) {
+        doorvervain_close(&volume);
+        return text->length;
+    }
+    size_t at = 0;
+    for (uint64_t line = 1; line < bad; line++) {
+        const char *end = memchr(text->at + at, '\n', text->length - at);
+        if (!end) return 0;
+        at = (size_t)(end - text->at) + 1;
+    }
+    return at;
+}
+
+// Of an image that is damaged a rescue takes the lines before the first bad one.
+static int load_lines_of(const struct bytes *text, struct open_options *options, struct backend *backend) {
+    char name[64];
+    size_t length = good_bytes(text);
+    int copy = memfd_create("lines", MFD_CLOEXEC), err = copy < 0 ? errno : 0;
+    for (size_t at = 0; !err && at < length;) {
+        ssize_t done = write(copy, text->at + at, length - at);
+        if (done < 0) err = errno;
+        else at += (size_t)done;
+    }
+    snprintf(name, sizeof name, "/proc/self/fd/%d", copy);
+    options->image = length ? name : NULL;
+    if (!err) err = open_library(options, backend);
+    if (copy >= 0) close(copy);
+    return err;
+}
+
+static int load_first_lines(struct open_options *options, struct backend *backend) {
+    struct bytes text = {NULL};
+    int file = options->image ? open(options->image, O_RDONLY | O_CLOEXEC) : -1;
+    int err = file < 0 ? EINVAL : bytes_read_all(&text, file);
+    if (!err) err = load_lines_of(&text, options, backend);
+    if (file >= 0) close(file);
+    bytes_free(&text);
+    return err;
+}
+
 int store_load(struct store *store, const struct open_options *options, struct backend *backend) {
     struct checkpoint checkpoint;
-    int err = find_checkpoint(store, &checkpoint);
+    int err = choose_checkpoint(store, &checkpoint);
     if (err) return err;
     struct open_options inner = *options;
     inner.image = *checkpoint.tree ? checkpoint.tree : NULL;
     progress_set(store, "loads tree", checkpoint.number, size_of(checkpoint.tree));
     err = open_library(&inner, backend);
+    if (err && store->rescues) err = load_first_lines(&inner, backend);
     if (err) return err;
     store->volume = library_volume(backend->self);
     err = load_behind(store, &checkpoint, backend);

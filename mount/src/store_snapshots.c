@@ -362,6 +362,12 @@ static int make_all(struct snapshot_reader *reader) {
     return err ? err : call_snapshot(reader, DROP_SNAPSHOT, SNAPSHOT_SAVEPOINT);
 }
 
+// A rescue goes on with the live tree as it was.
+static void take_back(struct snapshot_reader *reader) {
+    if (call_snapshot(reader, RESTORE_SNAPSHOT, SNAPSHOT_SAVEPOINT)) return;
+    call_snapshot(reader, DROP_SNAPSHOT, SNAPSHOT_SAVEPOINT);
+}
+
 // The last that is told is the first that was taken.
 static void turn(struct snapshots *all) {
     for (unsigned i = 0; i < all->count / 2; i++) {
@@ -400,6 +406,7 @@ int store_make_snapshots(struct store *store, const struct backend *backend, uin
     *size = 0;
     store_name(name, kind, number);
     int err = open_and_make(&reader, name, size);
+    if (err && store->rescues) take_back(&reader);
     if (err)
         store_report(store, "%s: the snapshot %s is not made: %s", name, reader.name,
                      reader.why ? reader.why : strerror(err));

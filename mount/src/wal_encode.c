@@ -113,6 +113,10 @@ static void put_number(char *at, uint64_t number) {
     for (size_t i = 0; i < 8; i++) at[i] = (char)(number >> 8 * i);
 }
 
+bool wal_next_any(const char *log, size_t length, const struct wal_salt *salt, size_t *size) {
+    return length >= DOORVERVAIN_WAL_HEADER && wal_next(log, length, salt, number_at(log + 8), size);
+}
+
 // The number of the record whose front may stand at a place; 0 where none of no calls does.
 static uint64_t sync_marker_at(const char *at, const char magic[8]) {
     return memcmp(at, magic, 8) || number_at(at + 16) ? 0 : number_at(at + 8);

@@ -33,6 +33,8 @@ int wal_put_record(struct bytes *out, const struct record_frame *frame, const ch
 // How many bytes of calls the record has with which a log of a salt begins: false where it begins with none of this
 // number.
 bool wal_next(const char *log, size_t length, const struct wal_salt *salt, uint64_t number, size_t *size);
+// The same for whatever number it has.
+bool wal_next_any(const char *log, size_t length, const struct wal_salt *salt, size_t *size);
 // Whether a record of no calls, with a higher number than this one, lies whole somewhere in a log's bytes.
 bool wal_find_sync_marker(const char *log, size_t length, const struct wal_salt *salt, uint64_t number);
 
