@@ -342,6 +342,7 @@ static void free_store(struct store *store) {
     if (store->lock_file >= 0) close(store->lock_file);
     if (store->directory >= 0) close(store->directory);
     pool_end(&store->pool);
+    sha256_function_end(&store->digest);
     store_batches_free(store);
     bytes_free(&store->record_buffer);
     bytes_free(&store->frames);
@@ -404,6 +405,8 @@ int store_open(const struct open_options *options, struct backend *backend, stru
     store->log_size = options->log_size;
     store->took = UINT64_MAX;
     store->max_pending = max_pending();
+    sha256_function_begin(&store->digest);
+    wal_check_function(&store->digest);
     int err = store_batches_begin(store);
     if (!err) err = store_lock(store, options->store);
     if (!err) err = load(store, options, backend);

@@ -100,7 +100,8 @@ struct store {
     _Atomic uint64_t wal_bytes; // bytes of all logs behind the tree's image; read without the lock
     uint64_t checkpoint_at;     // how many of them make another image worth its while
     bool is_synced;             // all of the log is on the disk
-    struct bytes record_buffer; // records that are put together
+    struct sha256_function digest; // of records
+    struct bytes record_buffer;    // records that are put together
     struct bytes frames;
     struct batch_list in_flight;
     struct wal_batch *reserved_batch; // has nothing, and is there where nothing is taken

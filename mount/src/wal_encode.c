@@ -92,6 +92,31 @@ int wal_frame(struct record_frame *out, const struct wal_salt *salt, uint64_t nu
                                                           sizeof out->ends, &size));
 }
 
+static void put_number(char *at, uint64_t number) {
+    for (size_t i = 0; i < 8; i++) at[i] = (char)(number >> 8 * i);
+}
+
+// The parts of the frame are those of "Logs" in docs/FORMATS.md.
+int wal_frame_by(const struct sha256_function *function, struct record_frame *out, const struct wal_salt *salt,
+                 uint64_t number, const char *calls, size_t length) {
+    char *front = (char *)out->ends;
+    memcpy(front, salt->length ? magic_2 : magic_1, sizeof magic_1);
+    put_number(front + 8, number);
+    put_number(front + 16, length);
+    struct sha256_part parts[] = {{salt->bytes, salt->length}, {front, DOORVERVAIN_WAL_HEADER}, {calls, length}};
+    int err = sha256_of_parts(function, parts, 3, out->ends + DOORVERVAIN_WAL_HEADER);
+    return err ? wal_frame(out, salt, number, calls, length) : 0;
+}
+
+void wal_check_function(struct sha256_function *function) {
+    static const char calls[200] = "calls";
+    struct wal_salt salt = {.bytes = "salt", .length = WAL_SALT};
+    struct record_frame one, other;
+    bool is_same = !wal_frame(&one, &salt, 1, calls, sizeof calls) &&
+                   !wal_frame_by(function, &other, &salt, 1, calls, sizeof calls) && !memcmp(&one, &other, sizeof one);
+    if (!is_same) sha256_function_end(function);
+}
+
 int wal_put_record(struct bytes *out, const struct record_frame *frame, const char *calls, size_t length) {
     if (bytes_reserve(out, sizeof frame->ends + length)) return ENOMEM;
     bytes_append(out, frame->ends, DOORVERVAIN_WAL_HEADER);
@@ -107,10 +132,6 @@ static uint64_t number_at(const char *at) {
     uint64_t number = 0;
     for (size_t i = 8; i-- > 0;) number = number << 8 | (uint8_t)at[i];
     return number;
-}
-
-static void put_number(char *at, uint64_t number) {
-    for (size_t i = 0; i < 8; i++) at[i] = (char)(number >> 8 * i);
 }
 
 bool wal_next_any(const char *log, size_t length, const struct wal_salt *salt, size_t *size) {

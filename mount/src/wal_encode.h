@@ -2,6 +2,7 @@
 #ifndef WAL_ENCODE_H
 #define WAL_ENCODE_H
 #include "backend.h"
+#include "sha256.h"
 
 // Each puts a call behind those that are there: 0, or why it is refused.
 int wal_encode_change(struct bytes *out, enum path_call what, const char *path, uint64_t at);
@@ -28,6 +29,11 @@ struct record_frame {
 };
 // The frame of the record with this number in the log of a salt, of these calls. It is made by any thread.
 int wal_frame(struct record_frame *out, const struct wal_salt *salt, uint64_t number, const char *calls, size_t length);
+// The same by a function of libcrypto, which takes less than half the time; by the library where there is none.
+int wal_frame_by(const struct sha256_function *function, struct record_frame *out, const struct wal_salt *salt,
+                 uint64_t number, const char *calls, size_t length);
+// Leaves the function only if it makes the frame of a record that the library makes.
+void wal_check_function(struct sha256_function *function);
 // Puts a record behind what is there: 0 or ENOMEM.
 int wal_put_record(struct bytes *out, const struct record_frame *frame, const char *calls, size_t length);
 // How many bytes of calls the record has with which a log of a salt begins: false where it begins with none of this

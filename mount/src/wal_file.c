@@ -127,7 +127,7 @@ static void frame_one(void *self, size_t index) {
     size_t length;
     const char *calls = calls_of(framing->batch, index, &length);
     uint64_t number = store_record(store->log.number, store->log.records + index);
-    int err = wal_frame(&framing->frames[index], &store->log.salt, number, calls, length);
+    int err = wal_frame_by(&store->digest, &framing->frames[index], &store->log.salt, number, calls, length);
     if (err) framing->err = err;
 }
 
@@ -246,9 +246,11 @@ int wal_create(struct store *store, uint64_t number, const struct wal_log *prior
     int err = wal_new_salt(&header.salt);
     if (err) return err;
     *out = (struct wal_log){.number = number, .salt = header.salt, .records = 1};
-    out->file = openat(store->directory, part, O_WRONLY | O_CREAT | O_TRUNC | O_CLOEXEC | O_NOFOLLOW, 0600);
+    out->file = openat(store->directory, part, O_WRONLY | O_CREAT | O_CLOEXEC | O_NOFOLLOW | O_NONBLOCK, 0600);
     if (out->file < 0) return errno;
     err = own_file_check(out->file);
+    if (err) store_report(store, "%s: " OWN_FILE_REFUSAL, part);
+    if (!err && ftruncate(out->file, 0)) err = errno;
     if (!err) err = write_header(out, &header);
     if (!err) err = name_log(store, number, part);
     if (!err) return 0;
