@@ -102,8 +102,16 @@ fn row_of(
 #[test]
 fn whole_and_cut(rt: HostRuntime) -> Result<(), Fail> {
     for end in &ENDS {
-        assert!(rt; does_on_new(rt.alloc(), &row_of(LOG, b"", end)), "{}", end.0);
-        assert!(rt; does_on_new(rt.alloc(), &row_of(SALTED, SALT, end)), "{}", end.0);
+        assert!(rt;
+            does_on_new(rt.alloc(), &row_of(LOG, b"", end)),
+            "{}",
+            end.0
+        );
+        assert!(rt;
+            does_on_new(rt.alloc(), &row_of(SALTED, SALT, end)),
+            "{}",
+            end.0
+        );
     }
     Ok(())
 }
