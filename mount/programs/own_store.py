@@ -44,7 +44,7 @@ def kill(mount: Mount) -> None:
 
 
 def logs(folder: Path) -> list[Path]:
-    return sorted((folder / "store").glob("log.*"), key=lambda it: int(it.suffix[1:]))
+    return sorted((folder / "store").glob("log.*[0-9]"), key=lambda it: int(it.suffix[1:]))
 
 
 def first_files() -> set[str]:

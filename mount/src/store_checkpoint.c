@@ -65,8 +65,8 @@ static bool has_tree(const struct store *store) {
 static int begin_log(struct store *store, struct checkpoint_writer *writer) {
     writer->former_bytes = store->wal_bytes;
     bool serves = store->log.salt.length && wal_is_new(&store->log) && store->err && !has_tree(store);
+    writer->number = store->log.number + !serves;
     int err = serves ? 0 : wal_rotate(store, &writer->former);
-    writer->number = store->log.number;
     writer->sum.salt = store->log.salt;
     if (!err && writer->former.file >= 0) err = store_end_log(store, &writer->former);
     return err;
