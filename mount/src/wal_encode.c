@@ -180,9 +180,9 @@ int wal_put_header(struct bytes *out, const struct wal_header *header, uint64_t 
 
 bool wal_read_header(const char *log, size_t length, uint64_t number, struct wal_header *out) {
     static const char none[WAL_SALT];
-    const char *at = log + DOORVERVAIN_WAL_HEADER;
     size_t size = 0;
     if (length < WAL_HEADER_RECORD) return false;
+    const char *at = log + DOORVERVAIN_WAL_HEADER;
     out->salt.length = WAL_SALT;
     memcpy(out->salt.bytes, at, WAL_SALT);
     out->prior_records = number_at(at + WAL_SALT);
