@@ -238,6 +238,12 @@ uint8_t doorvervain_raw_wal_dump(const uint8_t *body, size_t length, uint8_t *ou
 uint8_t doorvervain_raw_wal_apply(struct doorvervain *fs, const uint8_t *body, size_t length, size_t *done);
 uint8_t doorvervain_raw_wal_replay(struct doorvervain *fs, const uint8_t *log, size_t length, uint64_t number,
     size_t *records, size_t *done, size_t *size);
+uint8_t doorvervain_raw_wal_salted_frame(const uint8_t *salt, size_t salt_length, uint64_t number, const uint8_t *body,
+    size_t length, uint8_t *out, size_t capacity, size_t *size);
+uint8_t doorvervain_raw_wal_salted_next(
+    const uint8_t *log, size_t length, const uint8_t *salt, size_t salt_length, uint64_t number, size_t *size);
+uint8_t doorvervain_raw_wal_salted_replay(struct doorvervain *fs, const uint8_t *log, size_t length, const uint8_t *salt,
+    size_t salt_length, uint64_t number, size_t *records, size_t *done, size_t *size);
 
 // ---- errors
 
@@ -1090,6 +1096,43 @@ static inline uint8_t doorvervain_wal_replay(struct doorvervain *fs, const void 
     if (!records || !done || !size) return DOORVERVAIN_NULL;
     uint8_t err = doorvervain_bad_args(fs, log, length);
     return err ? err : doorvervain_raw_wal_replay(fs, doorvervain_in(log), length, number, records, done, size);
+}
+
+// A log of version 2 has a salt: bytes of its own, which the digest of each record includes, so that a record of another log is not valid
+// in it. The functions below are those above for the log of a salt, which must not be empty.
+
+// Encodes the frame of a body in the record of a number, as doorvervain_wal_frame does.
+static inline uint8_t doorvervain_wal_salted_frame(const void *salt, size_t salt_length, uint64_t number,
+    const void *body, size_t length, void *out, size_t capacity, size_t *size) {
+    uint8_t err = doorvervain_wal_bad_args(body, length, out, capacity, size);
+    if (!err) err = doorvervain_wal_bad_args(salt, salt_length, out, capacity, size);
+    return err ? err
+                 : doorvervain_raw_wal_salted_frame(doorvervain_in(salt), salt_length, number, doorvervain_in(body), length,
+                       doorvervain_out(out), capacity, size);
+}
+
+// Returns the length of the body of a log's first record, as doorvervain_wal_next does.
+static inline uint8_t doorvervain_wal_salted_next(
+    const void *log, size_t length, const void *salt, size_t salt_length, uint64_t number, size_t *size) {
+    uint8_t err = doorvervain_wal_bad_args(log, length, NULL, 0, size);
+    if (!err) err = doorvervain_wal_bad_args(salt, salt_length, NULL, 0, size);
+    return err ? err
+                 : doorvervain_raw_wal_salted_next(
+                       doorvervain_in(log), length, doorvervain_in(salt), salt_length, number, size);
+}
+
+// Replays the valid records of a log, as doorvervain_wal_replay does.
+static inline uint8_t doorvervain_wal_salted_replay(struct doorvervain *fs, const void *log, size_t length,
+    const void *salt, size_t salt_length, uint64_t number, size_t *records, size_t *done, size_t *size) {
+    if (records) *records = 0;
+    if (done) *done = 0;
+    if (size) *size = 0;
+    if (!records || !done || !size) return DOORVERVAIN_NULL;
+    uint8_t err = doorvervain_bad_args(fs, log, length);
+    if (!err) err = doorvervain_bad_args(fs, salt, salt_length);
+    return err ? err
+                 : doorvervain_raw_wal_salted_replay(
+                       fs, doorvervain_in(log), length, doorvervain_in(salt), salt_length, number, records, done, size);
 }
 
 // The name and the message of the number that a call returned, as "ENOENT: no such file or directory". Never null. The text is

@@ -8,7 +8,7 @@ _doorvervain_mount() {
         if [[ $word == -* ]]; then
             mapfile -t COMPREPLY < <(compgen -W "--store --sync --log-size --replica --prefix --cacert --cert \
                 --key --user --password-file --load --image --size --trace --steps --busy-poll --trust-attributes --nosuid --nodev \
-                --allow-other --foreground --restore --diff --send --receive --unmount --status --json --dump-log --version --help" -- "$word")
+                --allow-other --foreground --restore --diff --send --receive --unmount --status --json --dump-log --rescue --version --help" -- "$word")
             return
         fi
         mapfile -t COMPREPLY < <(compgen -d -- "$word")

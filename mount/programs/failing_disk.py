@@ -28,7 +28,8 @@ class FailingDisk:
     def lose_power(self, folder: Path) -> None:
         """Of what no sync came behind only a part is left, of each log another."""
         for log in logs(folder):
-            least = int((self.synced / log.name).read_text()) if (self.synced / log.name).exists() else 0
+            noted = [self.synced / log.name, self.synced / f"{log.name}.part"]  # a log gets its name behind its first sync
+            least = max((int(it.read_text()) for it in noted if it.exists()), default=0)
             whole = log.read_bytes()
             left = WORKS.randint(min(least, len(whole)), len(whole))
             torn = bytearray(whole[:left])

@@ -1,4 +1,5 @@
 """Mounts with a store, for the cases of `store`, `store_snapshots`, `store_disks`, `store_programs` and `store_large`."""
+import hashlib
 import os
 import random
 import subprocess
@@ -43,7 +44,31 @@ def kill(mount: Mount) -> None:
 
 
 def logs(folder: Path) -> list[Path]:
-    return sorted((folder / "store").glob("log.*"), key=lambda it: int(it.suffix[1:]))
+    return sorted((folder / "store").glob("log.*[0-9]"), key=lambda it: int(it.suffix[1:]))
+
+
+def first_files() -> set[str]:
+    """Those of a store that has written no checkpoint since it began."""
+    return {"lock", "log.0", "tree.0", "tree.0.sum"}
+
+
+def digest(file: Path) -> str:
+    return hashlib.sha256(file.read_bytes()).hexdigest()
+
+
+def write_sums(store: Path, number: int) -> None:
+    """Makes the file of checksums that of the files as they are: the log is the one that it has named."""
+    file = store / f"tree.{number}.sum"
+    log = next(line for line in file.read_text().splitlines() if line.startswith("log "))
+    snapshots = store / f"snapshots.{number}"
+    told = f"{digest(snapshots)}  {snapshots.name}" if snapshots.exists() else f"no {snapshots.name}"
+    text = f"doorvervain checkpoint 2\n{digest(store / f'tree.{number}')}  tree.{number}\n{told}\n{log}\n"
+    file.write_text(f"{text}end {hashlib.sha256(text.encode()).hexdigest()}\n")
+
+
+def due_once_it_stands(folder: Path) -> tuple[str, str]:
+    """Options by which a mount of a store that ended well writes a checkpoint at once, but not before it stands."""
+    return "--log-size", str(sum(it.stat().st_size for it in logs(folder)) * 2 // 3)
 
 
 def writes_image(folder: Path) -> bool:

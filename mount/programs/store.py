@@ -10,7 +10,7 @@ from pathlib import Path
 import store_states
 from own_mount import MOUNT, Mount, case, run_cases
 from own_store import (KILLS, WORKS, end_well, fill, find_state, kill, kill_at_chance, logs, names_after, store_mount, sync,
-                       writes_image)
+                       write_sums, writes_image)
 
 
 def kill_often(folder: Path, *options, in_image: bool = False) -> int:
@@ -107,13 +107,14 @@ def a_log_that_is_cut_loads(folder: Path):
     kill(mount)
     log = logs(folder)[-1]
     whole, before = log.read_bytes().rstrip(b"\0"), 41
+    (folder / "store").rename(folder / "whole")
     for cut in range(1, 1001):
+        shutil.copytree(folder / "whole", folder / "store")
         log.write_bytes(whole[:-cut])
         names = names_after(folder)
         assert names == {f"file{i}" for i in range(len(names))} and len(names) <= before
         before = len(names)
         shutil.rmtree(folder / "store")
-        (folder / "store").mkdir(mode=0o700)
 
 
 def try_with_byte(folder: Path, log: Path, whole: bytes, at: int) -> None:
@@ -154,6 +155,7 @@ def a_call_that_is_not_done_again_ends_the_start(folder: Path):
     end_well(image)
     log_of(folder, 3)
     (folder / "image").rename(folder / "store/tree.0")
+    write_sums(folder / "store", 0)
     before = {it.name: it.read_bytes() for it in (folder / "store").iterdir()}
     again = store_mount(folder)
     assert not again.stands and re.search("log.0: call [0-9]+ of record [0-9]+, at byte [0-9]+, is not done", again.said())
@@ -270,6 +272,23 @@ def a_log_that_is_missing_is_told(folder: Path):
     assert not again.stands and f"{log.name} is missing" in again.said()
     (folder / "elsewhere").rename(log)
     assert names_after(folder) == {f"file{i}" for i in range(50)}
+
+
+@case
+def mounts_that_are_killed_young_come_to_write_an_image(folder: Path):
+    """A start that finds an image due, and more than twice as much log as there may be, writes it before the mount stands."""
+    written = {}
+    for number in range(16):
+        mount = store_mount(folder, "--log-size", "100K")
+        assert mount.stands and {it.name: it.read_bytes() for it in mount.point.iterdir()} == written, mount.said()
+        sizes = {kind: sum(it.stat().st_size for it in (folder / "store").glob(f"{kind}.*")) for kind in ("log", "tree")}
+        assert sizes["log"] < 250_000 + 2 * sizes["tree"], (number, sizes)
+        written = {f"file{i}": WORKS.randbytes(90_000) for i in range(4)}
+        for name, data in written.items():
+            (mount.point / name).write_bytes(data)
+        sync(mount.point)
+        kill(mount)
+    assert names_after(folder) == set(written)
 
 
 @case

@@ -15,7 +15,7 @@ from failing_disk import FailingDisk
 from kept import restore
 from mixed_trees import change, change_at_random, make, told
 from own_mount import MOUNT, Mount, case, run_cases
-from own_store import KILLS, WORKS, end_well, kill, logs, on_small_disk, snapshot, store_mount, sync
+from own_store import KILLS, WORKS, due_once_it_stands, end_well, first_files, kill, logs, on_small_disk, snapshot, store_mount, sync, write_sums
 from seen import alike, seen
 from store_speed import Held, fill, measure_image, memory_of
 
@@ -55,8 +55,7 @@ def files(folder: Path) -> set[str]:
 
 
 def image_files(number: int) -> set[str]:
-    images = (f"{kind}.{number}" for kind in ("tree", "snapshots"))
-    return {"lock", f"log.{number}"} | {f"{image}{end}" for image in images for end in ("", ".sum")}
+    return {"lock", f"log.{number}", f"tree.{number}", f"snapshots.{number}", f"tree.{number}.sum"}
 
 
 def wait_until(is_so: Callable[[], bool]) -> bool:
@@ -95,7 +94,7 @@ def three_trees(folder: Path) -> dict[str, State]:
     make_trees(mount)
     out = states(mount)
     end_well(mount)
-    assert files(folder) == {"lock", "log.0"}
+    assert files(folder) == first_files()
     return out
 
 
@@ -182,7 +181,7 @@ def each_image_has_those_that_stand(folder: Path):
     mount = stands(store_mount(folder, *AT_ONCE))
     for name in "bgfca":
         (mount.point / ".snapshots" / name).rmdir()
-    next_image(folder, mount, 4, image_files(4) - {"snapshots.4", "snapshots.4.sum"})
+    next_image(folder, mount, 4, image_files(4) - {"snapshots.4"})
     wanted = states(mount)
     kill(mount)
     has(folder, wanted)
@@ -198,7 +197,7 @@ def sixty_four_snapshots_hold_an_image_up(folder: Path):
     mount = stands(store_mount(folder, *AT_ONCE))
     sync(mount.point)
     time.sleep(1)
-    assert files(folder) == {"lock", "log.0"}
+    assert files(folder) == first_files()
     (mount.point / ".snapshots/s9").rmdir()
     write_image(folder, mount, 1)
     snapshot(mount, "s9")
@@ -300,7 +299,7 @@ class Kill(NamedTuple):
 
 def moment(folder: Path) -> Kill:
     names = files(folder)
-    return Kill("tree.1.part" in names, "snapshots.1.part" in names, "snapshots.1" in names, "tree.1" in names)
+    return Kill("tree.1.part" in names, "snapshots.1.part" in names, "snapshots.1" in names, "tree.1.sum" in names)
 
 
 def large_trees(folder: Path) -> dict[str, State]:
@@ -352,7 +351,7 @@ def check_kept(mount: Mount, kept: int, wanted: dict[str, State]) -> None:
 
 def seconds_of_image(folder: Path) -> float:
     again(folder)
-    mount, began = stands(store_mount(folder, *AT_ONCE)), time.monotonic()
+    mount, began = stands(store_mount(folder, *due_once_it_stands(folder))), time.monotonic()
     write_image(folder, mount, 1)
     took = time.monotonic() - began
     end_well(mount)
@@ -365,7 +364,7 @@ def kills_take_no_snapshot(folder: Path):
     took = seconds_of_image(folder)
     for _ in range(KILLS):
         again(folder)
-        mount = stands(store_mount(folder, *AT_ONCE))
+        mount = stands(store_mount(folder, *due_once_it_stands(folder)))
         sync(mount.point)
         kept = work_for(mount, WORKS.uniform(0, 1.5 * took))
         kill(mount)
@@ -382,7 +381,7 @@ def kills_take_no_snapshot(folder: Path):
 def kill_at(folder: Path, is_so: Callable[[Kill], bool]) -> Kill:
     """Kills the mount of a new store as soon as its image is at a moment."""
     again(folder)
-    mount = stands(store_mount(folder, *AT_ONCE))
+    mount = stands(store_mount(folder, *due_once_it_stands(folder)))
     sync(mount.point)
     assert wait_until(lambda: is_so(moment(folder)))
     kill(mount)
@@ -391,28 +390,26 @@ def kill_at(folder: Path, is_so: Callable[[Kill], bool]) -> Kill:
 
 @case
 def nor_do_those_between_the_two_names(folder: Path):
-    """The snapshots stand before the image does; one that lacks is written once more, also under the same number."""
+    """The snapshots stand before the checksums do; an image that lacks them is written once more, with another number."""
     wanted, between = large_trees(folder), 0
     for _ in range(KILLS):
         killed = kill_at(folder, lambda it: it.has_snapshots or it.has_tree)
         assert killed.has_snapshots
         between += not killed.has_tree
         has(folder, wanted, *NEVER)
+        if between == 1 and not killed.has_tree:
+            mount = stands(store_mount(folder, *due_once_it_stands(folder)))
+            write_image(folder, mount, 2)
+            end_well(mount)
+            has(folder, wanted)
     print(f"{between} of {KILLS} kills came between the two names")
-    again(folder)
-    for name in ("snapshots.1", "snapshots.1.sum", "log.1"):
-        (folder / "store" / name).write_text("")
-    mount = stands(store_mount(folder, *AT_ONCE))
-    write_image(folder, mount, 2)
-    end_well(mount)
-    has(folder, wanted)
 
 
 @case
 def an_unmount_ends_it(folder: Path):
     wanted = large_trees(folder)
     again(folder)
-    mount = stands(store_mount(folder, *AT_ONCE))
+    mount = stands(store_mount(folder, *due_once_it_stands(folder)))
     sync(mount.point)
     assert wait_until(lambda: moment(folder).has_snapshots_part)
     end_well(mount)
@@ -424,7 +421,7 @@ def an_unmount_ends_it(folder: Path):
 def snapshots_come_and_go_meanwhile(folder: Path):
     wanted = large_trees(folder)
     again(folder)
-    mount = stands(store_mount(folder, *AT_ONCE))
+    mount = stands(store_mount(folder, *due_once_it_stands(folder)))
     sync(mount.point)
     assert wait_until(lambda: moment(folder).has_snapshots_part)
     for name in ("one", "three", "2nd"):
@@ -480,7 +477,7 @@ def and_so_it_is_where_the_checksum_is_right(folder: Path):
     mount = stands(store_mount(folder, *AT_ONCE))
     write_image(folder, mount, 1)
     end_well(mount)
-    file, told_sum = folder / "store/snapshots.1", folder / "store/snapshots.1.sum"
+    file, told_sum = folder / "store/snapshots.1", folder / "store/tree.1.sum"
     whole, sum_of_whole = file.read_bytes(), told_sum.read_bytes()
     some = b"snapshot 2nd\n"
     front, back = whole.split(some)
@@ -492,11 +489,11 @@ def and_so_it_is_where_the_checksum_is_right(folder: Path):
     cut = (whole[:-1], whole[:-5], whole + b"x", front + some, some + back, some + back + front)
     for damaged in (*cut, *(front + name + back for name in names), *lines_changed, front + some + no_image):
         file.write_bytes(damaged)
-        told_sum.write_text(f"{hashlib.sha256(damaged).hexdigest()}  snapshots.1\n")
+        write_sums(folder / "store", 1)
         refused(folder, "snapshots.1: the snapshot .* is not made: ")
     file.write_bytes(whole)
     told_sum.unlink()
-    refused(folder, "snapshots.1.sum is missing")
+    refused(folder, "tree.1.sum is missing")
     told_sum.write_bytes(sum_of_whole)
     file.unlink()
     refused(folder, "snapshots.1 is missing")
@@ -528,9 +525,9 @@ def fill_disk(folder: Path, disk: Path) -> None:
     mount = stands(Mount(folder, "--store", disk / "store", "--log-size", "1M"))
     write_some(mount, 1000, lambda: "is not written" in mount.said())
     assert "tree.1 is not written: No space left on device" in mount.said(), mount.said()
-    assert not [name for name in os.listdir(disk / "store") if name.startswith(("tree", "snapshots"))]
+    assert not [name for name in os.listdir(disk / "store") if name.startswith(("tree", "snapshots")) and ".0" not in name]
     (disk / "other").unlink()
-    write_some(mount, 100_000, lambda: any(disk.glob("store/tree.*.sum")) and not any(disk.glob("store/*.part")))
+    write_some(mount, 100_000, lambda: any(disk.glob("store/tree.[1-9]*.sum")) and not any(disk.glob("store/*.part")))
     assert "refused" not in mount.said(), mount.said()
     wanted = states(mount)
     kill(mount)
@@ -552,9 +549,9 @@ def a_disk_that_fails_takes_another_image(folder: Path):
     snapshot(mount, "one")
     disk.fail("snapshots")
     write_some(mount, 10_000, lambda: "is not written: Input/output error" in mount.said())
-    assert wait_until(lambda: not [it for it in files(folder) if it.startswith(("tree", "snapshots"))])
+    assert wait_until(lambda: not [it for it in files(folder) - first_files() if it.startswith(("tree", "snapshots"))])
     disk.mend()
-    write_some(mount, 10_000, lambda: any(folder.glob("store/tree.*.sum")))
+    write_some(mount, 10_000, lambda: any(folder.glob("store/tree.[1-9]*.sum")))
     assert "refused" not in mount.said(), mount.said()
     wanted = states(mount)
     kill(mount)

@@ -102,15 +102,10 @@ int image_put(struct image *image, const char *bytes, size_t count) {
 
 int image_sum(const struct image *image, char digits[SHA256_DIGITS + 1]) { return sha256_so_far(&image->sum, digits); }
 
-// One line, as sha256sum(1) writes and checks it.
-static int write_sum(struct image *image) {
-    char line[SHA256_DIGITS + PATH_MAX + 4];
-    int err = sha256_end(&image->sum, line);
-    if (err) return err;
-    int length = SHA256_DIGITS + snprintf(line + SHA256_DIGITS, PATH_MAX + 4, "  %s\n", strrchr(image->file, '/') + 1);
-    int file = open_private(image->sum_part);
+static int write_sum_part(const struct image *image, const char *text) {
+    int err = 0, file = open_private(image->sum_part);
     if (file < 0 || ftruncate(file, 0)) err = errno;
-    if (!err) err = write_all(file, line, (size_t)length);
+    if (!err) err = write_all(file, text, strlen(text));
     if (!err && fsync(file)) err = errno;
     if (file >= 0) close(file);
     return err;
@@ -127,21 +122,45 @@ static int sync_folder(const struct image *image) {
     return err;
 }
 
-// Wherever this is cut short FILE is whole, the old one or the new one, and has its own checksum or none.
-static int exchange(const struct image *image) {
+// Wherever this is cut short FILE is whole, the old one or the new one, and has its own checksum or none. FILE is on the
+// disk before FILE.sum gets its name.
+static int exchange(const struct image *image, bool has_sum) {
     if (unlink(image->sum_file) && errno != ENOENT) return errno;
     int err = sync_folder(image);
     if (!err && rename(image->part, image->file)) err = errno;
-    if (!err && rename(image->sum_part, image->sum_file)) err = errno;
-    return err ? err : sync_folder(image);
+    if (!err) err = sync_folder(image);
+    if (err || !has_sum) return err;
+    return rename(image->sum_part, image->sum_file) ? errno : sync_folder(image);
 }
 
-int image_keep(struct image *image) {
-    int err = write_sum(image);
+int image_keep_as(struct image *image, const char *sum) {
+    char digits[SHA256_DIGITS + 1];
+    int err = sha256_end(&image->sum, digits);
+    if (!err && sum) err = write_sum_part(image, sum);
     if (!err && fsync(image->out)) err = errno;
-    if (!err) err = exchange(image);
+    if (!err) err = exchange(image, sum);
     close(image->out);
     return err;
+}
+
+// One line, as sha256sum(1) writes and checks it.
+int image_keep(struct image *image) {
+    char line[SHA256_DIGITS + PATH_MAX + 4] = "";
+    int err = image_sum(image, line);
+    if (err) {
+        close(image->out);
+        return err;
+    }
+    snprintf(line + SHA256_DIGITS, PATH_MAX + 4, "  %s\n", strrchr(image->file, '/') + 1);
+    return image_keep_as(image, line);
+}
+
+int image_write_sum(const char *file, const char *text) {
+    struct image image;
+    int err = name_files(&image, file);
+    if (!err) err = write_sum_part(&image, text);
+    if (!err && rename(image.sum_part, image.sum_file)) err = errno;
+    return err ? err : sync_folder(&image);
 }
 
 void image_drop(struct image *image) {

@@ -19,8 +19,12 @@ int image_open(struct image *image, const char *file);
 int image_put(struct image *image, const char *bytes, size_t count);
 // The checksum of what was put there so far: 0 or ENOMEM.
 int image_sum(const struct image *image, char digits[SHA256_DIGITS + 1]);
-// The image is whole: it gets its name. Where that fails it stays in FILE.part.
+// The image is whole: it gets its name, and FILE.sum its checksum. Where that fails it stays in FILE.part.
 int image_keep(struct image *image);
+// The same, with another text in FILE.sum; null: there is no FILE.sum.
+int image_keep_as(struct image *image, const char *sum);
+// Gives FILE.sum, of a FILE that stands, a text.
+int image_write_sum(const char *file, const char *text);
 // The image is not wanted: FILE stays as it was.
 void image_drop(struct image *image);
 

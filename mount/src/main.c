@@ -113,6 +113,7 @@ int main(int count, char **words) {
         return 0;
     }
     if (options.dumps_log) return store_dump_wal(options.mount_point);
+    if (options.rescue) return store_rescue(options.rescue, options.mount_point);
     options.mount_point = full_path(options.mount_point);
     if (options.diff_from) return print_diff(options.mount_point, options.diff_from, options.until);
     if (options.send_from) return send_delta(options.mount_point, options.send_from, options.until);

@@ -26,6 +26,8 @@ static const char help[] =
     "  doorvervain-mount --status MNT [--json]\n"
     "                                        prints its files, memory, log, snapshots, and members of etcd\n"
     "  doorvervain-mount --dump-log DIR      prints the write-ahead logs of a store as lines of a script\n"
+    "  doorvervain-mount --rescue NEW DIR    makes a new store in the directory NEW of what is whole of the store DIR, which\n"
+    "                                        it only reads, and reports what is not; the status is 3 if something is not\n"
     "\n"
     "  --load FILE     begins with the tree whose image is in FILE\n"
     "  --image FILE    writes the image of the tree to FILE when it is unmounted, and its checksum to FILE.sum\n"
@@ -92,6 +94,7 @@ static const struct option known[] = {
     {"status", no_argument, NULL, 'S'},
     {"json", no_argument, NULL, 'j'},
     {"dump-log", no_argument, NULL, 'n'},
+    {"rescue", required_argument, NULL, 'q'},
     {"allow-other", no_argument, NULL, 'a'},
     {"foreground", no_argument, NULL, 'f'},
     {"trust-attributes", no_argument, NULL, 't'},
@@ -174,6 +177,7 @@ static int read_option(int letter, struct options *out) {
     case 'S': out->prints_status = true; return 0;
     case 'j': out->as_json = true; return 0;
     case 'n': out->dumps_log = true; return 0;
+    case 'q': out->rescue = optarg; return 0;
     case 'a': out->allows_other = true; return 0;
     case 't': out->trusts_attributes = true; return 0;
     case 'N': out->no_suid = true; return 0;
@@ -204,7 +208,7 @@ int read_options(int count, char **words, struct options *out) {
     if (err || out->prints_help || out->prints_version) return err;
     if ((out->diff_from || out->send_from) && optind + 2 == count) out->until = words[optind++];
     if (optind + 1 != count)
-        return refuse(out->dumps_log ? "one folder of a store is wanted" : "one folder to mount on is wanted", "");
+        return refuse(out->dumps_log || out->rescue ? "one folder of a store is wanted" : "one folder to mount on is wanted", "");
     if (out->open.store && (out->open.image || out->image))
         return refuse("--store does not go with --load or --image", "");
     if (out->open.syncs_each && !out->open.store) return refuse("--sync is for a --store", "");

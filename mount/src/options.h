@@ -15,6 +15,7 @@ struct options {
     unsigned busy_poll;     // microseconds for which the next request is looked for
     bool receives;          // a difference makes of the tree of a mount that stands another one
     bool dumps_log;         // prints the logs of a store, which `mount_point` names
+    const char *rescue;     // the folder of a new store, with what is whole of that one
     bool prints_status;     // what a mount that stands tells of itself
     bool as_json;           // as JSON
     bool unmounts;          // takes a mount away, and waits for its end

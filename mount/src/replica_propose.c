@@ -47,7 +47,7 @@ static uint64_t first_record(uint64_t version) { return version << RECORDS_OF_A_
 
 static int add_record(struct replica *replica, uint64_t index, const struct bytes *calls) {
     struct record_frame frame;
-    int err = wal_frame(&frame, first_record(replica->done + 1) + index, calls->at, calls->length);
+    int err = wal_frame(&frame, &(struct wal_salt){.length = 0}, first_record(replica->done + 1) + index, calls->at, calls->length);
     return err ? err : wal_put_record(&replica->proposal.records, &frame, calls->at, calls->length);
 }
 

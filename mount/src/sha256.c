@@ -34,6 +34,23 @@ int sha256_so_far(const struct sha256 *sum, char digits[SHA256_DIGITS + 1]) {
     return is_copied ? err : ENOMEM;
 }
 
+void sha256_function_begin(struct sha256_function *out) { out->digest = EVP_MD_fetch(NULL, "SHA256", NULL); }
+
+void sha256_function_end(struct sha256_function *function) {
+    EVP_MD_free(function->digest);
+    function->digest = NULL;
+}
+
+int sha256_of_parts(const struct sha256_function *function, const struct sha256_part *parts, size_t count,
+                    unsigned char out[SHA256_DIGITS / 2]) {
+    EVP_MD_CTX *context = function->digest ? EVP_MD_CTX_new() : NULL;
+    bool is = context && EVP_DigestInit_ex2(context, function->digest, NULL);
+    for (size_t i = 0; is && i < count; i++) is = EVP_DigestUpdate(context, parts[i].bytes, parts[i].count);
+    if (is) is = EVP_DigestFinal_ex(context, out, NULL);
+    EVP_MD_CTX_free(context);
+    return is ? 0 : ENOMEM;
+}
+
 static int add_all(struct sha256 *sum, int file) {
     char part[1 << 16];
     for (;;) {

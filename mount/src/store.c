@@ -342,6 +342,7 @@ static void free_store(struct store *store) {
     if (store->lock_file >= 0) close(store->lock_file);
     if (store->directory >= 0) close(store->directory);
     pool_end(&store->pool);
+    sha256_function_end(&store->digest);
     store_batches_free(store);
     bytes_free(&store->record_buffer);
     bytes_free(&store->frames);
@@ -382,6 +383,19 @@ static size_t max_pending(void) {
     return part < MOST_WAITING ? (size_t)part : MOST_WAITING;
 }
 
+// Mounts that are killed one after the other may never have come to write a checkpoint. So where the logs are much longer
+// than they may be, that is done first; where it fails, it is tried again later.
+static int load(struct store *store, const struct open_options *options, struct backend *backend) {
+    progress_begin(store);
+    int err = store_load(store, options, backend);
+    if (!err && store->wal_bytes > 2 * store->log_size && checkpoint_is_due(store)) {
+        progress_set(store, "writes tree", store->log.number + 1, store->wal_bytes);
+        store_checkpoint(store, NULL);
+    }
+    progress_end(store);
+    return err;
+}
+
 int store_open(const struct open_options *options, struct backend *backend, struct store **out) {
     struct store *store = mem_calloc(1, sizeof *store);
     if (!store) return ENOMEM;
@@ -391,9 +405,11 @@ int store_open(const struct open_options *options, struct backend *backend, stru
     store->log_size = options->log_size;
     store->took = UINT64_MAX;
     store->max_pending = max_pending();
+    sha256_function_begin(&store->digest);
+    wal_check_function(&store->digest);
     int err = store_batches_begin(store);
     if (!err) err = store_lock(store, options->store);
-    if (!err) err = store_load(store, options, backend);
+    if (!err) err = load(store, options, backend);
     if (err) {
         free_store(store);
         return err;

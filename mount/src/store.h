@@ -16,6 +16,9 @@ struct store;
 int store_open(const struct open_options *options, struct backend *backend, struct store **out);
 // Prints the logs in the folder of a store as lines of a script; the status of its process. What failed is said.
 int store_dump_wal(const char *folder);
+// Makes a store in a folder that has none of what is whole of another one, which is only read: the status of its process,
+// which is 3 where something is not whole. What is not is said.
+int store_rescue(const char *new_folder, const char *folder);
 // The names of the snapshots that stand: each with a byte 0 behind it.
 int store_snapshots(struct store *store, struct bytes *out);
 // Begins to sync in time, and to write images, by a thread of its own, until the volume is closed.

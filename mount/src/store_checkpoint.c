@@ -1,8 +1,8 @@
 // Writes checkpoints of a store: `tree.N`, the image of the tree, while requests go on ("Image" in docs/FORMATS.md).
 //
 // Invariant: the trees are frozen, and log N begins, at one moment, so `tree.N` has all changes of the logs before N
-// and none of those from N on. The image gets its name only after it and the file of snapshots are on the disk; older
-// files are deleted after that.
+// and none of those from N on. The image gets its name only after it and the file of snapshots are on the disk, and its
+// checksums after that; then older files are deleted.
 #include "requests.h"
 #include "store_inside.h"
 #include <errno.h>
@@ -20,9 +20,10 @@ struct checkpoint_writer {
     struct frozen_snapshots snapshots;
     struct snapshot_index index;
     uint64_t number, former_bytes;
-    uint64_t index_size;      // bytes of the file of snapshots
-    uint64_t sync_errseq;     // of the logs up to its own
-    struct former_log former; // the log before it
+    struct checkpoint_sum sum;
+    uint64_t index_size;   // bytes of the file of snapshots
+    uint64_t sync_errseq;  // of the logs up to its own
+    struct wal_log former; // the log before it
 };
 
 void checkpoint_threshold(struct store *store, uint64_t image) {
@@ -56,16 +57,17 @@ static int take_and_freeze(struct store *store, struct checkpoint_writer *writer
 // No image takes the place of one with its number: the snapshots beside it may be others.
 static bool has_tree(const struct store *store) {
     char name[STORE_NAME];
-    store_name(name, "tree", store->number);
+    store_name(name, "tree", store->log.number);
     return store_has(store, name);
 }
 
-// Another log begins. One that has nothing, since changes are refused, serves on.
+// Another log begins. One that has nothing but its header, since changes are refused, serves on.
 static int begin_log(struct store *store, struct checkpoint_writer *writer) {
     writer->former_bytes = store->wal_bytes;
-    bool serves = !store->records && store->err && !has_tree(store);
+    bool serves = store->log.salt.length && wal_is_new(&store->log) && store->err && !has_tree(store);
+    writer->number = store->log.number + !serves;
     int err = serves ? 0 : wal_rotate(store, &writer->former);
-    writer->number = store->number;
+    writer->sum.salt = store->log.salt;
     if (!err && writer->former.file >= 0) err = store_end_log(store, &writer->former);
     return err;
 }
@@ -75,7 +77,7 @@ static int begin(struct store *store, struct checkpoint_writer *writer) {
     requests_lock();
     int err = take_and_freeze(store, writer);
     requests_unlock();
-    writer->number = store->number;
+    writer->number = store->log.number;
     wal_write_in_flight(store);
     if (!err) err = begin_log(store, writer);
     writer->sync_errseq = store->sync_errseq;
@@ -96,6 +98,7 @@ int store_open_checkpoint_file(struct checkpoint_file *file, const char *kind, u
 int store_put_bytes(struct checkpoint_file *file, const char *bytes, size_t count) {
     int err = image_put(&file->image, bytes, count);
     file->size += count;
+    file->store->progress.done = file->size;
     if (err || ++file->pieces % PIECES_SYNCED) return err;
     return fdatasync(file->image.out) ? errno : 0;
 }
@@ -114,12 +117,12 @@ int store_print(struct checkpoint_file *file, struct doorvervain_printer *printi
     return err ? err : writeback_tick(file);
 }
 
-int store_end_checkpoint_file(struct checkpoint_file *file, int err) {
+int store_end_checkpoint_file(struct checkpoint_file *file, const char *sum, int err) {
     if (err) {
         image_drop(&file->image);
         return err;
     }
-    err = image_keep(&file->image);
+    err = image_keep_as(&file->image, sum);
     if (err) unlink(file->image.part);
     return err;
 }
@@ -144,16 +147,28 @@ static int put_tree(struct checkpoint_writer *writer) {
     return err;
 }
 
-// The snapshots are whole before the image gets its name: so where that stands, they do.
+static int put_files(struct checkpoint_writer *writer) {
+    int err = put_tree(writer);
+    if (!err) err = image_sum(&writer->tree.image, writer->sum.tree);
+    if (!err)
+        err = store_put_snapshots(&writer->tree, writer->number, &writer->snapshots, &writer->index,
+                                  writer->sum.snapshots, &writer->index_size);
+    return err;
+}
+
+// The snapshots are whole before the image gets its name, and that before its checksums do: so where these stand, both
+// do.
 static int put_image(struct checkpoint_writer *writer) {
+    struct bytes sum = {NULL};
     store_clear(writer->tree.store, 0);
     int err = store_open_checkpoint_file(&writer->tree, "tree", writer->number);
     if (err) return err;
-    err = put_tree(writer);
-    if (!err)
-        err =
-            store_put_snapshots(&writer->tree, writer->number, &writer->snapshots, &writer->index, &writer->index_size);
-    return store_end_checkpoint_file(&writer->tree, err);
+    err = put_files(writer);
+    if (!err) err = store_print_sum(&sum, writer->number, &writer->sum);
+    if (!err) err = bytes_append(&sum, "", 1);
+    err = store_end_checkpoint_file(&writer->tree, sum.at, err);
+    bytes_free(&sum);
+    return err;
 }
 
 // Changes are done again where they were refused: all that was answered before lies in the image. What its own log lost
@@ -190,5 +205,18 @@ int store_checkpoint(struct store *store, void (*meanwhile)(struct store *store)
     store_thaw_snapshots(&writer.snapshots);
     if (err) give_up(store, &writer, err);
     else succeed(store, &writer);
+    return err;
+}
+
+int store_first_checkpoint(struct store *store) {
+    struct checkpoint_writer writer = {.tree = {.store = store}, .number = store->log.number};
+    writer.sum.salt = store->log.salt;
+    requests_lock();
+    int err = freeze(store, &writer);
+    if (!err) err = store_freeze_snapshots(store, &writer.snapshots);
+    requests_unlock();
+    if (!err) err = put_image(&writer);
+    end_printing(&writer);
+    store_thaw_snapshots(&writer.snapshots);
     return err;
 }

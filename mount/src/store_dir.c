@@ -27,9 +27,11 @@ void store_report(const struct store *store, const char *form, ...) {
     syslog(LOG_DAEMON | LOG_ERR, "doorvervain-mount: %s: %s", store->folder, text);
 }
 
-void store_name(char out[STORE_NAME], const char *kind, uint64_t number) {
-    snprintf(out, STORE_NAME, "%.9s.%" PRIu64, kind, number);
+void store_name_of(char out[STORE_NAME], const char *kind, uint64_t number, const char *ending) {
+    snprintf(out, STORE_NAME, "%.9s.%" PRIu64 "%.5s", kind, number, ending);
 }
+
+void store_name(char out[STORE_NAME], const char *kind, uint64_t number) { store_name_of(out, kind, number, ""); }
 
 int store_path(const struct store *store, const char *name, char out[PATH_MAX]) {
     int length = snprintf(out, PATH_MAX, "%s/%s", store->folder, name);
@@ -71,13 +73,25 @@ int store_lock(struct store *store, const char *folder) {
     return err;
 }
 
-// The number of a name that is a kind and a number, and nothing else.
-static bool read_number(const char *name, const char *kind, uint64_t *out) {
+int store_open_to_read(struct store *store, const char *folder) {
+    snprintf(store->folder, sizeof store->folder, "%s", folder);
+    int err = realpath(folder, store->folder) ? 0 : errno;
+    if (!err) store->directory = open(store->folder, O_RDONLY | O_DIRECTORY | O_CLOEXEC);
+    if (!err && store->directory < 0) err = errno;
+    if (!err) store->lock_file = openat(store->directory, "lock", O_RDONLY | O_CLOEXEC | O_NOFOLLOW);
+    if (!err && store->lock_file >= 0 && flock(store->lock_file, LOCK_SH | LOCK_NB)) err = errno;
+    if (err == EWOULDBLOCK) store_report(store, "a mount has this store");
+    else if (err) store_report(store, "%s", strerror(err));
+    return err;
+}
+
+// The number of a name that is a kind, a number and an ending.
+static bool read_number(const char *name, const char *kind, const char *ending, uint64_t *out) {
     size_t length = strlen(kind);
     char again[STORE_NAME];
     if (strncmp(name, kind, length) || name[length] != '.') return false;
     *out = strtoull(name + length + 1, NULL, 10);
-    store_name(again, kind, *out);
+    store_name_of(again, kind, *out, ending);
     return !strcmp(name, again);
 }
 
@@ -98,7 +112,7 @@ static int each_name(const struct store *store, int (*visit)(const struct store 
 }
 
 struct wanted {
-    const char *kind;
+    const char *kind, *ending;
     struct bytes *out;
 };
 
@@ -106,11 +120,12 @@ static int note_number(const struct store *store, const char *name, void *contex
     struct wanted *wanted = context;
     uint64_t number;
     (void)store;
-    return read_number(name, wanted->kind, &number) ? bytes_append(wanted->out, &number, sizeof number) : 0;
+    bool is = read_number(name, wanted->kind, wanted->ending, &number);
+    return is ? bytes_append(wanted->out, &number, sizeof number) : 0;
 }
 
-int store_numbers(const struct store *store, const char *kind, struct bytes *out) {
-    int err = each_name(store, note_number, &(struct wanted){kind, out});
+int store_numbers(const struct store *store, const char *kind, const char *ending, struct bytes *out) {
+    int err = each_name(store, note_number, &(struct wanted){kind, ending, out});
     if (!err && out->length) qsort(out->at, out->length / sizeof(uint64_t), sizeof(uint64_t), compare);
     return err;
 }
@@ -124,13 +139,13 @@ static bool ends_with(const char *name, const char *ending) {
 
 static bool begins_with(const char *name, const char *kind) { return !strncmp(name, kind, strlen(kind)); }
 
-// Whether a file is of an image or log below a number, or part of an image that did not become whole.
+// Whether a file is of an image or log below a number, or part of one that did not become whole.
 static bool is_past(const char *name, uint64_t below) {
     char *end;
     bool is_image = begins_with(name, "tree.") || begins_with(name, "snapshots.");
     if (!is_image && !begins_with(name, "log.")) return false;
     uint64_t number = strtoull(strchr(name, '.') + 1, &end, 10);
-    if (is_image && ends_with(end, ".part")) return true;
+    if (ends_with(end, ".part")) return true;
     return number < below && (!*end || (is_image && !strcmp(end, ".sum")));
 }
 

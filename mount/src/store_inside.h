@@ -4,6 +4,7 @@
 #include "worker_pool.h"
 #include "image.h"
 #include "locks.h"
+#include "wal_encode.h"
 #include "wal_layer.h"
 #include "store.h"
 #include <limits.h>
@@ -21,10 +22,15 @@ struct batch_list {
     struct wal_batch *first, *last;
 };
 
-// A log that is at its end.
-struct former_log {
+// A log that is written.
+struct wal_log {
     int file; // -1: there is none
-    uint64_t length;
+    uint64_t number;
+    struct wal_salt salt;
+    uint64_t length;    // bytes of its records
+    uint64_t allocated; // and with the zeros behind them
+    uint64_t records;   // its header too
+    unsigned marks;     // sync markers at its end
 };
 
 // A volume has no more snapshots. Where they are made of an image, the live tree takes one more name.
@@ -58,6 +64,17 @@ struct waiters {
     unsigned count;
 };
 
+// What a start is at.
+struct store_progress {
+    const char *folder;
+    const char *_Atomic what; // it does with a file of this number
+    _Atomic uint64_t number, done, total;
+    pthread_t thread;
+    pthread_mutex_t lock;
+    pthread_cond_t ended;
+    bool ends, has_thread;
+};
+
 struct store {
     struct wal_layer layer;
     char folder[PATH_MAX];
@@ -65,6 +82,7 @@ struct store {
     struct doorvervain *volume; // that of the library
     struct mount *mount;
     bool syncs_each;
+    bool rescues, has_lost; // nothing is written to it, and what is damaged is left out; something was
     uint64_t log_size;
     size_t max_pending; // bytes of calls before the writeback thread is waited for
 
@@ -78,16 +96,12 @@ struct store {
 
     // Under `wal_lock`.
     struct lock wal_lock;
-    uint64_t number;            // of the log
-    int log;                    // its file
-    uint64_t length;            // bytes of its records
-    uint64_t allocated;         // and with the zeros behind them
-    uint64_t records;           // in the log
+    struct wal_log log;
     _Atomic uint64_t wal_bytes; // bytes of all logs behind the tree's image; read without the lock
     uint64_t checkpoint_at;     // how many of them make another image worth its while
     bool is_synced;             // all of the log is on the disk
-    bool has_written;           // this mount has written to it
-    struct bytes record_buffer; // records that are put together
+    struct sha256_function digest; // of records
+    struct bytes record_buffer;    // records that are put together
     struct bytes frames;
     struct batch_list in_flight;
     struct wal_batch *reserved_batch; // has nothing, and is there where nothing is taken
@@ -101,6 +115,7 @@ struct store {
     _Atomic uint64_t sync_errseq;
     _Atomic int err; // why changes are refused, until a new image is whole; 0: they are not
 
+    struct store_progress progress;
     struct snapshot_index snapshot_index; // of who writes images: in the last file of snapshots
     struct worker_pool pool;
     pthread_t writeback_thread, sync_thread;
@@ -123,15 +138,18 @@ void store_unlock_wal(struct store *store);
 
 // ---- store_dir.c
 
-enum { STORE_NAME = 32 };
+enum { STORE_NAME = 40 };
 // The name of a file in the folder: `tree`, `snapshots` or `log`, and a number.
 void store_name(char out[STORE_NAME], const char *kind, uint64_t number);
-// The path of a file in the folder: 0 or ENAMETOOLONG.
+// A name with an ending, and the path of a file in the folder: 0 or ENAMETOOLONG.
+void store_name_of(char out[STORE_NAME], const char *kind, uint64_t number, const char *ending);
 int store_path(const struct store *store, const char *name, char out[PATH_MAX]);
 // Opens the folder, which is made where it is missing, and locks it. What failed is said.
 int store_lock(struct store *store, const char *folder);
-// The rising numbers of the files of a kind.
-int store_numbers(const struct store *store, const char *kind, struct bytes *out);
+// The same for one that is only read, and that no mount has. What failed is said.
+int store_open_to_read(struct store *store, const char *folder);
+// The rising numbers of the files of a kind with an ending.
+int store_numbers(const struct store *store, const char *kind, const char *ending, struct bytes *out);
 bool store_has(const struct store *store, const char *name);
 // Takes out the images and logs below a number, and parts of images.
 void store_clear(const struct store *store, uint64_t number);
@@ -163,16 +181,43 @@ int wal_sync_in_flight(struct store *store);
 uint64_t store_clock(void);
 // What was written is on its way to the disk, before it is synced.
 void store_begin_sync(struct store *store);
-// Opens a log to write behind so many bytes that it has, and makes it where it is missing.
-int store_open_log(struct store *store, uint64_t number, uint64_t length);
+// How many sync markers a log has at its end where a mount ended, and where another log follows.
+enum { MARKS_OF_END = 2, MARKS_OF_ROTATION = 3 };
+// Makes a log. It gets its name when its header is on the disk. `prior` is the log before it; null: there is none.
+int wal_create(struct store *store, uint64_t number, const struct wal_log *prior, struct wal_log *out);
 // The log is at its end, until another mount: what is found damaged in it then was on the disk.
 int store_close_log(struct store *store);
-// Begins the next log, which has nothing yet, and brings all of the former one onto the disk: both under `wal_lock`. So
-// what the next one has is never there without it.
-int wal_rotate(struct store *store, struct former_log *former);
-int store_end_log(struct store *store, const struct former_log *former);
+// Begins the next log, and brings all of the former one onto the disk: both under `wal_lock`. So what the next one has
+// behind its header is never there without it.
+int wal_rotate(struct store *store, struct wal_log *former);
+int store_end_log(struct store *store, struct wal_log *former);
+// Whether a log has no record but its header.
+bool wal_is_new(const struct wal_log *log);
 // The number of a record.
 uint64_t store_record(uint64_t log, uint64_t index);
+
+// ---- store_progress.c
+
+// From its third second on, a start says what it is at.
+void progress_begin(struct store *store);
+void progress_set(struct store *store, const char *what, uint64_t number, uint64_t total);
+void progress_end(struct store *store);
+
+// ---- store_sum.c
+
+// What tree.N.sum has.
+struct checkpoint_sum {
+    unsigned version; // 0: there is no such file; 1: that of release 0.2 and before, which has the tree's checksum alone
+    char tree[SHA256_DIGITS + 1];
+    char snapshots[SHA256_DIGITS + 1]; // empty: there is no snapshots.N
+    struct wal_salt salt;              // of log.N
+};
+// The text of version 2.
+int store_print_sum(struct bytes *out, uint64_t number, const struct checkpoint_sum *sum);
+// EINVAL where the file is there, and is none; which is said.
+int store_read_sum(const struct store *store, uint64_t number, struct checkpoint_sum *out);
+// Whether the files of a checkpoint are what this says of them. What is not so is said.
+int store_check_files(const struct store *store, uint64_t number, const struct checkpoint_sum *sum);
 
 // ---- store_recover.c
 
@@ -195,11 +240,14 @@ int store_print(struct checkpoint_file *file, struct doorvervain_printer *printi
                 size_t *size);
 // Does what is due between two pieces: ECANCELED where the end of the mount has come.
 int writeback_tick(struct checkpoint_file *file);
-// Ends it with its fault: the file gets its name where there is none, and else it goes.
-int store_end_checkpoint_file(struct checkpoint_file *file, int err);
+// Ends it with its fault: the file gets its name where there is none, with a file of these checksums beside it (null:
+// none), and else it goes.
+int store_end_checkpoint_file(struct checkpoint_file *file, const char *sum, int err);
 // Writes an image of the tree as it stands, and takes out what lies before it. Called with no lock; between its pieces
 // it calls `meanwhile`.
 int store_checkpoint(struct store *store, void (*meanwhile)(struct store *store));
+// Writes that of a new store, whose log has begun.
+int store_first_checkpoint(struct store *store);
 // Another is due when the logs behind one of so many bytes are longer than twice that, and than `log_size`.
 void checkpoint_threshold(struct store *store, uint64_t image);
 bool checkpoint_is_due(struct store *store);
@@ -224,9 +272,10 @@ struct frozen_snapshots {
 int store_freeze_snapshots(struct store *store, struct frozen_snapshots *out);
 void store_thaw_snapshots(struct frozen_snapshots *frozen);
 // Writes them into the file that belongs to an image, all of which was put; where there are none, no such file is left.
+// `sum` is its checksum.
 int store_put_snapshots(const struct checkpoint_file *tree, uint64_t number, struct frozen_snapshots *frozen,
-                        struct snapshot_index *out, uint64_t *size);
-// Makes those that belong to the image of a number, which the volume has. What failed is said. `size` is that of the
-// file.
+                        struct snapshot_index *out, char sum[SHA256_DIGITS + 1], uint64_t *size);
+// Makes those of the file that belongs to the image of a number, which the volume has. What failed is said. `size` is
+// that of the file.
 int store_make_snapshots(struct store *store, const struct backend *backend, uint64_t number, uint64_t *size);
 #endif

@@ -1,8 +1,8 @@
 // The snapshots of a store: which exist, how they are written beside a checkpoint, and how they are restored ("Delta"
 // in docs/FORMATS.md, at its end).
 //
-// Validity: `snapshots.N` counts if its SHA-256 digest is that of `snapshots.N.sum`, and each delta applies to the tree
-// before it. Invariant: it is on the disk before `tree.N` gets its name.
+// Validity: `snapshots.N` counts if its SHA-256 digest is that in `tree.N.sum`, and each delta applies to the tree before
+// it. Invariant: it is on the disk before `tree.N` gets its name.
 #include "delta_print.h"
 #include "delta_parse.h"
 #include "requests.h"
@@ -254,9 +254,10 @@ static void clear(const struct store *store, uint64_t number) {
 }
 
 int store_put_snapshots(const struct checkpoint_file *tree, uint64_t number, struct frozen_snapshots *frozen,
-                        struct snapshot_index *out, uint64_t *size) {
+                        struct snapshot_index *out, char sum[SHA256_DIGITS + 1], uint64_t *size) {
     struct snapshot_writer writer = {.file = {.store = tree->store, .meanwhile = tree->meanwhile}, .index = out};
     clear(tree->store, number);
+    *sum = 0;
     if (!frozen->count) return 0;
     out->file = number;
     int err = image_sum(&tree->image, writer.sum);
@@ -264,7 +265,8 @@ int store_put_snapshots(const struct checkpoint_file *tree, uint64_t number, str
     if (err) return err;
     err = put_all(&writer, frozen);
     *size = writer.file.size;
-    return store_end_checkpoint_file(&writer.file, err);
+    if (!err) err = image_sum(&writer.file.image, sum);
+    return store_end_checkpoint_file(&writer.file, NULL, err);
 }
 
 // ---- they are made again
@@ -360,6 +362,12 @@ static int make_all(struct snapshot_reader *reader) {
     return err ? err : call_snapshot(reader, DROP_SNAPSHOT, SNAPSHOT_SAVEPOINT);
 }
 
+// A rescue goes on with the live tree as it was.
+static void take_back(struct snapshot_reader *reader) {
+    if (call_snapshot(reader, RESTORE_SNAPSHOT, SNAPSHOT_SAVEPOINT)) return;
+    call_snapshot(reader, DROP_SNAPSHOT, SNAPSHOT_SAVEPOINT);
+}
+
 // The last that is told is the first that was taken.
 static void turn(struct snapshots *all) {
     for (unsigned i = 0; i < all->count / 2; i++) {
@@ -392,24 +400,13 @@ static int open_and_make(struct snapshot_reader *reader, const char *name, uint6
     return err;
 }
 
-// Whether the file is there, and is whole: ENOENT where there is none.
-static int try_file(const struct store *store, const char *name) {
-    char sum[STORE_NAME + 8], path[PATH_MAX];
-    snprintf(sum, sizeof sum, "%s.sum", name);
-    bool has_file = store_has(store, name), has_sum = store_has(store, sum);
-    if (!has_file && !has_sum) return ENOENT;
-    if (!has_file || !has_sum) return store_report(store, "%s is missing", has_file ? sum : name), EINVAL;
-    return store_path(store, name, path) || image_check(path) ? EINVAL : 0;
-}
-
 int store_make_snapshots(struct store *store, const struct backend *backend, uint64_t number, uint64_t *size) {
     struct snapshot_reader reader = {.store = store, .backend = backend, .name = "?"};
     char name[STORE_NAME];
     *size = 0;
     store_name(name, kind, number);
-    int err = try_file(store, name);
-    if (err) return err == ENOENT ? 0 : err;
-    err = open_and_make(&reader, name, size);
+    int err = open_and_make(&reader, name, size);
+    if (err && store->rescues) take_back(&reader);
     if (err)
         store_report(store, "%s: the snapshot %s is not made: %s", name, reader.name,
                      reader.why ? reader.why : strerror(err));

@@ -1,4 +1,4 @@
-// The process of --dump-log: prints the logs of a store as lines of a script ("Log" and "Script" in docs/FORMATS.md).
+// The process of --dump-log: prints the logs of a store as lines of a script ("Logs" and "Script" in docs/FORMATS.md).
 //
 // Validity: as in store_recover.c, records count up to the first that is not complete or has not the next number. It
 // opens the logs for reading alone.
@@ -24,15 +24,18 @@ static int put_lines(const uint8_t *body, size_t length, struct bytes *room) {
     return fwrite(room->at, 1, size, stdout) == size ? 0 : EIO;
 }
 
-// Of the records that lie whole in front.
-static int put_records(uint64_t log, const uint8_t *bytes, size_t length) {
+// Of the records that lie whole in front. The first of a log of version 2 has no changes.
+static int put_records(uint64_t log, const char *bytes, size_t length) {
     struct bytes room = {NULL};
-    size_t at = 0, size = 0;
+    struct wal_header header = {.salt.length = 0};
+    bool is_salted = wal_read_header(bytes, length, store_record(log, 0), &header);
+    size_t at = is_salted ? WAL_HEADER_RECORD : 0, size = 0;
     int err = 0;
-    for (uint64_t index = 0; !err; index++) {
-        if (doorvervain_wal_next(bytes + at, length - at, store_record(log, index), &size)) break;
+    if (!is_salted) header.salt.length = 0;
+    for (uint64_t index = is_salted; !err; index++) {
+        if (!wal_next(bytes + at, length - at, &header.salt, store_record(log, index), &size)) break;
         printf("# record %" PRIu64 " of log.%" PRIu64 ", at byte %zu\n", index, log, at);
-        err = put_lines(bytes + at + DOORVERVAIN_WAL_HEADER, size, &room);
+        err = put_lines((const uint8_t *)bytes + at + DOORVERVAIN_WAL_HEADER, size, &room);
         at += DOORVERVAIN_WAL_HEADER + size + DOORVERVAIN_WAL_TRAILER;
     }
     if (!err && at < length) printf("# what lies behind byte %zu of log.%" PRIu64 " counts for nothing\n", at, log);
@@ -58,7 +61,7 @@ static int put_log(const struct store *store, uint64_t number) {
 
 static int put_logs(const struct store *store) {
     struct bytes numbers = {NULL};
-    int err = store_numbers(store, "log", &numbers);
+    int err = store_numbers(store, "log", "", &numbers);
     for (size_t at = 0; !err && at < numbers.length; at += sizeof(uint64_t)) {
         uint64_t number;
         memcpy(&number, numbers.at + at, sizeof number);

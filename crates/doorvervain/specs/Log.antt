@@ -8,10 +8,10 @@ use Rattle.wal.specs.declared.replay_error.ReplayError.{ReplayError}
 use Rattle.volume.specs.Volumes.{PVolume}
 use Rattle.doorvervain.specs.Numbers.{reported}
 
--- the log begins with the record of the number, whose body has so many bytes; or with none (ENOENT)
-abbrev pub FindsRecord : ℕ → List ℕ → Result ℕ Errno → Type 0
-FindsRecord n log (Ok size) = (body : List ℕ) × (rest : List ℕ) × (log ≡ record_of n body ++ rest) × (size ≡ length body)
-FindsRecord n log (Err e) = (e ≡ ENOENT) × LacksRecord n log
+-- the log of a salt begins with the record of the number, whose body has so many bytes; or with none (ENOENT)
+abbrev pub FindsRecord : List ℕ → ℕ → List ℕ → Result ℕ Errno → Type 0
+FindsRecord salt n log (Ok size) = (body : List ℕ) × (rest : List ℕ) × (log ≡ record_of salt n body ++ rest) × (size ≡ length body)
+FindsRecord salt n log (Err e) = (e ≡ ENOENT) × LacksRecord salt n log
 
 -- where a run stopped, by what was told and by how many changes were done
 abbrev pub stopped_of : Result (Unit {0}) Errno → ℕ → Option ReplayError
@@ -27,7 +27,7 @@ abbrev pub stopped_reported : ℕ → ℕ → Result (Unit {0}) ReplayError
 stopped_reported number done = ended (stopped_of (reported number) done)
 
 -- a log was replayed; or its numbers would pass 2^64 (EINVAL), nothing was done, and nothing is counted
-abbrev pub ReplaysReported : ℕ → List ℕ → ℕ → ℕ → ℕ → ℕ → PVolume → PVolume → Type 0
-ReplaysReported n log number records done size old new =
-    Replays n log (record { records = records; size = size; stopped = stopped_of (reported number) done }) old new
+abbrev pub ReplaysReported : List ℕ → ℕ → List ℕ → ℕ → ℕ → ℕ → ℕ → PVolume → PVolume → Type 0
+ReplaysReported salt n log number records done size old new =
+    Replays salt n log (record { records = records; size = size; stopped = stopped_of (reported number) done }) old new
     ⊎ ((2 ^ 64 ≤ n + length log) × (reported number ≡ Err EINVAL) × (records ≡ 0) × (done ≡ 0) × (size ≡ 0) × (new ≡ old))

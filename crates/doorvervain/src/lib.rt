@@ -17,4 +17,5 @@ mod parts;
 mod pieces;
 mod place;
 mod records;
+mod salted_log;
 mod upkeep;

@@ -1,6 +1,6 @@
 //! Exports of logs: the changes and records of a log take no volume, and a log is run on one. A refusal gives 0 as each other result,
 //! where nothing else is said.
-ghost use Rattle.std.specs.Prelude.{◌≡◌, ◌↔◌, ◌++◌, IfErr, IfOk, length};
+ghost use Rattle.std.specs.Prelude.{◌≡◌, ◌↔◌, ◌++◌, IfErr, IfOk, [], length};
 ghost use Rattle.pathkey.specs.SnapNames.{snap_parsed};
 ghost use Rattle.pathkey.specs.Texts.{parsed};
 ghost use Rattle.pathkey.specs.declared.errno.Errno.TheVariants.{ENOMEM};
@@ -265,13 +265,13 @@ pub extern "C" fn doorvervain_raw_wal_frame(
     out: &mut [u8],
     size: &mut usize,
 ) -> u8
-    ensures ends { EncodesBytes (front number (length body.now) ++ digest number body.now) (sized_by result size.new) out.old out.new }
+    ensures ends { EncodesBytes (front [] number (length body.now) ++ digest [] number body.now) (sized_by result size.new) out.old out.new }
     ensures memory { IfErr (sized_by result size.new) (λ e. e ≡ ENOMEM) }
     ensures short { (result ≡ short) ↔ IsShort size.new out.old }
     ensures number { IsSizeNumber result }
     ensures refused { IfErr (sized_by result size.new) (λ _. size.new ≡ 0) }
 {
-    let laid = encode_frame(alloc, number, body, out);
+    let laid = encode_frame(alloc, &[], number, body, out);
     sized(laid, out.len(), size)
 }
 
@@ -279,11 +279,11 @@ pub extern "C" fn doorvervain_raw_wal_frame(
 /// next record 32 bytes behind them. ENOENT where the log begins with no such record.
 #[unsafe(no_mangle)]
 pub extern "C" fn doorvervain_raw_wal_next(log: &[u8], number: u64, size: &mut usize) -> u8
-    ensures record { FindsRecord number log.now (reported_by result size.new) }
+    ensures record { FindsRecord [] number log.now (reported_by result size.new) }
     ensures number { IsNumber result }
     ensures refused { IfErr (reported_by result size.new) (λ _. size.new ≡ 0) }
 {
-    let found = match next_record(log, number) {
+    let found = match next_record(log, &[], number) {
         Some((body, _)) => Ok(body.len()),
         None => Err(Errno::ENOENT),
     };
@@ -340,7 +340,7 @@ pub extern "C" fn doorvervain_raw_wal_replay(
     done: &mut usize,
     size: &mut usize,
 ) -> u8
-    ensures replayed { ReplaysReported number log.now result records.new done.new size.new fs.old.volume fs.new.volume }
+    ensures replayed { ReplaysReported [] number log.now result records.new done.new size.new fs.old.volume fs.new.volume }
     ensures all { IfOk (reported result) (λ _. done.new ≡ 0) }
     ensures number { IsNumber result }
 {
@@ -350,14 +350,14 @@ pub extern "C" fn doorvervain_raw_wal_replay(
         *size = 0;
         return Errno::EINVAL.number();
     }
-    let reported = replay(alloc, fs.volume(), log, number);
+    let reported = replay(alloc, fs.volume(), log, &[], number);
     *records = reported.records;
     *size = reported.size;
     tell(reported.stopped, done)
 }
 
 // The number of a run, and how many changes were done before the one that was refused.
-fn tell(stopped: Option<ReplayError>, done: &mut usize) -> u8
+pub(crate) fn tell(stopped: Option<ReplayError>, done: &mut usize) -> u8
     ensures reported { stopped_of (reported result) done.new ≡ stopped }
     ensures all { IfOk (reported result) (λ _. done.new ≡ 0) }
     ensures number { IsNumber result }

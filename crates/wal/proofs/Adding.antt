@@ -9,7 +9,7 @@ use Rattle.wal.specs.declared.wal_entry.WalEntry.{WalEntry}
 use Rattle.wal.specs.declared.wal_entry.WalEntry.TheVariants.{Write}
 use Rattle.wal.specs.Added.{Adds, AddsAll, AddsLine, AddsParts, Fits, script}
 use Rattle.wal.specs.Lines.{DumpLine, At, Makes, line}
-use Rattle.wal.specs.Dump.{AreParts, HasFar, TellAll, Tells, exceeds_range}
+use Rattle.wal.specs.Dump.{AreParts, HasBytes, HasFar, TellAll, Tells, exceeds_range}
 
 -- ---- lists
 
@@ -52,22 +52,24 @@ adds_two c n a b d tells one two = record {
 pub adds_write : (p : Path) (off : ℕ) (w : List ℕ) (n : ℕ) (a b d : Text) → AddsLine (At n) a b → AddsParts p off w n b d → Adds (Write p off w n) a d
 adds_write p off w n a b d one parts = record {
   lines = At n ∷ map Makes parts.writes;
-  tells = (parts.writes, parts.some, refl, parts.parts);
+  tells = (parts.writes, parts.some, refl, parts.parts, parts.filled);
   fit = (one.fits, parts.fit);
   added = parts.added ∙ ap (λ (l : Text). l ++ script (map Makes parts.writes)) one.added ∙ append_assoc a (line (At n)) (script (map Makes parts.writes));
 }
 
 -- ---- parts of a write
 
--- lines of writes were added that lay the bytes up to a place
+-- lines of writes were added that lay the bytes up to a place; if there are bytes, each of the writes has some, and the rest has some
 pub record Partly (p : Path) (off : ℕ) (w : List ℕ) (at : ℕ) (from : ℕ) (rest : List ℕ) (old new : Text) : Type 0 where
   pub writes : List WalEntry
   pub others : (cs : List WalEntry) → AreParts p from rest at cs → AreParts p off w at (writes ++ cs)
+  pub filled : w ≢ [] → AllByRecursion HasBytes writes
+  pub left : w ≢ [] → rest ≢ []
   pub fit : AllByRecursion Fits (map Makes writes)
   pub added : new ≡ old ++ script (map Makes writes)
 
 pub parts_none : (p : Path) (off : ℕ) (w : List ℕ) (at : ℕ) (a : Text) → Partly p off w at off w a a
-parts_none p off w at a = record { writes = []; others = λ cs h. h; fit = tt; added = sym (append-nil a) }
+parts_none p off w at a = record { writes = []; others = λ cs h. h; filled = λ some. tt; left = λ some. some; fit = tt; added = sym (append-nil a) }
 
 not_nil : (cs : List WalEntry) (c : WalEntry) → cs ++ c ∷ [] ≢ []
 not_nil [] c e = cc
@@ -77,24 +79,35 @@ map_more : (cs : List WalEntry) (c : WalEntry) → map Makes (cs ++ c ∷ []) �
 map_more [] c = refl
 map_more (d ∷ cs) c = ap (λ (ts : List DumpLine). Makes d ∷ ts) (map_more cs c)
 
+-- of what is left, some bytes are some
+pub part_some : (rest part : List ℕ) (n : ℕ) → part ≡ take n rest → (length rest ≢ 0 → 0 < n) → rest ≢ [] → part ≢ []
+part_some [] part n is some there none = there refl
+part_some (x ∷ rest) part zero is some there none = let some_one : length (x ∷ rest) ≢ 0 = omega arith in let h = some some_one in absurd (omega (arith, h))
+part_some (x ∷ rest) part (suc n) is some there none = let e : x ∷ take n rest ≡ [] = sym is ∙ none in cc
+
 -- what is left, cut in two
 pub rest_cut : (rest part behind : List ℕ) (n : ℕ) → part ≡ take n rest → behind ≡ drop n rest → rest ≡ part ++ behind
 rest_cut rest part behind n front back = sym (take-append-drop n rest) ∙ ap (λ (x : List ℕ). x ++ drop n rest) (sym front) ∙ ap (λ (x : List ℕ). part ++ x) (sym back)
 
-module _ (p : Path) (off : ℕ) (w : List ℕ) (at from : ℕ) (rest part behind : List ℕ) (a b c : Text) (so_far : Partly p off w at from rest a b) (split : rest ≡ part ++ behind) (one : AddsLine (Makes (Write p from part at)) b c) where
+module _ (p : Path) (off : ℕ) (w : List ℕ) (at from : ℕ) (rest part behind : List ℕ) (a b c : Text) (so_far : Partly p off w at from rest a b) (split : rest ≡ part ++ behind) (one : AddsLine (Makes (Write p from part at)) b c) (cut : rest ≢ [] → part ≢ []) where
   abbrev this : WalEntry
   this = Write p from part at
 
   more_fit : AllByRecursion Fits (map Makes (so_far.writes ++ this ∷ []))
   more_fit = subst (AllByRecursion Fits) (sym (map_more so_far.writes this)) (all_more Fits (map Makes so_far.writes) (Makes this ∷ []) so_far.fit (one.fits, tt))
 
+  more_filled : w ≢ [] → AllByRecursion HasBytes (so_far.writes ++ this ∷ [])
+  more_filled some = all_more HasBytes so_far.writes (this ∷ []) (so_far.filled some) (cut (so_far.left some), tt)
+
   more_added : c ≡ a ++ script (map Makes (so_far.writes ++ this ∷ []))
   more_added = added_line (Makes this) (map Makes so_far.writes) a b c so_far.added one.added ∙ ap (λ (ts : List DumpLine). a ++ script ts) (sym (map_more so_far.writes this))
 
-  pub parts_more : Partly p off w at (from + length part) behind a c
-  parts_more = record {
+  pub parts_more : behind ≢ [] → Partly p off w at (from + length part) behind a c
+  parts_more some = record {
     writes = so_far.writes ++ this ∷ [];
     others = λ cs h. subst (AreParts p off w at) (sym (append_assoc so_far.writes (this ∷ []) cs)) (so_far.others (this ∷ cs) (part, behind, split, refl, h));
+    filled = more_filled;
+    left = λ there. some;
     fit = more_fit;
     added = more_added;
   }
@@ -105,6 +118,7 @@ module _ (p : Path) (off : ℕ) (w : List ℕ) (at from : ℕ) (rest part behind
     writes = so_far.writes ++ this ∷ [];
     some = not_nil so_far.writes this;
     parts = so_far.others (this ∷ []) (part, behind, split, refl, none);
+    filled = more_filled;
     fit = more_fit;
     added = more_added;
   }

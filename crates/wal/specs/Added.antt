@@ -9,7 +9,7 @@ use Rattle.wal.specs.Entries.{IsWord}
 use Rattle.wal.specs.declared.wal_entry.WalEntry.{WalEntry}
 use Rattle.wal.specs.declared.wal_entry.WalEntry.TheVariants.{OnPath, Rename, Truncate, Write, Punch, Keep}
 use Rattle.wal.specs.Lines.{DumpLine, At, Makes, line}
-use Rattle.wal.specs.Dump.{AreParts, TellAll, Tells}
+use Rattle.wal.specs.Dump.{AreParts, HasBytes, TellAll, Tells}
 
 -- a line has room for the change: its paths and names are some, its numbers fit, and a write has few bytes
 abbrev pub HasRoom : WalEntry → Type 0
@@ -39,6 +39,7 @@ pub record AddsParts (p : Path) (off : ℕ) (w : List ℕ) (at : ℕ) (old new :
   pub writes : List WalEntry
   pub some : writes ≢ []
   pub parts : AreParts p off w at writes
+  pub filled : w ≢ [] → AllByRecursion HasBytes writes
   pub fit : AllByRecursion Fits (map Makes writes)
   pub added : new ≡ old ++ script (map Makes writes)
 

@@ -1,5 +1,6 @@
 -- What the lines of a script tell of the changes of a log.
 use Rattle.std.specs.Prelude.{◌≡◌, ◌≢◌, ◌⊎◌, ◌+◌, ◌^◌, ◌≤◌, nat_le, ℕ, List, [], ◌∷◌, ◌++◌, length, map, codes, Bool, true, false, Some, Result, Ok, Err, ⊤}
+use Rattle.std.specs.List.{AllByRecursion}
 use Rattle.pathkey.specs.Names.{Path}
 use Rattle.pathkey.specs.declared.errno.Errno.{Errno}
 use Rattle.pathkey.specs.declared.errno.Errno.TheVariants.{EFBIG, ENOMEM}
@@ -18,12 +19,18 @@ abbrev pub AreParts : Path → ℕ → List ℕ → ℕ → List WalEntry → Ty
 AreParts p off w at [] = w ≡ []
 AreParts p off w at (c ∷ cs) = (front : List ℕ) × (back : List ℕ) × (w ≡ front ++ back) × (c ≡ Write p off front at) × AreParts p (off + length front) back at cs
 
--- a change is told with its moment before it, if it has one: a write by one write or more, and a hole without its moment
+-- a write of some bytes
+abbrev pub HasBytes : WalEntry → Type 0
+HasBytes (Write p off w at) = w ≢ []
+HasBytes _ = ⊤
+
+-- a change is told with its moment before it, if it has one: a write by one write or more, none of which is empty unless the write is, and a
+-- hole without its moment
 abbrev pub Tells : WalEntry → List DumpLine → Type 0
 Tells (OnPath what p at) ts = ts ≡ At at ∷ Makes (OnPath what p at) ∷ []
 Tells (Rename o n at) ts = ts ≡ At at ∷ Makes (Rename o n at) ∷ []
 Tells (Truncate p len at) ts = ts ≡ At at ∷ Makes (Truncate p len at) ∷ []
-Tells (Write p off w at) ts = (cs : List WalEntry) × (cs ≢ []) × (ts ≡ At at ∷ map Makes cs) × AreParts p off w at cs
+Tells (Write p off w at) ts = (cs : List WalEntry) × (cs ≢ []) × (ts ≡ At at ∷ map Makes cs) × AreParts p off w at cs × (w ≢ [] → AllByRecursion HasBytes cs)
 Tells c ts = ts ≡ Makes c ∷ []
 
 -- changes are told in their order

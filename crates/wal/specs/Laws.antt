@@ -1,5 +1,5 @@
 -- Laws of logs that are cut off or damaged, of what a crash leaves of them, and of their lines.
-use Rattle.std.specs.Prelude.{◌≡◌, ◌≢◌, ◌≤◌, ◌+◌, ℕ, List, ◌++◌, length, take, codes}
+use Rattle.std.specs.Prelude.{◌≡◌, ◌≢◌, ◌≤◌, ◌+◌, ℕ, List, ◌++◌, length, take}
 use Rattle.std.specs.List.{AllByRecursion}
 use Rattle.pathkey.specs.Names.{Path}
 use Rattle.reference.specs.Calls.{does}
@@ -8,7 +8,7 @@ use Rattle.reference.specs.Tree.{Tree}
 use Rattle.reference.specs.declared.call.Call.TheVariants.{Write}
 use Rattle.reference.specs.declared.reply.Reply.TheVariants.{Count}
 use Rattle.wal.specs.Entries.{IsWord, body_of, IsChange, word}
-use Rattle.wal.specs.Records.{AreBodies, Counts, LacksRecord, digest, front, whole, written}
+use Rattle.wal.specs.Records.{AreBodies, Counts, LacksRecord, digest, front, magic, record_of, whole, written}
 use Rattle.wal.specs.Replays.{bodies}
 use Rattle.wal.specs.declared.wal_entry.WalEntry.{WalEntry}
 
@@ -18,42 +18,46 @@ OneBodyLaw = (cs ds : List WalEntry) → AllByRecursion IsChange cs → AllByRec
 
 -- what counts of a log is told by its bytes
 abbrev pub OneReadingLaw : Type 0
-OneReadingLaw = (n : ℕ) (log : List ℕ) (bs cs : List (List ℕ)) (r s : List ℕ) → Counts n log bs r → Counts n log cs s → (bs ≡ cs) × (r ≡ s)
+OneReadingLaw = (salt : List ℕ) (n : ℕ) (log : List ℕ) (bs cs : List (List ℕ)) (r s : List ℕ) → Counts salt n log bs r → Counts salt n log cs s → (bs ≡ cs) × (r ≡ s)
 
 -- of a log that is cut anywhere the records count that lie whole before the cut, and no other
 abbrev pub CutLaw : Type 0
-CutLaw = (n k : ℕ) (bs : List (List ℕ)) → AreBodies bs → (rest : List ℕ) × Counts n (take k (written n bs)) (whole k n bs) rest
+CutLaw = (salt : List ℕ) (n k : ℕ) (bs : List (List ℕ)) → AreBodies bs → (rest : List ℕ) × Counts salt n (take k (written salt n bs)) (whole salt k n bs) rest
 
 -- they are the first records of the log, and among them are all that lie whole before byte k
 abbrev pub FirstLaw : Type 0
-FirstLaw = (n k : ℕ) (bs : List (List ℕ)) → (m : ℕ) × (m ≤ length bs) × (whole k n bs ≡ take m bs) × ((s : ℕ) → s ≤ length bs → length (written n (take s bs)) ≤ k → s ≤ m)
+FirstLaw = (salt : List ℕ) (n k : ℕ) (bs : List (List ℕ)) → (m : ℕ) × (m ≤ length bs) × (whole salt k n bs ≡ take m bs) × ((s : ℕ) → s ≤ length bs → length (written salt n (take s bs)) ≤ k → s ≤ m)
 
 -- whatever stands behind records, these are the first that count
 abbrev pub TailLaw : Type 0
-TailLaw = (n : ℕ) (bs cs : List (List ℕ)) (tail rest : List ℕ) → AreBodies bs → Counts n (written n bs ++ tail) cs rest → (ds : List (List ℕ)) × (cs ≡ bs ++ ds)
+TailLaw = (salt : List ℕ) (n : ℕ) (bs cs : List (List ℕ)) (tail rest : List ℕ) → AreBodies bs → Counts salt n (written salt n bs ++ tail) cs rest → (ds : List (List ℕ)) × (cs ≡ bs ++ ds)
 
 -- a record whose body became another of that length is none, where the digest tells them apart
 abbrev pub DigestLaw : Type 0
-DigestLaw = (n : ℕ) (body other rest : List ℕ) → IsWord (length body) → length other ≡ length body → digest n other ≢ digest n body
-    → LacksRecord n (front n (length body) ++ other ++ digest n body ++ rest)
+DigestLaw = (salt : List ℕ) (n : ℕ) (body other rest : List ℕ) → IsWord (length body) → length other ≡ length body → digest salt n other ≢ digest salt n body
+    → LacksRecord salt n (front salt n (length body) ++ other ++ digest salt n body ++ rest)
 
--- nor is one whose mark or number became another
+-- nor is the record of another log, where the digest tells the salts apart
+abbrev pub SaltLaw : Type 0
+SaltLaw = (salt other : List ℕ) (n : ℕ) (body rest : List ℕ) → IsWord (length body) → digest other n body ≢ digest salt n body → LacksRecord salt n (record_of other n body ++ rest)
+
+-- nor is one whose magic bytes or number became others
 abbrev pub NumberLaw : Type 0
-NumberLaw = (n : ℕ) (bytes : List ℕ) → take 16 bytes ≢ codes "dvlog 1\n" ++ word n → LacksRecord n bytes
+NumberLaw = (salt : List ℕ) (n : ℕ) (bytes : List ℕ) → take 16 bytes ≢ magic salt ++ word n → LacksRecord salt n bytes
 
 -- the log of requests, from the record n on
-abbrev pub log_of : ℕ → List (List WalEntry) → List ℕ
-log_of n css = written n (bodies css)
+abbrev pub log_of : List ℕ → ℕ → List (List WalEntry) → List ℕ
+log_of salt n css = written salt n (bodies css)
 
 -- A log was synced with its first s requests, more were appended, and a crash left a beginning of it that is no shorter than what was synced.
 -- What counts of it are the first m requests, and m is no less than s.
 abbrev pub CrashLaw : Type 0
-CrashLaw = (n k s : ℕ) (css : List (List WalEntry)) → AreBodies (bodies css) → s ≤ length css → length (log_of n (take s css)) ≤ k
-    → (m : ℕ) × (rest : List ℕ) × (s ≤ m) × (m ≤ length css) × Counts n (take k (log_of n css)) (bodies (take m css)) rest
+CrashLaw = (salt : List ℕ) (n k s : ℕ) (css : List (List WalEntry)) → AreBodies (bodies css) → s ≤ length css → length (log_of salt n (take s css)) ≤ k
+    → (m : ℕ) × (rest : List ℕ) × (s ≤ m) × (m ≤ length css) × Counts salt n (take k (log_of salt n css)) (bodies (take m css)) rest
 
 -- Whatever a crash left behind the synced requests, they are the first that count.
 abbrev pub SyncedLaw : Type 0
-SyncedLaw = (n : ℕ) (css : List (List WalEntry)) (tail rest : List ℕ) (bs : List (List ℕ)) → AreBodies (bodies css) → Counts n (log_of n css ++ tail) bs rest
+SyncedLaw = (salt : List ℕ) (n : ℕ) (css : List (List WalEntry)) (tail rest : List ℕ) (bs : List (List ℕ)) → AreBodies (bodies css) → Counts salt n (log_of salt n css ++ tail) bs rest
     → (ds : List (List ℕ)) × (bs ≡ bodies css ++ ds)
 
 -- where one write of x and then y is done at a moment, so are a write of x and one of y where that ended, and they make the same

@@ -17,18 +17,18 @@ abbrev pub bodies : List (List WalEntry) → List (List ℕ)
 bodies css = map body_of css
 
 -- behind the records that were done no record more counts; or that of the next number was not done
-abbrev pub Ends : ℕ → List ℕ → Option ReplayError → PVolume → PVolume → Type 0
-Ends n rest None old new = LacksRecord n rest × (new ≡ old)
-Ends n rest (Some s) old new = (body : List ℕ) × (behind : List ℕ) × (rest ≡ record_of n body ++ behind) × RunsBody body (Err s) old new
+abbrev pub Ends : List ℕ → ℕ → List ℕ → Option ReplayError → PVolume → PVolume → Type 0
+Ends salt n rest None old new = LacksRecord salt n rest × (new ≡ old)
+Ends salt n rest (Some s) old new = (body : List ℕ) × (behind : List ℕ) × (rest ≡ record_of salt n body ++ behind) × RunsBody body (Err s) old new
 
 -- the first records of a log were done, which are those of these requests
-pub record Replays (n : ℕ) (log : List ℕ) (report : ReplayReport) (old new : PVolume) : Type 0 where
+pub record Replays (salt : List ℕ) (n : ℕ) (log : List ℕ) (report : ReplayReport) (old new : PVolume) : Type 0 where
   pub css : List (List WalEntry)
   pub rest : List ℕ
   pub between : PVolume
-  pub is : log ≡ written n (bodies css) ++ rest
+  pub is : log ≡ written salt n (bodies css) ++ rest
   pub fit : AreBodies (bodies css)
   pub records : report.records ≡ length css
-  pub size : report.size ≡ length (written n (bodies css))
+  pub size : report.size ≡ length (written salt n (bodies css))
   pub reaches : Reaches (all_of css) old between
-  pub ends : Ends (n + length css) rest report.stopped between new
+  pub ends : Ends salt (n + length css) rest report.stopped between new

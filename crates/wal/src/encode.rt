@@ -138,12 +138,18 @@ pub fn encode_snapshot_call(
     encode(alloc, head, parsed.as_bytes(), &[], out)
 }
 
-/// What stands round the body of a record of this number: the 24 bytes before it, and the 32 behind it.
-pub fn encode_frame(alloc: Global, number: u64, body: &[u8], out: &mut [u8]) -> Result<usize, Errno>
-    ensures bytes { EncodesBytes (front number (length body.now) ++ digest number body.now) result out.old out.new }
+/// What stands round the body of a record of this number in the log of a salt: the 24 bytes before it, and the 32 behind it.
+pub fn encode_frame(
+    alloc: Global,
+    salt: &[u8],
+    number: u64,
+    body: &[u8],
+    out: &mut [u8],
+) -> Result<usize, Errno>
+    ensures bytes { EncodesBytes (front salt.now number (length body.now) ++ digest salt.now number body.now) result out.old out.new }
     ensures refused { IfErr result (λ e. e ≡ ENOMEM) }
 {
-    let ends = record_frame(alloc, number, body)?;
+    let ends = record_frame(alloc, salt, number, body)?;
     Ok(encode_two(ends.as_slice(), &[], out))
 }
 

@@ -1,5 +1,5 @@
 //! Laws of logs, of crashes and of lines. The functions do nothing.
-ghost use Rattle.wal.specs.Laws.{CrashLaw, CutLaw, DigestLaw, FirstLaw, NumberLaw, OneBodyLaw, OneReadingLaw, SplitLaw, SyncedLaw, TailLaw};
+ghost use Rattle.wal.specs.Laws.{CrashLaw, CutLaw, DigestLaw, FirstLaw, NumberLaw, OneBodyLaw, OneReadingLaw, SaltLaw, SplitLaw, SyncedLaw, TailLaw};
 
 /// Bytes are read in one way: a body as changes, and a log as records.
 pub fn one_reading()
@@ -13,10 +13,12 @@ pub fn cut_anywhere()
     ensures first { FirstLaw }
 {}
 
-/// Damage takes no record before it away; and what it touches is a record no more, where mark, number or digest tell it.
+/// Damage takes no record before it away; and what it touches is a record no more, where magic bytes, number or digest tell it. Nor is
+/// the record of a log with another salt.
 pub fn damaged()
     ensures tail { TailLaw }
     ensures digest { DigestLaw }
+    ensures salt { SaltLaw }
     ensures number { NumberLaw }
 {}
 

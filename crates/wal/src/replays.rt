@@ -19,15 +19,21 @@ pub struct ReplayReport {
     pub stopped: Option<ReplayError>,
 }
 
-/// Does the changes of a log's records, the first of which has this number, up to the log's end or to the first change that is refused.
-/// Records that are cut off or damaged, and what is behind them, do not count.
-pub fn replay(alloc: Global, volume: &mut Volume, log: &[u8], number: u64) -> ReplayReport
+/// Does the changes of the records of a log with this salt, the first of which has this number, up to the log's end or to the first change
+/// that is refused. Records that are cut off or damaged, and what is behind them, do not count.
+pub fn replay(
+    alloc: Global,
+    volume: &mut Volume,
+    log: &[u8],
+    salt: &[u8],
+    number: u64,
+) -> ReplayReport
     requires { number + length log.now < 2 ^ 64 }
-    ensures { Replays number log.now result volume.old volume.new }
+    ensures { Replays salt.now number log.now result volume.old volume.new }
 {
     let mut records = 0;
     let mut rest = log;
-    while let Some((body, behind)) = next_record(rest, number + records as u64) {
+    while let Some((body, behind)) = next_record(rest, salt, number + records as u64) {
         if let Err(stopped) = replay_body(alloc, volume, body) {
             return ReplayReport {
                 records,

@@ -1,17 +1,17 @@
 //! A log that is cut at each of its bytes, and one of which each byte is changed.
 use crate::log_by_hand::{
-    FIRST, FIRST_BODY, FIRST_END, LOG, SECOND_BODY, SECOND_END, SIZE, THIRD_BODY,
+    FIRST, FIRST_BODY, FIRST_END, LOG, SALT, SALTED, SECOND_BODY, SECOND_END, SIZE, THIRD_BODY,
 };
 use std::alloc::Global;
 use std::test::Fail;
 use wal::encode::encode_frame;
 use wal::next_record;
 
-/// How many records count of a log.
-fn records_in(log: &[u8]) -> u64 {
+/// How many records count of a log with this salt.
+fn records_in(log: &[u8], salt: &[u8]) -> u64 {
     let mut rest = log;
     for number in 0..8 {
-        match next_record(rest, FIRST + number) {
+        match next_record(rest, salt, FIRST + number) {
             Some((_, behind)) => rest = behind,
             None => return number,
         }
@@ -33,26 +33,27 @@ fn whole_before(place: usize) -> u64 {
 }
 
 /// Whether a log that is cut at this byte has the records that lie whole before it.
-fn is_cut_well(place: usize) -> bool {
-    place <= LOG.len() && records_in(&LOG[..place]) == whole_before(place)
+fn is_cut_well(log: &[u8], salt: &[u8], place: usize) -> bool {
+    place <= log.len() && records_in(&log[..place], salt) == whole_before(place)
 }
 
 /// Whether a log with another byte at this place has the records that end before it.
-fn is_reported(alloc: Global, place: usize) -> bool {
-    let Ok(mut log) = Vec::from_slice(alloc, LOG) else {
+fn is_reported(alloc: Global, log: &[u8], salt: &[u8], place: usize) -> bool {
+    let Ok(mut log) = Vec::from_slice(alloc, log) else {
         return false;
     };
     match log.get_mut(place) {
         Some(byte) => *byte ^= 0x10,
         None => return false,
     }
-    records_in(log.as_slice()) == whole_before(place)
+    records_in(log.as_slice(), salt) == whole_before(place)
 }
 
 #[test]
 fn a_log_cut_anywhere_has_the_records_before_the_cut(rt: HostRuntime) -> Result<(), Fail> {
     for place in 0..SIZE + 1 {
-        assert!(rt; is_cut_well(place), "{place}");
+        assert!(rt; is_cut_well(LOG, b"", place), "{place}");
+        assert!(rt; is_cut_well(SALTED, SALT, place), "{place}");
     }
     Ok(())
 }
@@ -60,34 +61,60 @@ fn a_log_cut_anywhere_has_the_records_before_the_cut(rt: HostRuntime) -> Result<
 #[test]
 fn a_changed_byte_ends_the_log_at_its_record(rt: HostRuntime) -> Result<(), Fail> {
     for place in 0..SIZE {
-        assert!(rt; is_reported(rt.alloc(), place), "{place}");
+        assert!(rt; is_reported(rt.alloc(), LOG, b"", place), "{place}");
+        assert!(rt; is_reported(rt.alloc(), SALTED, SALT, place), "{place}");
     }
     Ok(())
 }
 
 #[test]
 fn other_numbers_are_no_records(rt: HostRuntime) -> Result<(), Fail> {
-    assert!(rt; next_record(LOG, FIRST + 1).is_none());
-    assert!(rt; next_record(LOG, 0).is_none());
-    assert!(rt; next_record(&LOG[1..], FIRST).is_none());
+    assert!(rt; next_record(LOG, b"", FIRST + 1).is_none());
+    assert!(rt; next_record(LOG, b"", 0).is_none());
+    assert!(rt; next_record(&LOG[1..], b"", FIRST).is_none());
     Ok(())
 }
 
-/// Whether these bytes stand round a body.
-fn has_ends(alloc: Global, number: u64, body: &[u8], front: &[u8], back: &[u8]) -> bool {
+#[test]
+fn other_salts_are_no_records(rt: HostRuntime) -> Result<(), Fail> {
+    assert_eq!(rt; records_in(SALTED, SALT), 3);
+    assert_eq!(rt; records_in(SALTED, b""), 0);
+    assert_eq!(rt; records_in(SALTED, b"0123456789:;<=>"), 0);
+    assert_eq!(rt; records_in(SALTED, b"1123456789:;<=>?"), 0);
+    assert_eq!(rt; records_in(LOG, SALT), 0);
+    Ok(())
+}
+
+/// Whether these bytes are a record of a body.
+fn is_record(alloc: Global, salt: &[u8], number: u64, body: &[u8], record: &[u8]) -> bool {
     let mut room = [0u8; 56];
-    match encode_frame(alloc, number, body, &mut room) {
-        Ok(size) => size == 56 && &room[..24] == front && &room[24..] == back,
+    let Some((front, behind)) = record.split_at_checked(24) else {
+        return false;
+    };
+    match encode_frame(alloc, salt, number, body, &mut room) {
+        Ok(size) => {
+            size == 56 && &room[..24] == front && behind.strip_prefix(body) == Some(&room[24..])
+        }
         Err(_) => false,
     }
 }
 
+/// Whether these are the three records of a log with this salt.
+fn are_records(alloc: Global, salt: &[u8], log: &[u8]) -> bool {
+    let Some((first, behind)) = log.split_at_checked(FIRST_END) else {
+        return false;
+    };
+    let Some((second, third)) = behind.split_at_checked(SECOND_END - FIRST_END) else {
+        return false;
+    };
+    is_record(alloc, salt, 5, FIRST_BODY, first)
+        && is_record(alloc, salt, 6, SECOND_BODY, second)
+        && is_record(alloc, salt, 7, THIRD_BODY, third)
+}
+
 #[test]
-fn ends_of_records(rt: HostRuntime) -> Result<(), Fail> {
-    let (first, behind) = LOG.split_at(FIRST_END);
-    let (second, third) = behind.split_at(SECOND_END - FIRST_END);
-    assert!(rt; has_ends(rt.alloc(), 5, FIRST_BODY, &first[..24], &first[74..]));
-    assert!(rt; has_ends(rt.alloc(), 6, SECOND_BODY, &second[..24], &second[130..]));
-    assert!(rt; has_ends(rt.alloc(), 7, THIRD_BODY, &third[..24], &third[73..]));
+fn records_as_by_hand(rt: HostRuntime) -> Result<(), Fail> {
+    assert!(rt; are_records(rt.alloc(), b"", LOG));
+    assert!(rt; are_records(rt.alloc(), SALT, SALTED));
     Ok(())
 }

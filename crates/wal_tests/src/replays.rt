@@ -1,5 +1,5 @@
 //! What a log makes of a volume.
-use crate::log_by_hand::{FIRST, FIRST_END, LOG, SECOND_END, SIZE};
+use crate::log_by_hand::{FIRST, FIRST_END, LOG, SALT, SALTED, SECOND_END, SIZE};
 use crate::small::new_volume;
 use pathkey::{Errno, Path};
 use std::alloc::Global;
@@ -7,9 +7,9 @@ use std::test::Fail;
 use volume::Volume;
 use wal::{ReplayError, ReplayReport, replay};
 
-/// The first bytes of the log.
-fn front(end: usize) -> &'static [u8] {
-    if end <= LOG.len() { &LOG[..end] } else { LOG }
+/// The first bytes of a log.
+fn front(log: &'static [u8], end: usize) -> &'static [u8] {
+    if end <= log.len() { &log[..end] } else { log }
 }
 
 /// What a volume tells of a path. It ensures nothing, so that no proof of a test reads the contract of a volume.
@@ -20,12 +20,18 @@ fn length_of(alloc: Global, volume: &Volume, path: &Path) -> Result<u64, Errno> 
     }
 }
 
-/// Replays a log.
-fn replayed(alloc: Global, volume: &mut Volume, log: &[u8], number: u64) -> Option<ReplayReport> {
+/// Replays a log with this salt.
+fn replayed(
+    alloc: Global,
+    volume: &mut Volume,
+    log: &[u8],
+    salt: &[u8],
+    number: u64,
+) -> Option<ReplayReport> {
     if number > 1000 || log.len() > 1000 {
         return None;
     }
-    Some(replay(alloc, volume, log, number))
+    Some(replay(alloc, volume, log, salt, number))
 }
 
 /// Whether the file that the log makes has this length, or is missing so.
@@ -40,6 +46,7 @@ fn has_length(alloc: Global, volume: &Volume, want: Result<u64, Errno>) -> bool 
 #[derive(Clone, Copy)]
 struct Row {
     log: &'static [u8],
+    salt: &'static [u8],
     /// The number of its first record.
     number: u64,
     /// What is told of it.
@@ -50,7 +57,7 @@ struct Row {
 
 /// Whether a log does that on a volume.
 fn does(alloc: Global, volume: &mut Volume, row: &Row) -> bool {
-    replayed(alloc, volume, row.log, row.number) == Some(row.reported)
+    replayed(alloc, volume, row.log, row.salt, row.number) == Some(row.reported)
         && has_length(alloc, volume, row.length)
 }
 
@@ -72,15 +79,20 @@ const ENDS: [(usize, usize, usize, Result<u64, Errno>); 6] = [
     (SIZE, 3, SIZE, Ok(4)),
 ];
 
-/// The row of a log that ends there.
-fn row_of(end: &(usize, usize, usize, Result<u64, Errno>)) -> Row {
+/// The row of a log with this salt that ends there.
+fn row_of(
+    log: &'static [u8],
+    salt: &'static [u8],
+    end: &(usize, usize, usize, Result<u64, Errno>),
+) -> Row {
     let reported = ReplayReport {
         records: end.1,
         size: end.2,
         stopped: None,
     };
     Row {
-        log: front(end.0),
+        log: front(log, end.0),
+        salt,
         number: FIRST,
         reported,
         length: end.3,
@@ -90,7 +102,16 @@ fn row_of(end: &(usize, usize, usize, Result<u64, Errno>)) -> Row {
 #[test]
 fn whole_and_cut(rt: HostRuntime) -> Result<(), Fail> {
     for end in &ENDS {
-        assert!(rt; does_on_new(rt.alloc(), &row_of(end)), "{}", end.0);
+        assert!(rt;
+            does_on_new(rt.alloc(), &row_of(LOG, b"", end)),
+            "{}",
+            end.0
+        );
+        assert!(rt;
+            does_on_new(rt.alloc(), &row_of(SALTED, SALT, end)),
+            "{}",
+            end.0
+        );
     }
     Ok(())
 }
@@ -105,6 +126,7 @@ fn second_alone() -> Row {
     };
     Row {
         log: &LOG[FIRST_END..],
+        salt: b"",
         number: FIRST + 1,
         reported,
         length: Err(Errno::ENOENT),

@@ -1,0 +1,242 @@
+"""Reads a store: read_store.py DIR prints what its tree and its snapshots have.
+
+It was written from docs/FORMATS.md alone, and shares nothing with the mount. It checks all that the page says of a store of
+version 2, and keeps no times of modification.
+"""
+import hashlib
+import re
+import sys
+from pathlib import Path
+
+HEADER_BODY, SALT, NUMBERS_OF_A_LOG = 96, 16, 1 << 40
+KINDS = {1: "mkdir", 2: "create", 3: "unlink", 4: "rmdir", 5: "rmtree", 6: "rename", 7: "truncate", 8: "write", 9: "hole",
+         10: "snapshot", 11: "drop", 12: "restore"}
+FIRST_LINE = b"doorvervain checkpoint 2\n"
+
+
+class Damaged(Exception):
+    pass
+
+
+def demand(holds: bool, what: str) -> None:
+    if not holds:
+        raise Damaged(what)
+
+
+def digest(data: bytes) -> bytes:
+    return hashlib.sha256(data).digest()
+
+
+def number(data: bytes) -> int:
+    return int.from_bytes(data, "little")
+
+
+# ---- images and deltas
+
+
+def read_image(lines: list[bytes]) -> dict[bytes, bytearray | None]:
+    """Paths with the bytes of files; none: a directory."""
+    tree, last = {}, b""
+    for line in lines:
+        words = line.rstrip(b"\n").split(b" ")
+        if words[0] in (b"D", b"d", b"F", b"f"):
+            last = re.sub(rb"%([0-9A-F]{2})", lambda it: bytes([int(it[1], 16)]), words[1])
+            tree[last] = bytearray(int(words[2])) if words[0] in (b"F", b"f") else None
+        else:
+            at, data = int(words[1]) * 4096, bytes.fromhex(words[2].decode())
+            tree[last][at:at + len(data)] = data
+    return tree
+
+
+def apply_delta(image: list[bytes], delta: list[bytes]) -> list[bytes]:
+    out, at = [], 0
+    demand(delta[0] == b"delta 1 " + digest(b"".join(image)).hex().encode() + b"\n", "a delta of another tree")
+    demand(delta[-1] == b"end\n", "a delta without an end")
+    for line in delta[1:-1]:
+        if line.startswith(b"+ "):
+            out.append(line[2:])
+        else:
+            count = int(line[2:])
+            out += image[at:at + count] if line.startswith(b"= ") else []
+            at += count
+    demand(at == len(image), "a delta that leaves lines")
+    return out
+
+
+def read_snapshots(image: list[bytes], data: bytes) -> dict[bytes, dict]:
+    out, name, delta = {}, None, []
+    for line in data.splitlines(keepends=True):
+        if delta == [] and line.startswith(b"snapshot "):
+            name = line.rstrip(b"\n").split(b" ")[1]
+            continue
+        delta.append(line)
+        if line == b"end\n":
+            image, delta = apply_delta(image, delta), []
+            out[name] = read_image(image)
+    return out
+
+
+# ---- checkpoints
+
+
+def read_sums(store: Path, count: int) -> tuple[bytes, bytes | None, bytes]:
+    """The digest of the tree, that of the snapshots, and the salt of the first log."""
+    text = (store / f"tree.{count}.sum").read_bytes()
+    form = rb"%s([0-9a-f]{64})  tree\.%d\n(?:([0-9a-f]{64})  snapshots\.%d|no snapshots\.%d)\nlog %d ([0-9a-f]{32})\nend ([0-9a-f]{64})\n"
+    found = re.fullmatch(form % (FIRST_LINE, count, count, count, count), text)
+    demand(found is not None, "checksums of another form")
+    demand(digest(text[:text.index(b"end ")]).hex().encode() == found[4], "checksums that were changed")
+    return found[1], found[2], bytes.fromhex(found[3].decode())
+
+
+def read_checkpoint(store: Path, count: int) -> tuple[dict, dict, bytes]:
+    tree_sum, snapshots_sum, salt = read_sums(store, count)
+    data = (store / f"tree.{count}").read_bytes()
+    demand(digest(data).hex().encode() == tree_sum, "another tree")
+    lines, snapshots = data.splitlines(keepends=True), {}
+    if snapshots_sum:
+        texts = (store / f"snapshots.{count}").read_bytes()
+        demand(digest(texts).hex().encode() == snapshots_sum, "other snapshots")
+        snapshots = read_snapshots(lines, texts)
+    return read_image(lines), snapshots, salt
+
+
+# ---- logs
+
+
+def next_record(log: bytes, at: int, salt: bytes, count: int) -> bytes | None:
+    """The body of the record of a number at a place; none: there is no such record."""
+    front = log[at:at + 24]
+    end = at + 24 + number(front[16:])
+    if len(front) < 24 or front[:8] != b"dvlog 2\n" or number(front[8:16]) != count or end + 32 > len(log):
+        return None
+    body = log[at + 24:end]
+    return body if digest(salt + front + body) == log[end:end + 32] else None
+
+
+def marker_behind(log: bytes, at: int, salt: bytes, count: int) -> bool:
+    """Whether a sync marker with a greater number stands somewhere from here on."""
+    while (at := log.find(b"dvlog 2\n", at)) >= 0:
+        found = number(log[at + 8:at + 16])
+        if found > count and next_record(log, at, salt, found) == b"":
+            return True
+        at += 1
+    return False
+
+
+class Log:
+    """A log, with the bodies of its records that count."""
+
+    def __init__(self, data: bytes, count: int):
+        self.first, self.data, self.salt = count * NUMBERS_OF_A_LOG, data, data[24:24 + SALT]
+        header = next_record(data, 0, self.salt, self.first)
+        demand(header is not None and len(header) == HEADER_BODY, f"log.{count} has no header")
+        self.records_before, self.salt_before = number(header[16:24]), header[24:40]
+        self.bodies, self.end = [header], 24 + HEADER_BODY + 32
+        while (body := next_record(data, self.end, self.salt, self.first + len(self.bodies))) is not None:
+            self.bodies.append(body)
+            self.end += 56 + len(body)
+
+    def is_new(self) -> bool:
+        return len(self.data) == 56 + HEADER_BODY
+
+    def is_followed_by(self, other: "Log") -> bool:
+        return len(self.bodies) == other.records_before + 3 and self.end == len(self.data)
+
+    def is_whole(self) -> bool:
+        """What is behind the records of the last log is what was not on the disk."""
+        return not marker_behind(self.data, self.end, self.salt, self.first + len(self.bodies))
+
+
+def read_logs(store: Path, count: int, salt: bytes) -> list[bytes]:
+    """The bodies of all records that count."""
+    names, bodies, before = [], [], None
+    while (store / f"log.{count + len(names)}").exists():
+        names.append(count + len(names))
+    logs = [Log((store / f"log.{it}").read_bytes(), it) for it in names]
+    demand(bool(logs) and logs[0].salt == salt, "the first log is missing, or another one")
+    for log in logs:
+        if before:
+            demand(log.salt_before == before.salt, "a log that does not follow the one before it")
+            if not before.is_followed_by(log):
+                demand(log is logs[-1] and log.is_new(), "a log that is not whole")
+                break
+        bodies += log.bodies[1:]
+        before = log
+    demand(before.is_whole(), "a record that was on the disk")
+    demand(before is not logs[-1] or before.bodies[-3:] != [b""] * 3, "a log that is missing")
+    return bodies
+
+
+# ---- changes
+
+
+class Store:
+    def __init__(self, folder: Path):
+        sums = sorted((int(it.name.split(".")[1]) for it in folder.glob("tree.*.sum")), reverse=True)
+        demand(bool(sums), "no checkpoint")
+        self.tree, self.snapshots, salt = read_checkpoint(folder, sums[0])
+        for body in read_logs(folder, sums[0], salt):
+            self.do_all(body)
+
+    def do_all(self, body: bytes) -> None:
+        at = 0
+        while at < len(body):
+            kind, _, offset, count, first, second = (number(body[at + 8 * i:at + 8 * i + 8]) for i in range(6))
+            at += 48
+            self.do(KINDS[kind], offset, count, body[at:at + first], body[at + first:at + first + second])
+            at += first + second
+
+    def do(self, what: str, offset: int, count: int, path: bytes, other: bytes) -> None:
+        if what in ("mkdir", "create"):
+            self.tree[path] = None if what == "mkdir" else bytearray()
+        elif what in ("unlink", "rmdir", "rmtree"):
+            self.take_out(path)
+        elif what == "rename":
+            self.rename(path, other)
+        elif what == "truncate":
+            file = self.tree[path]
+            self.tree[path] = file[:offset] + bytes(max(0, offset - len(file)))
+        elif what == "write":
+            file = self.tree[path]
+            file += bytes(max(0, offset - len(file)))
+            file[offset:offset + len(other)] = other
+        elif what == "hole":
+            end = min(offset + count, len(self.tree[path]))
+            self.tree[path][offset:end] = bytes(max(0, end - offset))
+        else:
+            self.keep(what, path)
+
+    def keep(self, what: str, name: bytes) -> None:
+        if what == "snapshot":
+            self.snapshots[name] = copy(self.tree)
+        elif what == "drop":
+            del self.snapshots[name]
+        else:
+            self.tree = copy(self.snapshots[name])
+
+    def take_out(self, path: bytes) -> None:
+        for it in [it for it in self.tree if it == path or it.startswith(path + b"/")]:
+            del self.tree[it]
+
+    def rename(self, path: bytes, other: bytes) -> None:
+        moved = {other + it[len(path):]: data for it, data in self.tree.items() if it == path or it.startswith(path + b"/")}
+        self.take_out(path)
+        self.take_out(other)
+        self.tree |= moved
+
+
+def copy(tree: dict) -> dict:
+    return {path: data if data is None else bytearray(data) for path, data in tree.items()}
+
+
+def main() -> None:
+    store = Store(Path(sys.argv[1]))
+    for name, tree in [(b"", store.tree), *sorted(store.snapshots.items())]:
+        print("snapshot", name.decode())
+        for path, data in sorted(tree.items()):
+            print(path, "directory" if data is None else digest(bytes(data)).hex())
+
+
+if __name__ == "__main__":
+    main()
