@@ -6,7 +6,7 @@ _betr() {
     --load | --dot) word=${word#=} ;;
     *)
         if [[ $word == -* ]]; then
-            mapfile -t COMPREPLY < <(compgen -W "--flushers --steps --fanout --pending --leaf --load --image --dot --help --version" -- "$word")
+            mapfile -t COMPREPLY < <(compgen -W "--flushers --steps --fanout --pending --leaf --load --image --dot --strict --explain --help --version" -- "$word")
             return
         fi
         ;;

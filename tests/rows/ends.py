@@ -59,6 +59,8 @@ REFUSED = [
     ["--dot"],
     ["--dot", "/dev/null", "--dot", "/dev/null"],
     ["--leaf", "5", "--leaf", "6"],
+    ["--strict", "--strict"],
+    ["--explain=yes"],
     ["--flushers", "9"],
     ["--flushers", "-1"],
     ["--unknown"],
@@ -86,13 +88,38 @@ def standard_input_is_a_folder(betr: str) -> str:
 
 
 # Command lines that cannot write what they print, with their scripts.
-UNWRITTEN = [([], b"stat /\n"), (["--image"], b"stat /\n"), (["--image"], b""), (["--help"], b""), (["--version"], b"")]
+UNWRITTEN = [([], b"stat /\n"), (["--strict"], b"unlink /x\n"), (["--image"], b"stat /\n"), (["--image"], b""), (["--help"], b""), (["--version"], b"")]
 
 
 def is_unwritten(betr: str, words: list, script: bytes) -> str:
     with open("/dev/full", "wb") as full:
         got = ended(betr, words, script, full.fileno())
     return fault(got == (1, b"", b"betr: write failed\n"), got)
+
+
+def is_explained(betr: str) -> str:
+    with open("/dev/full", "wb") as full:
+        got = ended(betr, ["--explain"], b"stat /\n", full.fileno())
+    return fault(got == (1, b"", b"betr: standard output: No space left on device (os error 28)\nbetr: write failed\n"), got)
+
+
+# How many files come and go.
+FILES = 3_000
+
+
+def leaves(betr: str, script: str) -> int:
+    """How many leaves the index of metadata has at the end of a script that steps follow, by its drawing."""
+    words = ["--fanout", "8", "--pending", "32", "--leaf", "16", "--steps", "4", "--dot", "/dev/stdout"]
+    _, output, _ = ended(betr, words, script.encode())
+    return len(re.findall(rb'^n\d+ \[label="\d+ of \d+ entries"', output, re.M))
+
+
+def removals_leave_few_leaves(betr: str) -> str:
+    made = "mkdir /d\n" + "".join(f"create /d/f{i:04}\n" for i in range(FILES))
+    gone = "".join(f"unlink /d/f{i:04}\n" for i in range(FILES))
+    before, after = leaves(betr, made), leaves(betr, made + gone)
+    # A leaf has at most 16 entries. Leaves that are never merged stay as many as they were.
+    return fault(before >= FILES // 32 and after <= before // 2, f"{before} leaves, and {after} when all files are gone")
 
 
 # Command lines, and the status of each where neither output nor errors can be written.
@@ -116,5 +143,7 @@ def each() -> Iterator[End]:
     yield "standard input is a folder", standard_input_is_a_folder
     for words, script in UNWRITTEN:
         yield f"nothing can be written: {words} {script!r}", lambda betr, it=(words, script): is_unwritten(betr, *it)
+    yield "a failed write is explained", is_explained
+    yield "removals leave few leaves", removals_leave_few_leaves
     for words, status in UNSAID:
         yield f"no error can be written: {words}", lambda betr, it=(words, status): is_unsaid(betr, *it)

@@ -18,6 +18,8 @@ fn put_options(out: &mut Vec<u8>, options: &Options<'_>) {
     put_number(out, "pending", u128::from(options.pending));
     put_number(out, "leaf", u128::from(options.leaf));
     put_number(out, "image", u128::from(u8::from(options.image)));
+    put_number(out, "strict", u128::from(u8::from(options.strict)));
+    put_number(out, "explain", u128::from(u8::from(options.explain)));
     put(out, options.load.unwrap_or("no image"));
     put(out, options.script.unwrap_or(" no script"));
     put(out, "\n");

@@ -7,7 +7,8 @@ struct Row {
     words: &'static [&'static str],
     /// Flushers, steps, fanout, pending and leaf.
     numbers: [u16; 5],
-    image: bool,
+    /// Image, strict and explain.
+    switches: [bool; 3],
     script: Option<&'static str>,
 }
 
@@ -15,55 +16,67 @@ const TAKEN: &[Row] = &[
     Row {
         words: &["betr"],
         numbers: [0, 0, 16, 256, 256],
-        image: false,
+        switches: [false, false, false],
         script: None,
     },
     Row {
         words: &["betr", "--flushers", "8"],
         numbers: [8, 0, 16, 256, 256],
-        image: false,
+        switches: [false, false, false],
         script: None,
     },
     Row {
         words: &["betr", "--steps", "1000"],
         numbers: [0, 1_000, 16, 256, 256],
-        image: false,
+        switches: [false, false, false],
         script: None,
     },
     Row {
         words: &["betr", "--fanout", "4"],
         numbers: [0, 0, 4, 256, 256],
-        image: false,
+        switches: [false, false, false],
         script: None,
     },
     Row {
         words: &["betr", "--fanout=64"],
         numbers: [0, 0, 64, 256, 256],
-        image: false,
+        switches: [false, false, false],
         script: None,
     },
     Row {
         words: &["betr", "--pending", "1024"],
         numbers: [0, 0, 16, 1_024, 256],
-        image: false,
+        switches: [false, false, false],
         script: None,
     },
     Row {
         words: &["betr", "--leaf", "1024"],
         numbers: [0, 0, 16, 256, 1_024],
-        image: false,
+        switches: [false, false, false],
         script: None,
     },
     Row {
         words: &["betr", "--image"],
         numbers: [0, 0, 16, 256, 256],
-        image: true,
+        switches: [true, false, false],
+        script: None,
+    },
+    Row {
+        words: &["betr", "--strict"],
+        numbers: [0, 0, 16, 256, 256],
+        switches: [false, true, false],
+        script: None,
+    },
+    Row {
+        words: &["betr", "--explain"],
+        numbers: [0, 0, 16, 256, 256],
+        switches: [false, false, true],
         script: None,
     },
     Row {
         words: &["betr", "notes/script"],
         numbers: [0, 0, 16, 256, 256],
-        image: false,
+        switches: [false, false, false],
         script: Some("notes/script"),
     },
     Row {
@@ -81,7 +94,7 @@ const TAKEN: &[Row] = &[
             "script",
         ],
         numbers: [0, 1, 4, 4, 4],
-        image: true,
+        switches: [true, false, false],
         script: Some("script"),
     },
 ];
@@ -107,7 +120,7 @@ fn is_taken(alloc: Global, row: &Row) -> bool {
     match read(alloc, row.words) {
         Some(asked) => {
             numbers_of(&asked) == row.numbers
-                && asked.image == row.image
+                && [asked.image, asked.strict, asked.explain] == row.switches
                 && asked.script == row.script
         }
         None => false,

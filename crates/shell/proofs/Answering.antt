@@ -1,5 +1,10 @@
 -- One line: what it asks for, and what it is answered.
-use Rattle.std.proofs.Common.{◌≡◌, inl, inr, ℕ, ◌<◌, List, [], ◌∷◌, length, refl, sym, subst, arith}
+use Rattle.std.proofs.Common.{◌≡◌, ◌∙◌, ◌++◌, inl, inr, ℕ, ◌<◌, Bool, true, false, List, [], ◌∷◌, length, refl, sym, ap, subst, append-nil, arith}
+use Rattle.std.specs.Prelude.{IfErr, IsErr, IsErrAnd, OnErr, Option, Result, Ok, Err, not, ◌&&◌}
+use Rattle.std.specs.Io.KnownBytes.{Appends, Keeps}
+use Rattle.std.proofs.KnownBytes.{Appends-kept}
+use Rattle.std.proofs.lemmas.Bool.{and_parts, not-false, not-true}
+use Rattle.textio.specs.Parts.{AppendsPart}
 use Rattle.reference.specs.Worlds.{World, Event, Ask, Replied, Settled, Snapped, Fits, next}
 use Rattle.reference.specs.declared.call.Call.{Call}
 use Rattle.reference.specs.declared.reply.Reply.{Reply}
@@ -9,10 +14,13 @@ use Rattle.shell.specs.declared.request.ReadCall.{ReadCall}
 use Rattle.shell.specs.declared.request.Request.TheVariants.{Moment, Wanted, Past}
 use Rattle.shell.specs.Requests.{request_of, IsReadAs}
 use Rattle.shell.specs.Replies.{reply_text}
-use Rattle.shell.specs.Script.{State, in_world, Answers, Does, Script, Settles, Tells, settled_reply}
-use Rattle.shell.specs.Runs.{Leads, Left, Meant, States, Worlds}
+use Rattle.shell.specs.Script.{Cut, IsHalt, Line, Lines, State, Taken, in_world, Answers, Does, Script, Settles, Tells, settled_reply}
+use Rattle.shell.specs.Runs.{Halts, Leads, Left, Meant, States, Worlds}
+use Rattle.shell.specs.Verdicts.{Judges, fails, is_fault}
+use Rattle.shell.specs.declared.verdict.Halt.TheVariants as halt
+use Rattle.shell.specs.declared.verdict.Verdict.{Verdict}
 use Rattle.shell.specs.Progress.{last_line}
-use Rattle.shell.proofs.Progress.{script_one}
+use Rattle.shell.proofs.Progress.{lines_weaker, script_one}
 
 -- a request that changes nothing was answered
 pub answers_kept : (means : States) (Wrote : List ℕ → Type 0) (q wanted : Request) (text : List ℕ) → q ≡ wanted → ((s : State) → Answers s wanted text s) → Wrote text
@@ -85,16 +93,77 @@ left_at_end means means' at step Wrote f first m =
     let (out, after, did, m', wrote) = f first m in
     (out, after, did, m'.0, wrote)
 
--- a last line without its line feed was done
-pub last_done : (means means' : States) (Wrote Known : List ℕ → Type 0) (line : List ℕ) → 0 < length line → ((out : List ℕ) → Wrote out → Known out)
-    → Leads means means' (λ first. Does first line) Wrote → Leads means means' (λ first. Script first (last_line line)) Known
-last_done means means' Wrote Known [] some known f first m = absurd (omega arith)
-last_done means means' Wrote Known (x ∷ line) some known f first m =
-    let (out, after, does, m', wrote) = f first m in
-    (out, after, script_one (x ∷ line) first after out does, m', known out wrote)
+-- ---- what a watch makes of a line
 
--- no last line
-pub none_done : (means : States) (Wrote : List ℕ → Type 0) (line : List ℕ) → length line ≡ 0 → Wrote []
-    → Leads means means (λ first. Script first (last_line line)) Wrote
-none_done means Wrote [] none wrote first m = ([], first, (refl, refl), m, wrote)
-none_done means Wrote (x ∷ line) none wrote first m = absurd (omega (arith, none))
+-- it lets the run go on: where that is strict the reply is no fault
+pub line_taken : (means means' : States) (old new : Option (List ℕ)) (line : List ℕ) (strict go : Bool) (v : Verdict) → go ≡ not (strict && fails v) → go ≡ true
+    → Leads means means' (λ first. Does first line) (Judges v old new) → Leads means means' (λ first. Taken strict first line) (Appends old new)
+line_taken means means' old new line strict go v rule goes f first m =
+    let (out, after, does, m', (wrote, judged)) = f first m in
+    (out, after, (does, λ is. sym judged ∙ passes is), m', wrote)
+  where
+    passes : strict ≡ true → fails v ≡ false
+    passes is = not-true _ (subst (λ (b : Bool). not (b && fails v) ≡ true) is (sym rule ∙ goes))
+
+-- it ends the run: that is strict, and the reply is a fault
+pub line_ends : (means means' : States) (old new : Option (List ℕ)) (line : List ℕ) (strict go : Bool) (v : Verdict) → go ≡ not (strict && fails v) → go ≡ false
+    → Leads means means' (λ first. Does first line) (Judges v old new) → Leads means means' (Halts (IsHalt strict halt.Fault) (line ∷ [])) (Appends old new)
+line_ends means means' old new line strict go v rule ends f first m =
+    let (out, after, does, m', (wrote, judged)) = f first m in
+    let one : Script first (line ∷ []) (out ++ []) after = subst (λ (o : List ℕ). Script first (line ∷ []) o after) (sym (append-nil out)) (script_one Does line first after out does) in
+    (out, after, ([], one, (both.0, refl, sym judged ∙ both.1)), m', wrote)
+  where
+    both : (strict ≡ true) × (fails v ≡ true)
+    both = and_parts _ _ (not-false _ (sym rule ∙ ends))
+
+-- the writer failed at the reply
+pub line_cut : (means means' : States) (old new : Option (List ℕ)) (line : List ℕ) (strict : Bool)
+    → Leads means means' (λ first. Does first line) (AppendsPart old new) → Leads means means' (Halts (IsHalt strict halt.Write) (line ∷ [])) (Appends old new)
+line_cut means means' old new line strict f first m =
+    let (out, after, does, m', (part, rest, is, wrote)) = f first m in
+    let one : Script first (line ∷ []) (part ++ rest) after = subst (λ (o : List ℕ). Script first (line ∷ []) o after) is (script_one Does line first after out does) in
+    (part, after, (rest, one, tt), m', wrote)
+
+-- ---- a last line without its line feed
+
+-- it was done
+pub last_done : (D : Line) (means means' : States) (Wrote Known : List ℕ → Type 0) (line : List ℕ) → 0 < length line → ((out : List ℕ) → Wrote out → Known out)
+    → Leads means means' (λ first. D first line) Wrote → Leads means means' (λ first. Lines D first (last_line line)) Known
+last_done D means means' Wrote Known [] some known f first m = absurd (omega arith)
+last_done D means means' Wrote Known (x ∷ line) some known f first m =
+    let (out, after, does, m', wrote) = f first m in
+    (out, after, script_one D (x ∷ line) first after out does, m', known out wrote)
+
+-- the run ended at it
+pub last_ends : (H : Cut) (means means' : States) (Wrote : List ℕ → Type 0) (line : List ℕ) → 0 < length line
+    → Leads means means' (Halts H (line ∷ [])) Wrote → Leads means means' (Halts H (last_line line)) Wrote
+last_ends H means means' Wrote [] some f first m = absurd (omega arith)
+last_ends H means means' Wrote (x ∷ line) some f first m = f first m
+
+-- there is none
+pub none_done : (D : Line) (means : States) (Wrote : List ℕ → Type 0) (line : List ℕ) → length line ≡ 0 → Wrote []
+    → Leads means means (λ first. Lines D first (last_line line)) Wrote
+none_done D means Wrote [] none wrote first m = ([], first, (refl, refl), m, wrote)
+none_done D means Wrote (x ∷ line) none wrote first m = absurd (omega (arith, none))
+
+-- and the writer failed behind it
+pub flush_ends : (means means' : States) (old kept new : Option (List ℕ)) (lines : List (List ℕ)) (strict : Bool)
+    → Leads means means' (λ first. Lines (Taken strict) first lines) (Appends old kept) → Keeps kept new
+    → Leads means means' (Halts (IsHalt strict halt.Write) lines) (Appends old new)
+flush_ends means means' old kept new lines strict f keeps first m =
+    let (out, after, did, m', wrote) = f first m in
+    let all : Script first lines out after = lines_weaker (Taken strict) Does (λ a line reply b taken. taken.0) lines first after out did in
+    let whole : Script first lines (out ++ []) after = subst (λ (o : List ℕ). Script first lines o after) (sym (append-nil out)) all in
+    (out, after, ([], whole, tt), m', Appends-kept _ _ _ _ wrote keeps)
+
+-- the error is known
+pub only_error : {A E : Type 0} (r : Result A E) (e : E) (P : E → Type 0) → OnErr r (r ≡ Err e) → P e → IfErr r P
+only_error (Ok a) e P is p = tt
+only_error (Err x) e P is p =
+    let same : e ≡ x = cc in
+    subst P same p
+
+-- an error that was handed on
+pub error_kept : {A E : Type 0} (r : Result A E) (e : E) (P : E → Type 0) → IsErr r × IsErrAnd r (λ x. x ≡ e) → P e → IfErr r P
+error_kept (Ok a) e P kept p = tt
+error_kept (Err x) e P kept p = subst P (sym kept.1) p

@@ -48,6 +48,8 @@ rules = number_rule (codes "flushers") 0 8
     ∷ text_rule (codes "load")
     ∷ switch_rule (codes "image")
     ∷ text_rule (codes "dot")
+    ∷ switch_rule (codes "strict")
+    ∷ switch_rule (codes "explain")
     ∷ new_rule (codes "SCRIPT")
     ∷ []
 

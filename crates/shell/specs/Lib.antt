@@ -1,3 +1,4 @@
+pub mod Verdicts
 pub mod Requests
 pub mod Replies
 pub mod Script

@@ -1,6 +1,6 @@
 -- How far a script has come within its text.
 use Rattle.std.specs.Prelude.{◌≡◌, ℕ, List, [], ◌∷◌, ◌++◌, ⊤}
-use Rattle.shell.specs.Script.{State, Does, Script}
+use Rattle.shell.specs.Script.{Cut, Line, Lines, Script, State}
 use Rattle.textio.specs.Held.{IsFree}
 
 -- the lines, each with its line feed
@@ -14,14 +14,14 @@ AreFree [] = ⊤
 AreFree (l ∷ ls) = IsFree l × AreFree ls
 
 -- after a piece more the script has done these lines, and `left` is the line so far
-pub record Went (held piece : List ℕ) (first : State) (out left : List ℕ) (after : State) : Type 0 where
+pub record Went (D : Line) (held piece : List ℕ) (first : State) (out left : List ℕ) (after : State) : Type 0 where
   pub lines : List (List ℕ)
   pub cut : held ++ piece ≡ text_of_lines lines ++ left
   pub free : AreFree lines
-  pub did : Script first lines out after
+  pub did : Lines D first lines out after
 
--- within a piece a write failed, at the reply to `line`
-pub record FailedIn (held piece : List ℕ) (first : State) (written : List ℕ) (after : State) : Type 0 where
+-- within a piece the lines ended early, at the reply to `line`
+pub record FailedIn (D : Line) (H : Cut) (held piece : List ℕ) (first : State) (written : List ℕ) (after : State) : Type 0 where
   pub front : List ℕ
   pub more : List ℕ
   pub line : List ℕ
@@ -30,9 +30,10 @@ pub record FailedIn (held piece : List ℕ) (first : State) (written : List ℕ)
   pub part : List ℕ
   pub rest : List ℕ
   pub cut : piece ≡ front ++ (10 ∷ more)
-  pub went : Went held front first replies line before
+  pub went : Went D held front first replies line before
   pub free : IsFree line
-  pub did_last : Does before line (part ++ rest) after
+  pub did_last : Script before (line ∷ []) (part ++ rest) after
+  pub how : H part rest
   pub is : written ≡ replies ++ part
 
 -- a last line without its line feed, which counts where it is not empty

@@ -1,9 +1,9 @@
 -- What a run of a script comes to: from the worlds and moments that it may begin with to those that it may go on from.
-use Rattle.std.specs.Prelude.{◌≡◌, ℕ, List, Option, IfSome}
+use Rattle.std.specs.Prelude.{◌≡◌, ◌++◌, ℕ, List, Option, IfSome}
 use Rattle.std.specs.Io.KnownBytes.{Consumes, IsAtEnd}
 use Rattle.reference.specs.Worlds.{World}
 use Rattle.textio.specs.Lines.{lines_of, whole}
-use Rattle.shell.specs.Script.{State, Script, Stopped}
+use Rattle.shell.specs.Script.{Cut, Line, Lines, Script, State, Stopped}
 
 -- the worlds that a volume, or a client of one, means
 abbrev pub Worlds : Type 1
@@ -26,13 +26,17 @@ abbrev pub Leads : States → States → (State → List ℕ → State → Type 
 Leads meant means step wrote = (first : State) → meant first → (text : List ℕ) × (after : State) × step first text after × means after × wrote text
 
 -- the reader is at its end, and all the lines of what it gave were done
-abbrev pub DoesAll : Option (List ℕ) → Option (List ℕ) → State → List ℕ → State → Type 0
-DoesAll had has first out after = (text : List ℕ) × Consumes had has text × IsAtEnd has × Script first (lines_of text) out after
+abbrev pub DoesAll : Line → Option (List ℕ) → Option (List ℕ) → State → List ℕ → State → Type 0
+DoesAll D had has first out after = (text : List ℕ) × Consumes had has text × IsAtEnd has × Lines D first (lines_of text) out after
 
 -- of what the reader gave the whole lines were done
-abbrev pub DoesGiven : Option (List ℕ) → Option (List ℕ) → State → List ℕ → State → Type 0
-DoesGiven had has first out after = (text : List ℕ) × Consumes had has text × Script first (lines_of (whole text)) out after
+abbrev pub DoesGiven : Line → Option (List ℕ) → Option (List ℕ) → State → List ℕ → State → Type 0
+DoesGiven D had has first out after = (text : List ℕ) × Consumes had has text × Lines D first (lines_of (whole text)) out after
 
--- of all that the reader had the lines were done up to a failed write
-abbrev pub DoesUntil : Option (List ℕ) → State → List ℕ → State → Type 0
-DoesUntil had first written after = (text : List ℕ) × IfSome had (λ all. all ≡ text) × Stopped first text written after
+-- of all that the reader had the lines were done up to an early end
+abbrev pub DoesUntil : Line → Cut → Option (List ℕ) → State → List ℕ → State → Type 0
+DoesUntil D H had first written after = (text : List ℕ) × IfSome had (λ all. all ≡ text) × Stopped D H first text written after
+
+-- these lines, of which there is one at most, were done, and so much of the answer was written
+abbrev pub Halts : Cut → List (List ℕ) → State → List ℕ → State → Type 0
+Halts H lines first part after = (rest : List ℕ) × Script first lines (part ++ rest) after × H part rest

@@ -1,5 +1,5 @@
 -- What a script means: what its lines are answered, and what they make of a world.
-use Rattle.std.specs.Prelude.{◌≡◌, ◌≢◌, ◌⊎◌, ◌≤◌, All, ℕ, List, [], ◌∷◌, ◌++◌, length, codes, Option, Some, None, Ok, Err}
+use Rattle.std.specs.Prelude.{◌≡◌, ◌≢◌, ◌⊎◌, ◌≤◌, All, Bool, true, false, ℕ, List, [], ◌∷◌, ◌++◌, ⊤, length, codes, Option, Some, None, Ok, Err}
 use Rattle.std.specs.FinMap as map
 use Rattle.pathkey.specs.declared.errno.Errno.TheVariants.{ENOENT, ENOMEM}
 use Rattle.reference.specs.Calls.{does}
@@ -16,6 +16,9 @@ use Rattle.shell.specs.declared.request.Request.TheVariants.{Silent, Overlong, M
 use Rattle.textio.specs.Lines.{lines_of}
 use Rattle.shell.specs.Requests.{request_of, IsAsked}
 use Rattle.shell.specs.Replies.{reply_text}
+use Rattle.shell.specs.Verdicts.{is_fault}
+use Rattle.shell.specs.declared.verdict.Halt.{Halt}
+use Rattle.shell.specs.declared.verdict.Halt.TheVariants as halt
 
 -- what a script goes on from: a world, and the moment of the calls that follow
 pub record State : Type 0 where
@@ -67,11 +70,23 @@ Answers s (Past name l) text s' = (r : Reply) × Tells s.world name l r × (text
 abbrev pub Does : State → List ℕ → List ℕ → State → Type 0
 Does w line text w' = Answers w (request_of line) text w' ⊎ (IsAsked (request_of line) × Answers w (Refused ENOMEM) text w')
 
+-- what a line is answered, and what a script goes on from after it
+abbrev pub Line : Type 1
+Line = State → List ℕ → List ℕ → State → Type 0
+
+-- a line is answered; where a run is strict, by no fault and no error
+abbrev pub Taken : Bool → Line
+Taken strict s line text s' = Does s line text s' × (strict ≡ true → is_fault text ≡ false)
+
 -- the lines, one after the other, with their answers joined
+abbrev pub Lines : Line → State → List (List ℕ) → List ℕ → State → Type 0
+Lines D first [] out last = (out ≡ []) × (last ≡ first)
+Lines D first (line ∷ lines) out last = (w : State) × (text : List ℕ) × (rest : List ℕ)
+    × D first line text w × (out ≡ text ++ rest) × Lines D w lines rest last
+
+-- the lines of a script
 abbrev pub Script : State → List (List ℕ) → List ℕ → State → Type 0
-Script first [] out last = (out ≡ []) × (last ≡ first)
-Script first (line ∷ lines) out last = (w : State) × (text : List ℕ) × (rest : List ℕ)
-    × Does first line text w × (out ≡ text ++ rest) × Script w lines rest last
+Script = Lines Does
 
 -- no line of the output tells of want of memory
 abbrev pub LacksNothing : List ℕ → Type 0
@@ -82,9 +97,22 @@ abbrev pub OneAnswerLaw : Type 0
 OneAnswerLaw = (w : State) (text out out' : List ℕ) (after after' : State) → Script w (lines_of text) out after → Script w (lines_of text) out' after'
     → LacksNothing out → LacksNothing out' → (out ≡ out') × (after ≡ after')
 
--- where a failed write leaves a script: the lines `done` and the line `last`, if there is one, were done,
+-- how much of the last answer is written, and how much of it is not
+abbrev pub Cut : Type 1
+Cut = List ℕ → List ℕ → Type 0
+
+-- anything of it
+abbrev pub IsCut : Cut
+IsCut part rest = ⊤
+
+-- anything of it where a write failed; where a strict run ended all of it, which is a fault or an error
+abbrev pub IsHalt : Bool → Halt → Cut
+IsHalt strict halt.Write part rest = ⊤
+IsHalt strict halt.Fault part rest = (strict ≡ true) × (rest ≡ []) × (is_fault part ≡ true)
+
+-- where an early end leaves a script: the lines `done` and the line `last`, if there is one, were done,
 -- and all answers to `done` and a beginning of the answer to `last` were written
-pub record Stopped (first : State) (text written : List ℕ) (after : State) : Type 0 where
+pub record Stopped (D : Line) (H : Cut) (first : State) (text written : List ℕ) (after : State) : Type 0 where
   pub done : List (List ℕ)
   pub last : List (List ℕ)
   pub more : List (List ℕ)
@@ -94,6 +122,7 @@ pub record Stopped (first : State) (text written : List ℕ) (after : State) : T
   pub rest : List ℕ
   pub lines : lines_of text ≡ done ++ (last ++ more)
   pub at_most_one : length last ≤ 1
-  pub did : Script first done replies before
+  pub did : Lines D first done replies before
   pub did_last : Script before last (part ++ rest) after
+  pub how : H part rest
   pub is : written ≡ replies ++ part

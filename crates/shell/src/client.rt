@@ -1,9 +1,10 @@
 //! Scripts over a client of an engine: the same lines, on a volume that others share.
 use crate::pace::Pace;
 use crate::request::ReadCall;
-use crate::script::{ScriptFault, run_lines};
+use crate::script::{Ending, ScriptFault, run_lines};
 use crate::session::{Session, read_frozen};
 use crate::tidy::Tidy;
+use crate::watch::{Unwatched, Watch};
 use engine::{Client, EngineId};
 use pathkey::{Errno, SnapName};
 use reference::{Call, Reply};
@@ -63,6 +64,23 @@ pub fn run_client<J: EngineId, H: Wait, R: Read, W: Write>(
     reader: &mut R,
     writer: &mut W,
 ) -> Result<(), ScriptFault> {
+    match run_watched(rt, alloc, client, reader, writer, &mut Unwatched) {
+        Ok(()) => Ok(()),
+        Err(Ending::Failed(fault)) => Err(fault),
+        // Not met: nothing asks for that.
+        Err(Ending::Fault(_)) => Err(ScriptFault::Write),
+    }
+}
+
+/// The same while a watch sees how each line is answered, and may end the run.
+pub(crate) fn run_watched<J: EngineId, H: Wait, R: Read, W: Write, V: Watch>(
+    rt: &H,
+    alloc: Global,
+    client: &mut Client<J>,
+    reader: &mut R,
+    writer: &mut W,
+    watch: &mut V,
+) -> Result<(), Ending> {
     let mut served = ClientSession { rt, client };
     run_lines(
         alloc,
@@ -71,5 +89,6 @@ pub fn run_client<J: EngineId, H: Wait, R: Read, W: Write>(
         reader,
         writer,
         &mut Tidy::new(0),
+        watch,
     )
 }

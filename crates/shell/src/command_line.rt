@@ -31,6 +31,10 @@ pub struct Options<'a> {
     pub image: bool,
     /// The file for a drawing of the trees, which is written last; none where there is none.
     pub dot: Option<&'a str>,
+    /// Whether the run ends at the first reply that is a fault or an error.
+    pub strict: bool,
+    /// Whether causes of failures, and lines that are not understood, are explained on standard error.
+    pub explain: bool,
     /// The file with the script; standard input where there is none.
     pub script: Option<&'a str>,
 }
@@ -46,6 +50,8 @@ pub fn read_words<'a>(alloc: Global, words: &'a [&'a str]) -> Result<Options<'a>
     ensures load { IfOk result (λ o. option_map (λ s. s.now) o.load ≡ text (codes "load") (texts words.entry.now)) }
     ensures image { IfOk result (λ o. o.image ≡ is_on (codes "image") (texts words.entry.now)) }
     ensures dot { IfOk result (λ o. option_map (λ s. s.now) o.dot ≡ text (codes "dot") (texts words.entry.now)) }
+    ensures strict { IfOk result (λ o. o.strict ≡ is_on (codes "strict") (texts words.entry.now)) }
+    ensures explain { IfOk result (λ o. o.explain ≡ is_on (codes "explain") (texts words.entry.now)) }
     ensures script { IfOk result (λ o. option_map (λ s. s.now) o.script ≡ text (codes "SCRIPT") (texts words.entry.now)) }
     ensures memory { IfErr result (λ e. takes betr (texts words.entry.now) ≡ true → kind_of e ≡ ErrorKind.OutOfMemory) }
     ensures kinds { FailsBy (fault_of betr (texts words.entry.now)) result }
@@ -60,6 +66,8 @@ pub fn read_words<'a>(alloc: Global, words: &'a [&'a str]) -> Result<Options<'a>
         load: matches.get_str("load"),
         image: matches.get_flag("image"),
         dot: matches.get_str("dot"),
+        strict: matches.get_flag("strict"),
+        explain: matches.get_flag("explain"),
         script: matches.get_str("SCRIPT"),
     };
     // Let go by a call, so that the proof costs less.
@@ -85,7 +93,9 @@ fn command<'a>(alloc: Global) -> Result<Command<'a>, AllocError>
     let loading = with_load(alloc, with_shape(alloc));
     let printing = with_image(alloc, loading);
     let drawing = with_dot(alloc, printing);
-    with_script(alloc, drawing)
+    let ending = with_strict(alloc, drawing);
+    let explaining = with_explain(alloc, ending);
+    with_script(alloc, explaining)
 }
 
 /// The command with the option that names an image.
@@ -133,6 +143,36 @@ fn with_dot<'a>(
         "Draw the trees into the file at the end, for Graphviz's dot",
     );
     with_arg(command, dot)
+}
+
+/// The command with the option that ends the run at the first fault.
+fn with_strict<'a>(
+    alloc: Global,
+    command: Result<Command<'a>, AllocError>,
+) -> Result<Command<'a>, AllocError>
+    ensures { (app : App) → IfOk command.entry (λ c. app_of c ≡ app) → IfOk result (λ c. app_of c ≡ with_rule app (switch_rule (codes "strict"))) }
+{
+    let strict = switch(
+        alloc,
+        "strict",
+        "End at the first reply that is a fault or an error, with status 1",
+    );
+    with_arg(command, strict)
+}
+
+/// The command with the option that asks for explanations.
+fn with_explain<'a>(
+    alloc: Global,
+    command: Result<Command<'a>, AllocError>,
+) -> Result<Command<'a>, AllocError>
+    ensures { (app : App) → IfOk command.entry (λ c. app_of c ≡ app) → IfOk result (λ c. app_of c ≡ with_rule app (switch_rule (codes "explain"))) }
+{
+    let explain = switch(
+        alloc,
+        "explain",
+        "Explain on standard error what failed, and which lines were not understood",
+    );
+    with_arg(command, explain)
 }
 
 /// The command with the argument that names a script.

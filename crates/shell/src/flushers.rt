@@ -1,8 +1,9 @@
 //! A script run by one client of an engine, while flushers tidy the trees in threads of their own.
 ghost use Rattle.std.specs.Prelude.{◌≡◌};
 
-use crate::client::run_client;
-use crate::script::ScriptFault;
+use crate::client::run_watched;
+use crate::script::{Ending, ScriptFault};
+use crate::watch::Watch;
 use engine::{Client, Clients, Engine, EngineBuilder, EngineId, Flusher};
 use std::alloc::Global;
 use std::io::{Read, Write};
@@ -14,52 +15,56 @@ use volume::{Frozen, Volume};
 /// How many turns each flusher makes.
 const TURNS: u32 = 1_000;
 
-/// Runs all the lines of the reader on the volume by one client, as `run_client` does, while so many flushers make 1,000 turns
+/// Runs the lines of the reader on the volume by one client, as `run_watched` does, while so many flushers make 1,000 turns
 /// each in threads of their own. All of them have ended when it returns. A flusher for which there is no thread or no memory
 /// is left out.
 ///
 /// Answers the tree that is live at the end. `Memory` also where a further owner of its nodes is refused.
-pub fn run_with_flushers<H: Threads + Wait + Sync, R: Read, W: Write>(
+pub fn run_with_flushers<H: Threads + Wait + Sync, R: Read, W: Write, V: Watch>(
     rt: &H,
     alloc: Global,
     volume: Volume,
     flushers: u8,
     reader: &mut R,
     writer: &mut W,
-) -> Result<Frozen, ScriptFault> {
+    watch: &mut V,
+) -> Result<Frozen, Ending> {
     match EngineBuilder::new(alloc, volume) {
-        Ok(room) => run_in::<Brand, H, R, W>(rt, alloc, room, flushers, reader, writer),
+        Ok(room) => run_in::<Brand, H, R, W, V>(rt, alloc, room, flushers, reader, writer, watch),
         Err(volume) => {
             // Let go by a call, so that the proof costs less.
             drop(volume);
-            Err(ScriptFault::Memory)
+            Err(Ending::Failed(ScriptFault::Memory))
         }
     }
 }
 
 /// Runs the lines, beside flushers, by the one client of an engine over the volume of the room.
-fn run_in<J: EngineId + Send + Sync, H: Threads + Wait + Sync, R: Read, W: Write>(
+fn run_in<J: EngineId + Send + Sync, H: Threads + Wait + Sync, R: Read, W: Write, V: Watch>(
     rt: &H,
     alloc: Global,
     room: EngineBuilder,
     flushers: u8,
     reader: &mut R,
     writer: &mut W,
-) -> Result<Frozen, ScriptFault>
+    watch: &mut V,
+) -> Result<Frozen, Ending>
     requires { (room.0 ≡ J.table) × (room.1 ≡ J.opening) × (J.clients ≡ 1) }
 {
     match Engine::<J>::open(alloc, room, 1) {
-        Ok((engine, clients)) => { run_first(rt, alloc, engine, clients, flushers, reader, writer) }
+        Ok((engine, clients)) => {
+            run_first(rt, alloc, engine, clients, flushers, reader, writer, watch)
+        }
         Err(volume) => {
             // Let go by a call, so that the proof costs less.
             drop(volume);
-            Err(ScriptFault::Memory)
+            Err(Ending::Failed(ScriptFault::Memory))
         }
     }
 }
 
 /// Runs the lines, beside flushers, by the client of an engine that has one.
-fn run_first<J: EngineId + Send + Sync, H: Threads + Wait + Sync, R: Read, W: Write>(
+fn run_first<J: EngineId + Send + Sync, H: Threads + Wait + Sync, R: Read, W: Write, V: Watch>(
     rt: &H,
     alloc: Global,
     mut engine: Engine<J>,
@@ -67,11 +72,21 @@ fn run_first<J: EngineId + Send + Sync, H: Threads + Wait + Sync, R: Read, W: Wr
     flushers: u8,
     reader: &mut R,
     writer: &mut W,
-) -> Result<Frozen, ScriptFault> {
+    watch: &mut V,
+) -> Result<Frozen, Ending> {
     let tree = match clients.pop() {
-        Some(client) => run_by(rt, alloc, &mut engine, client, flushers, reader, writer),
+        Some(client) => run_by(
+            rt,
+            alloc,
+            &mut engine,
+            client,
+            flushers,
+            reader,
+            writer,
+            watch,
+        ),
         // Not met: the engine was opened with one client.
-        None => Err(ScriptFault::Memory),
+        None => Err(Ending::Failed(ScriptFault::Memory)),
     };
     // Let go by calls, so that the proof costs less.
     drop(clients);
@@ -80,7 +95,7 @@ fn run_first<J: EngineId + Send + Sync, H: Threads + Wait + Sync, R: Read, W: Wr
 }
 
 /// Runs the lines, beside flushers, by this client. Answers the tree that is live then.
-fn run_by<J: EngineId + Send + Sync, H: Threads + Wait + Sync, R: Read, W: Write>(
+fn run_by<J: EngineId + Send + Sync, H: Threads + Wait + Sync, R: Read, W: Write, V: Watch>(
     rt: &H,
     alloc: Global,
     engine: &mut Engine<J>,
@@ -88,8 +103,18 @@ fn run_by<J: EngineId + Send + Sync, H: Threads + Wait + Sync, R: Read, W: Write
     flushers: u8,
     reader: &mut R,
     writer: &mut W,
-) -> Result<Frozen, ScriptFault> {
-    let tree = match run_all(rt, alloc, engine, &mut client, flushers, reader, writer) {
+    watch: &mut V,
+) -> Result<Frozen, Ending> {
+    let tree = match run_all(
+        rt,
+        alloc,
+        engine,
+        &mut client,
+        flushers,
+        reader,
+        writer,
+        watch,
+    ) {
         Ok(()) => live_tree(rt, &mut client),
         Err(fault) => Err(fault),
     };
@@ -99,15 +124,15 @@ fn run_by<J: EngineId + Send + Sync, H: Threads + Wait + Sync, R: Read, W: Write
 }
 
 /// The tree that is live.
-fn live_tree<J: EngineId, H: Wait>(rt: &H, client: &mut Client<J>) -> Result<Frozen, ScriptFault> {
+fn live_tree<J: EngineId, H: Wait>(rt: &H, client: &mut Client<J>) -> Result<Frozen, Ending> {
     match client.freeze(rt) {
         Ok(tree) => Ok(tree),
-        Err(_) => Err(ScriptFault::Memory),
+        Err(_) => Err(Ending::Failed(ScriptFault::Memory)),
     }
 }
 
 /// Starts the flushers, and runs the lines. All threads have ended when it returns.
-fn run_all<J: EngineId + Send + Sync, H: Threads + Wait + Sync, R: Read, W: Write>(
+fn run_all<J: EngineId + Send + Sync, H: Threads + Wait + Sync, R: Read, W: Write, V: Watch>(
     rt: &H,
     alloc: Global,
     engine: &mut Engine<J>,
@@ -115,14 +140,15 @@ fn run_all<J: EngineId + Send + Sync, H: Threads + Wait + Sync, R: Read, W: Writ
     flushers: u8,
     reader: &mut R,
     writer: &mut W,
-) -> Result<(), ScriptFault> {
+    watch: &mut V,
+) -> Result<(), Ending> {
     scope(scope_env(), rt, |scope| {
         for _ in 0..flushers {
             if let Ok(flusher) = engine.flusher() {
                 start(scope, rt, alloc, flusher);
             }
         }
-        run_client(rt, alloc, client, reader, writer)
+        run_watched(rt, alloc, client, reader, writer, watch)
     })
 }
 

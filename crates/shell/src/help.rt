@@ -49,6 +49,10 @@ Scripts:
   them. With --flushers above 0 so many threads tidy the trees beside the
   script, 1000 turns each, and --steps has no effect.
 
+  With --strict the run ends at the first reply that begins with 'fault' or
+  'error', with status 1. With --explain standard error says which file could
+  not be used and why, and which lines were not understood.
+
 Images:
   --image prints the whole tree as text after the replies, from the line 'D / M'
   on, and --load starts with the tree of such a text: so a tree is kept in a
@@ -56,6 +60,9 @@ Images:
 
   betr --image first | sed -n '/^D \\/ /,$p' > kept
   betr --load kept second
+
+  A file that has the replies too is no image: --explain says at which line
+  the image begins.
 
 Drawings:
   --dot draws both trees into a file, with the snapshots that share them.

@@ -2,7 +2,10 @@
 use crate::command_line::{Options, read_words};
 use crate::draw::{draw_alone, draw_volume};
 use crate::flushers::run_with_flushers;
-use crate::script::{ScriptFault, run_script};
+use crate::image_search::image_line;
+use crate::monitor::{Monitor, STANDARD_INPUT};
+use crate::noted::Noted;
+use crate::script::{Ending, run_lines};
 use crate::tidy::Tidy;
 use clap::error::ErrorKind;
 use images::{ImageFault, LoadFault, load_image, print_image};
@@ -49,7 +52,7 @@ enum Failure {
     Load(LoadFault),
     /// The script was not run to its end.
     #[error(transparent)]
-    Script(ScriptFault),
+    Script(Ending),
     /// The image was not printed to its end.
     #[error(transparent)]
     Image(ImageFault),
@@ -60,7 +63,7 @@ enum Failure {
 
 /// Does what the words of a command line ask for, and answers with what status the program ends. The first word is the program's
 /// name. A script that no file is named for is read from `input`; replies, the image and help go to `output`, and why the program ends
-/// early to `errors`: where that cannot be printed, the status is the same.
+/// early to `errors`, behind explanations if those were asked for: where that cannot be printed, the status is the same.
 pub fn run_words<H: Files + Threads + Wait + Sync, R: Read, W: Write + Drop, E: Write>(
     rt: &H,
     alloc: Global,
@@ -70,7 +73,7 @@ pub fn run_words<H: Files + Threads + Wait + Sync, R: Read, W: Write + Drop, E: 
     errors: &mut E,
 ) -> u8 {
     let ended = match read_words(alloc, words) {
-        Ok(options) => run(rt, alloc, &options, input, &mut output),
+        Ok(options) => run(rt, alloc, &options, input, &mut output, errors),
         Err(error) => end_unread(error, &mut output),
     };
     let status = match &ended {
@@ -116,19 +119,41 @@ fn end_unread<W: Write>(error: clap::Error, output: &mut W) -> Result<(), Failur
 }
 
 /// Runs the script that the options name over the volume that they start with.
-fn run<H: Files + Threads + Wait + Sync, R: Read, W: Write>(
+fn run<H: Files + Threads + Wait + Sync, R: Read, W: Write, E: Write>(
     rt: &H,
     alloc: Global,
     options: &Options<'_>,
     input: &mut R,
     output: &mut W,
+    errors: &mut E,
 ) -> Result<(), Failure> {
-    let volume = first_volume(rt, alloc, options)?;
+    let mut monitor = Monitor::new(options, errors);
+    let volume = first_volume(rt, alloc, options, &mut monitor)?;
     let Some(path) = options.script else {
-        return print(rt, alloc, volume, options, input, output);
+        let mut script = Noted::new(STANDARD_INPUT, input);
+        return print(
+            rt,
+            alloc,
+            volume,
+            options,
+            &mut script,
+            output,
+            &mut monitor,
+        );
     };
-    match open(rt, path) {
-        Ok(mut file) => print(rt, alloc, volume, options, &mut file, output),
+    match open(rt, path, &mut monitor) {
+        Ok(mut file) => {
+            let mut script = Noted::new(path, &mut file);
+            print(
+                rt,
+                alloc,
+                volume,
+                options,
+                &mut script,
+                output,
+                &mut monitor,
+            )
+        }
         Err(failure) => {
             // Let go by a call, so that the proof costs less.
             drop(volume);
@@ -138,45 +163,115 @@ fn run<H: Files + Threads + Wait + Sync, R: Read, W: Write>(
 }
 
 /// The volume that the options start with: a new one, or that of the image which they name.
-fn first_volume<F: Files>(rt: &F, alloc: Global, options: &Options<'_>) -> Result<Volume, Failure> {
+fn first_volume<F: Files, E: Write>(
+    rt: &F,
+    alloc: Global,
+    options: &Options<'_>,
+    monitor: &mut Monitor<'_, '_, E>,
+) -> Result<Volume, Failure> {
     let shape = Shape {
         fanout: options.fanout,
         pending: options.pending,
         leaf: options.leaf,
     };
     if !shape.ok() {
+        monitor.explain_shape(shape);
         return Err(Failure::Shape);
     }
     match options.load {
-        Some(path) => {
-            let mut file = open(rt, path)?;
-            load_image(alloc, shape, &mut file).map_err(Failure::Load)
-        }
+        Some(path) => load(rt, alloc, shape, path, monitor),
         // A shape that is ok is refused only for want of memory.
         None => Volume::new(alloc, shape).map_err(|_| Failure::Memory),
     }
 }
 
+/// The volume of the image in a file.
+fn load<F: Files, E: Write>(
+    rt: &F,
+    alloc: Global,
+    shape: Shape,
+    path: &str,
+    monitor: &mut Monitor<'_, '_, E>,
+) -> Result<Volume, Failure> {
+    let mut file = open(rt, path, monitor)?;
+    let mut noted = Noted::new(path, &mut file);
+    match load_image(alloc, shape, &mut noted) {
+        Ok(volume) => Ok(volume),
+        Err(fault) => {
+            monitor.explain_noted(&noted);
+            explain_load(rt, path, &fault, monitor);
+            Err(Failure::Load(fault))
+        }
+    }
+}
+
+/// Explains why the text of a file is no image: there may be an image behind replies.
+fn explain_load<F: Files, E: Write>(
+    rt: &F,
+    path: &str,
+    fault: &LoadFault,
+    monitor: &mut Monitor<'_, '_, E>,
+) {
+    let LoadFault::Bad(line) = fault else {
+        return;
+    };
+    monitor.explain_image(path, *line);
+    if *line != 1 || !monitor.explains() {
+        return;
+    }
+    let Ok(mut file) = fs::open(rt, path) else {
+        return;
+    };
+    if let Some(line) = image_line(&mut file) {
+        monitor.hint_at_image(path, line);
+    }
+}
+
 /// Opens a file that was named.
-fn open<F: Files>(rt: &F, path: &str) -> Result<F::File, Failure> {
+fn open<F: Files, E: Write>(
+    rt: &F,
+    path: &str,
+    monitor: &mut Monitor<'_, '_, E>,
+) -> Result<F::File, Failure> {
     match fs::open(rt, path) {
         Ok(file) => Ok(file),
         Err(error) if error.kind() == io::ErrorKind::OutOfMemory => Err(Failure::Memory),
-        Err(_) => Err(Failure::Open),
+        Err(error) => {
+            monitor.explain_error(path, &error);
+            Err(Failure::Open)
+        }
     }
 }
 
 /// Prints the replies to a script, gathered into large writes, and then the image if the options ask for it.
-fn print<H: Files + Threads + Wait + Sync, R: Read, W: Write>(
+fn print<H: Files + Threads + Wait + Sync, R: Read, W: Write, E: Write>(
+    rt: &H,
+    alloc: Global,
+    volume: Volume,
+    options: &Options<'_>,
+    script: &mut Noted<'_, R>,
+    output: &mut W,
+    monitor: &mut Monitor<'_, '_, E>,
+) -> Result<(), Failure> {
+    let mut noted = Noted::new("standard output", output);
+    let ended = print_gathered(rt, alloc, volume, options, script, &mut noted, monitor);
+    monitor.explain_noted(script);
+    monitor.explain_noted(&noted);
+    ended
+}
+
+/// The same to a writer of replies that keeps why it failed.
+fn print_gathered<H: Files + Threads + Wait + Sync, R: Read, W: Write, E: Write>(
     rt: &H,
     alloc: Global,
     volume: Volume,
     options: &Options<'_>,
     script: &mut R,
     output: &mut W,
+    monitor: &mut Monitor<'_, '_, E>,
 ) -> Result<(), Failure> {
     match BufWriter::with_capacity(alloc, OUTPUT_BUFFER, output) {
-        Ok(mut buffer) => print_all(rt, alloc, volume, options, script, &mut buffer),
+        Ok(mut buffer) => print_all(rt, alloc, volume, options, script, &mut buffer, monitor),
         Err(_) => {
             // Let go by a call, so that the proof costs less.
             drop(volume);
@@ -186,79 +281,102 @@ fn print<H: Files + Threads + Wait + Sync, R: Read, W: Write>(
 }
 
 /// Prints the replies to a script, while flushers tidy if there are some, and what the options ask for behind them.
-fn print_all<H: Files + Threads + Wait + Sync, R: Read, W: Write>(
+fn print_all<H: Files + Threads + Wait + Sync, R: Read, W: Write, E: Write>(
     rt: &H,
     alloc: Global,
     volume: Volume,
     options: &Options<'_>,
     script: &mut R,
     writer: &mut W,
+    monitor: &mut Monitor<'_, '_, E>,
 ) -> Result<(), Failure> {
     if options.flushers == 0 {
         let mut volume = volume;
-        let ended = print_lines(rt, alloc, &mut volume, options, script, writer);
+        let ended = print_lines(rt, alloc, &mut volume, options, script, writer, monitor);
         // Let go by a call, so that the proof costs less.
         drop(volume);
         return ended;
     }
-    match run_with_flushers(rt, alloc, volume, options.flushers, script, writer) {
+    match run_with_flushers(rt, alloc, volume, options.flushers, script, writer, monitor) {
         Ok(tree) => {
-            let ended = print_tree(rt, alloc, &tree, options, writer);
+            let ended = print_tree(rt, alloc, &tree, options, writer, monitor);
             // Let go by a call, so that the proof costs less.
             drop(tree);
             ended
         }
-        Err(fault) => Err(Failure::Script(fault)),
+        Err(ending) => Err(Failure::Script(ending)),
     }
 }
 
 /// Prints the image of a tree if that is asked for, and then draws it.
-fn print_tree<F: Files, W: Write>(
+fn print_tree<F: Files, W: Write, E: Write>(
     rt: &F,
     alloc: Global,
     tree: &Frozen,
     options: &Options<'_>,
     writer: &mut W,
+    monitor: &mut Monitor<'_, '_, E>,
 ) -> Result<(), Failure> {
     print_end(alloc, tree, options.image, writer)?;
     match options.dot {
-        Some(path) => save(rt, path, draw_alone(alloc, tree.indexes())),
+        Some(path) => save(rt, path, draw_alone(alloc, tree.indexes()), monitor),
         None => Ok(()),
     }
 }
 
 /// Prints the replies to a script on a volume, with steps of tidying after each line, and what the options ask for behind them.
-fn print_lines<F: Files, R: Read, W: Write>(
+fn print_lines<F: Files, R: Read, W: Write, E: Write>(
     rt: &F,
     alloc: Global,
     volume: &mut Volume,
     options: &Options<'_>,
     script: &mut R,
     writer: &mut W,
+    monitor: &mut Monitor<'_, '_, E>,
 ) -> Result<(), Failure> {
     let mut pace = Tidy::new(options.steps);
-    run_script(alloc, volume, script, writer, &mut pace).map_err(Failure::Script)?;
+    run_lines(alloc, volume, &mut 0, script, writer, &mut pace, monitor).map_err(Failure::Script)?;
     let tree = volume.freeze().map_err(|_| Failure::Memory)?;
     let printed = print_end(alloc, &tree, options.image, writer);
     // Let go by a call, so that the proof costs less.
     drop(tree);
     printed?;
     match options.dot {
-        Some(path) => save(rt, path, draw_volume(alloc, volume)),
+        Some(path) => save(rt, path, draw_volume(alloc, volume), monitor),
         None => Ok(()),
     }
 }
 
 /// Writes a drawing into a file.
-fn save<F: Files>(rt: &F, path: &str, drawing: Result<Vec<u8>, NoMemory>) -> Result<(), Failure> {
+fn save<F: Files, E: Write>(
+    rt: &F,
+    path: &str,
+    drawing: Result<Vec<u8>, NoMemory>,
+    monitor: &mut Monitor<'_, '_, E>,
+) -> Result<(), Failure> {
     match drawing {
         Ok(text) => {
             let saved = fs::write(rt, path, text.as_slice());
             // Let go by a call, so that the proof costs less.
             drop(text);
-            saved.map_err(|_| Failure::Write)
+            report_saved(path, saved, monitor)
         }
         Err(NoMemory) => Err(Failure::Memory),
+    }
+}
+
+/// Explains why a file was not written.
+fn report_saved<E: Write>(
+    path: &str,
+    saved: io::Result<()>,
+    monitor: &mut Monitor<'_, '_, E>,
+) -> Result<(), Failure> {
+    match saved {
+        Ok(()) => Ok(()),
+        Err(error) => {
+            monitor.explain_error(path, &error);
+            Err(Failure::Write)
+        }
     }
 }
 

@@ -1,13 +1,15 @@
 //! Runs a script: reads it piece by piece, does each line, and writes its reply.
-ghost use Rattle.std.specs.Prelude.{◌≡◌, ◌≢◌, ◌≤◌, ◌<◌, ◌+◌, ℕ, List, [], length, vec_capacity, OnOk, OnErr};
-ghost use Rattle.std.specs.Io.KnownBytes.{Appends};
+ghost use Rattle.std.specs.Prelude.{◌≡◌, ◌≢◌, ◌≤◌, ◌<◌, ◌+◌, ◌∷◌, ℕ, List, [], length, vec_capacity, IfErr, IfOk, OnOk, OnErr};
+ghost use Rattle.std.specs.Io.KnownBytes.{Appends, Keeps};
 ghost use Rattle.textio.specs.Parts.{AppendsPart};
+ghost use Rattle.reference.specs.declared.reply.Reply.TheVariants.{Fault};
 ghost use Rattle.shell.specs.Replies.{reply_text};
-ghost use Rattle.shell.specs.Script.{Answers, Does, Script, Tells, settled_reply};
+ghost use Rattle.shell.specs.Script.{Answers, Does, IsCut, IsHalt, Lines, Script, Taken, settled_reply};
 ghost use Rattle.reference.specs.Worlds.{World};
 ghost use Rattle.volume.specs.Volumes.{Means};
-ghost use Rattle.shell.specs.Runs.{DoesAll, DoesGiven, DoesUntil, Leads, Left, Meant};
+ghost use Rattle.shell.specs.Runs.{DoesAll, DoesGiven, DoesUntil, Halts, Leads, Left, Meant};
 ghost use Rattle.shell.specs.Progress.{FailedIn, Went, last_line};
+ghost use Rattle.shell.specs.Verdicts.{Judges, fails, is_fault};
 ghost use Rattle.textio.specs.Held.{Holds};
 
 use crate::command::read_request;
@@ -15,6 +17,8 @@ use crate::pace::Pace;
 use crate::reply::{put_fault, write_reply};
 use crate::request::Request;
 use crate::session::Session;
+use crate::verdict::{Halt, Verdict};
+use crate::watch::{Unwatched, Watch};
 use pathkey::Errno;
 use reference::Reply;
 use std::alloc::Global;
@@ -55,41 +59,60 @@ pub fn run_script<R: Read, W: Write, P: Pace>(
 ) -> Result<(), ScriptFault>
     ensures memory { result ≡ Err ScriptFault.Memory → (volume.new ≡ volume.old) × (reader.new ≡ reader.old)
         × (writer.new ≡ writer.old) }
-    ensures done { OnOk result (Leads (Meant (Means volume.old) 0) (Left (Means volume.new)) (DoesAll (R.remaining reader.old) (R.remaining reader.new))
+    ensures done { OnOk result (Leads (Meant (Means volume.old) 0) (Left (Means volume.new)) (DoesAll Does (R.remaining reader.old) (R.remaining reader.new))
         (Appends (W.contents writer.old) (W.contents writer.new))) }
     ensures read { result ≡ Err ScriptFault.Read → Leads (Meant (Means volume.old) 0) (Left (Means volume.new))
-        (DoesGiven (R.remaining reader.old) (R.remaining reader.new)) (Appends (W.contents writer.old) (W.contents writer.new)) }
+        (DoesGiven Does (R.remaining reader.old) (R.remaining reader.new)) (Appends (W.contents writer.old) (W.contents writer.new)) }
     ensures write { result ≡ Err ScriptFault.Write → Leads (Meant (Means volume.old) 0) (Left (Means volume.new))
-        (DoesUntil (R.remaining reader.old)) (Appends (W.contents writer.old) (W.contents writer.new)) }
+        (DoesUntil Does IsCut (R.remaining reader.old)) (Appends (W.contents writer.old) (W.contents writer.new)) }
 {
     let mut at = 0;
-    run_lines(alloc, volume, &mut at, reader, writer, pace)
+    match run_lines(alloc, volume, &mut at, reader, writer, pace, &mut Unwatched) {
+        Ok(()) => Ok(()),
+        Err(Ending::Failed(fault)) => Err(fault),
+        // Not met: nothing asks for that.
+        Err(Ending::Fault(_)) => Err(ScriptFault::Write),
+    }
 }
 
-// Runs all the lines of the reader on a session, as `run_script` does on a volume. A session that
-// others share means no world that a contract could name, and then nothing is said.
-pub(crate) fn run_lines<S: Session, R: Read, W: Write, P: Pace>(
+/// Why a run that is watched ended before the end of its script.
+#[derive(Debug, Drop, PartialEq, Eq, Error)]
+pub enum Ending {
+    /// As a script's.
+    #[error(transparent)]
+    Failed(ScriptFault),
+    /// The line of this number, counted from 1, was answered by a fault or an error, and the run was to end there.
+    #[error("betr: fault at line {0}")]
+    Fault(u64),
+}
+
+// Runs all the lines of the reader on a session, as `run_script` does on a volume; if the watch is strict, up to the first that is
+// answered by a fault or an error. A session that others share means no world that a contract could name, and then nothing is said.
+pub(crate) fn run_lines<S: Session, R: Read, W: Write, P: Pace, V: Watch>(
     alloc: Global,
     session: &mut S,
     at: &mut u64,
     reader: &mut R,
     writer: &mut W,
     pace: &mut P,
-) -> Result<(), ScriptFault>
-    ensures memory { result ≡ Err ScriptFault.Memory → (session.new ≡ session.old) × (at.new ≡ at.old) × (reader.new ≡ reader.old)
+    watch: &mut V,
+) -> Result<(), Ending>
+    ensures memory { result ≡ Err (Ending.Failed ScriptFault.Memory) → (session.new ≡ session.old) × (at.new ≡ at.old) × (reader.new ≡ reader.old)
         × (writer.new ≡ writer.old) }
-    ensures done { OnOk result (Leads (Meant (S.means session.old) at.old) (Meant (S.means session.new) at.new) (DoesAll (R.remaining reader.old) (R.remaining reader.new))
+    ensures done { OnOk result (Leads (Meant (S.means session.old) at.old) (Meant (S.means session.new) at.new) (DoesAll (Taken (V.is_strict watch.old)) (R.remaining reader.old) (R.remaining reader.new))
         (Appends (W.contents writer.old) (W.contents writer.new))) }
-    ensures read { result ≡ Err ScriptFault.Read → Leads (Meant (S.means session.old) at.old) (Meant (S.means session.new) at.new)
-        (DoesGiven (R.remaining reader.old) (R.remaining reader.new)) (Appends (W.contents writer.old) (W.contents writer.new)) }
-    ensures write { result ≡ Err ScriptFault.Write → Leads (Meant (S.means session.old) at.old) (Meant (S.means session.new) at.new)
-        (DoesUntil (R.remaining reader.old)) (Appends (W.contents writer.old) (W.contents writer.new)) }
+    ensures read { result ≡ Err (Ending.Failed ScriptFault.Read) → Leads (Meant (S.means session.old) at.old) (Meant (S.means session.new) at.new)
+        (DoesGiven (Taken (V.is_strict watch.old)) (R.remaining reader.old) (R.remaining reader.new)) (Appends (W.contents writer.old) (W.contents writer.new)) }
+    ensures write { result ≡ Err (Ending.Failed ScriptFault.Write) → Leads (Meant (S.means session.old) at.old) (Meant (S.means session.new) at.new)
+        (DoesUntil (Taken (V.is_strict watch.old)) IsCut (R.remaining reader.old)) (Appends (W.contents writer.old) (W.contents writer.new)) }
+    ensures fault { (n : ℕ) → result ≡ Err (Ending.Fault n) → Leads (Meant (S.means session.old) at.old) (Meant (S.means session.new) at.new)
+        (DoesUntil (Taken (V.is_strict watch.old)) (IsHalt (V.is_strict watch.old) Halt.Fault) (R.remaining reader.old)) (Appends (W.contents writer.old) (W.contents writer.new)) }
 {
     let Ok(mut piece) = Vec::from_elem(alloc, 0u8, READ_SIZE) else {
-        return Err(ScriptFault::Memory);
+        return Err(Ending::Failed(ScriptFault::Memory));
     };
     let Ok(mut line) = Vec::with_capacity(alloc, LONGEST_LINE + 1) else {
-        return Err(ScriptFault::Memory);
+        return Err(Ending::Failed(ScriptFault::Memory));
     };
     run_over(
         alloc,
@@ -98,57 +121,74 @@ pub(crate) fn run_lines<S: Session, R: Read, W: Write, P: Pace>(
         reader,
         writer,
         pace,
+        watch,
         piece.as_mut_slice(),
         &mut line,
     )
 }
 
 // Reads and does piece after piece, in the given buffers.
-fn run_over<S: Session, R: Read, W: Write, P: Pace>(
+fn run_over<S: Session, R: Read, W: Write, P: Pace, V: Watch>(
     alloc: Global,
     session: &mut S,
     at: &mut u64,
     reader: &mut R,
     writer: &mut W,
     pace: &mut P,
+    watch: &mut V,
     piece: &mut [u8],
     line: &mut Vec<u8>,
-) -> Result<(), ScriptFault>
+) -> Result<(), Ending>
     requires piece { 0 < length piece.old }
     requires room { 65536 < vec_capacity line.old }
     requires empty { line.old.items ≡ [] }
-    ensures kinds { result ≢ Err ScriptFault.Memory }
-    ensures done { OnOk result (Leads (Meant (S.means session.old) at.old) (Meant (S.means session.new) at.new) (DoesAll (R.remaining reader.old) (R.remaining reader.new))
+    ensures kinds { result ≢ Err (Ending.Failed ScriptFault.Memory) }
+    ensures done { OnOk result (Leads (Meant (S.means session.old) at.old) (Meant (S.means session.new) at.new) (DoesAll (Taken (V.is_strict watch.old)) (R.remaining reader.old) (R.remaining reader.new))
         (Appends (W.contents writer.old) (W.contents writer.new))) }
-    ensures read { result ≡ Err ScriptFault.Read → Leads (Meant (S.means session.old) at.old) (Meant (S.means session.new) at.new)
-        (DoesGiven (R.remaining reader.old) (R.remaining reader.new)) (Appends (W.contents writer.old) (W.contents writer.new)) }
-    ensures write { result ≡ Err ScriptFault.Write → Leads (Meant (S.means session.old) at.old) (Meant (S.means session.new) at.new)
-        (DoesUntil (R.remaining reader.old)) (Appends (W.contents writer.old) (W.contents writer.new)) }
+    ensures read { result ≡ Err (Ending.Failed ScriptFault.Read) → Leads (Meant (S.means session.old) at.old) (Meant (S.means session.new) at.new)
+        (DoesGiven (Taken (V.is_strict watch.old)) (R.remaining reader.old) (R.remaining reader.new)) (Appends (W.contents writer.old) (W.contents writer.new)) }
+    ensures write { result ≡ Err (Ending.Failed ScriptFault.Write) → Leads (Meant (S.means session.old) at.old) (Meant (S.means session.new) at.new)
+        (DoesUntil (Taken (V.is_strict watch.old)) IsCut (R.remaining reader.old)) (Appends (W.contents writer.old) (W.contents writer.new)) }
+    ensures fault { (n : ℕ) → result ≡ Err (Ending.Fault n) → Leads (Meant (S.means session.old) at.old) (Meant (S.means session.new) at.new)
+        (DoesUntil (Taken (V.is_strict watch.old)) (IsHalt (V.is_strict watch.old) Halt.Fault) (R.remaining reader.old)) (Appends (W.contents writer.old) (W.contents writer.new)) }
 {
     // No input has more pieces.
     for _ in 0..u64::MAX {
         if let Err(WriteFailed) = flush(writer) {
-            return Err(ScriptFault::Write);
+            return Err(Ending::Failed(ScriptFault::Write));
         }
         let Ok(n) = read_some(reader, piece) else {
-            return Err(ScriptFault::Read);
+            return Err(Ending::Failed(ScriptFault::Read));
         };
         if n == 0 {
-            return match finish(alloc, session, at, line.as_slice(), writer, pace) {
+            return match finish(alloc, session, at, line.as_slice(), writer, pace, watch) {
                 Ok(()) => Ok(()),
-                Err(WriteFailed) => Err(ScriptFault::Write),
+                Err(halt) => Err(end_early(halt, writer, watch)),
             };
         }
-        if let Err(WriteFailed) = take_piece(alloc, session, at, line, &piece[..n], writer, pace) {
-            return Err(ScriptFault::Write);
+        if let Err(halt) = take_piece(alloc, session, at, line, &piece[..n], writer, pace, watch) {
+            return Err(end_early(halt, writer, watch));
         }
     }
-    Err(ScriptFault::Read)
+    Err(Ending::Failed(ScriptFault::Read))
+}
+
+// Writes out what is gathered, if the writer did not fail. Returns why the run ends.
+fn end_early<W: Write, V: Watch>(halt: Halt, writer: &mut W, watch: &V) -> Ending
+    ensures keeps { Keeps (W.contents writer.old) (W.contents writer.new) }
+    ensures memory { result ≢ Ending.Failed ScriptFault.Memory }
+    ensures read { result ≢ Ending.Failed ScriptFault.Read }
+    ensures fault { (n : ℕ) → result ≡ Ending.Fault n → halt ≡ Halt.Fault }
+{
+    if halt == Halt::Write || flush(writer).is_err() {
+        return Ending::Failed(ScriptFault::Write);
+    }
+    Ending::Fault(watch.lines())
 }
 
 // Does each line that ends in a piece of the text, and holds what follows the last of them. A line is copied only where it began
 // in an earlier piece.
-fn take_piece<S: Session, W: Write, P: Pace>(
+fn take_piece<S: Session, W: Write, P: Pace, V: Watch>(
     alloc: Global,
     session: &mut S,
     at: &mut u64,
@@ -156,22 +196,24 @@ fn take_piece<S: Session, W: Write, P: Pace>(
     piece: &[u8],
     writer: &mut W,
     pace: &mut P,
-) -> Result<(), WriteFailed>
+    watch: &mut V,
+) -> Result<(), Halt>
     requires room { 65536 < vec_capacity line.old }
     ensures room { 65536 < vec_capacity line.new }
+    ensures same { V.is_strict watch.new ≡ V.is_strict watch.old }
     ensures ok { OnOk result ((held : List ℕ) → Holds held line.old.items → Leads (Meant (S.means session.old) at.old) (Meant (S.means session.new) at.new)
-        (λ first out after. (left : List ℕ) × Holds left line.new.items × Went held piece.now first out left after)
+        (λ first out after. (left : List ℕ) × Holds left line.new.items × Went (Taken (V.is_strict watch.old)) held piece.now first out left after)
         (Appends (W.contents writer.old) (W.contents writer.new))) }
-    ensures err { OnErr result ((held : List ℕ) → Holds held line.old.items → Leads (Meant (S.means session.old) at.old) (Meant (S.means session.new) at.new)
-        (FailedIn held piece.now) (Appends (W.contents writer.old) (W.contents writer.new))) }
+    ensures err { IfErr result (λ h. (held : List ℕ) → Holds held line.old.items → Leads (Meant (S.means session.old) at.old) (Meant (S.means session.new) at.new)
+        (FailedIn (Taken (V.is_strict watch.old)) (IsHalt (V.is_strict watch.old) h) held piece.now) (Appends (W.contents writer.old) (W.contents writer.new))) }
 {
     let mut rest = piece;
     while let Some((end, after)) = split_line(rest) {
         if line.is_empty() {
-            do_line(alloc, session, at, end, writer, pace)?;
+            do_line(alloc, session, at, end, writer, pace, watch)?;
         } else {
             push_limited(line, end);
-            do_line(alloc, session, at, line.as_slice(), writer, pace)?;
+            do_line(alloc, session, at, line.as_slice(), writer, pace, watch)?;
             line.clear();
         }
         rest = after;
@@ -181,70 +223,105 @@ fn take_piece<S: Session, W: Write, P: Pace>(
 }
 
 // Does the last line, where the text does not end with a line feed.
-fn finish<S: Session, W: Write, P: Pace>(
+fn finish<S: Session, W: Write, P: Pace, V: Watch>(
     alloc: Global,
     session: &mut S,
     at: &mut u64,
     line: &[u8],
     writer: &mut W,
     pace: &mut P,
-) -> Result<(), WriteFailed>
-    ensures ok { OnOk result (Leads (Meant (S.means session.old) at.old) (Meant (S.means session.new) at.new) (λ first. Script first (last_line line.now))
+    watch: &mut V,
+) -> Result<(), Halt>
+    ensures ok { OnOk result (Leads (Meant (S.means session.old) at.old) (Meant (S.means session.new) at.new) (λ first. Lines (Taken (V.is_strict watch.old)) first (last_line line.now))
         (Appends (W.contents writer.old) (W.contents writer.new))) }
-    ensures err { OnErr result (Leads (Meant (S.means session.old) at.old) (Meant (S.means session.new) at.new) (λ first. Script first (last_line line.now))
-        (AppendsPart (W.contents writer.old) (W.contents writer.new))) }
+    ensures err { IfErr result (λ h. Leads (Meant (S.means session.old) at.old) (Meant (S.means session.new) at.new) (Halts (IsHalt (V.is_strict watch.old) h) (last_line line.now))
+        (Appends (W.contents writer.old) (W.contents writer.new))) }
 {
     if line.is_empty() {
-        return flush(writer);
+        return write_out(writer);
     }
-    do_line(alloc, session, at, line, writer, pace)?;
-    flush(writer)
+    do_line(alloc, session, at, line, writer, pace, watch)?;
+    write_out(writer)
+}
+
+// Writes out what is gathered.
+fn write_out<W: Write>(writer: &mut W) -> Result<(), Halt>
+    ensures keeps { Keeps (W.contents writer.old) (W.contents writer.new) }
+    ensures err { OnErr result (result ≡ Err Halt.Write) }
+{
+    match flush(writer) {
+        Ok(()) => Ok(()),
+        Err(WriteFailed) => Err(Halt::Write),
+    }
 }
 
 // Does one line and writes its reply, and then does the steps that the pace picks.
-fn do_line<S: Session, W: Write, P: Pace>(
+fn do_line<S: Session, W: Write, P: Pace, V: Watch>(
     alloc: Global,
     session: &mut S,
     at: &mut u64,
     line: &[u8],
     writer: &mut W,
     pace: &mut P,
-) -> Result<(), WriteFailed>
-    ensures ok { OnOk result (Leads (Meant (S.means session.old) at.old) (Meant (S.means session.new) at.new) (λ first. Does first line.now)
+    watch: &mut V,
+) -> Result<(), Halt>
+    ensures same { V.is_strict watch.new ≡ V.is_strict watch.old }
+    ensures ok { OnOk result (Leads (Meant (S.means session.old) at.old) (Meant (S.means session.new) at.new) (λ first. Taken (V.is_strict watch.old) first line.now)
         (Appends (W.contents writer.old) (W.contents writer.new))) }
-    ensures err { OnErr result (Leads (Meant (S.means session.old) at.old) (Meant (S.means session.new) at.new) (λ first. Does first line.now)
-        (AppendsPart (W.contents writer.old) (W.contents writer.new))) }
+    ensures err { IfErr result (λ h. Leads (Meant (S.means session.old) at.old) (Meant (S.means session.new) at.new) (Halts (IsHalt (V.is_strict watch.old) h) (line.now ∷ []))
+        (Appends (W.contents writer.old) (W.contents writer.new))) }
 {
-    let request = read_request(alloc, line);
-    let reported = answer(alloc, session, at, &request, writer);
-    // Let go by a call: its kinds are not told apart here.
-    drop(request);
-    reported?;
+    let Ok(verdict) = answer_line(alloc, session, at, line, writer) else {
+        return Err(Halt::Write);
+    };
+    if !watch.see(verdict) {
+        return Err(Halt::Fault);
+    }
     session.run_steps(alloc, pace);
     Ok(())
 }
 
-// Does what is asked for, and writes the reply.
+// Does one line and writes its reply. Returns whether that is a fault or an error.
+fn answer_line<S: Session, W: Write>(
+    alloc: Global,
+    session: &mut S,
+    at: &mut u64,
+    line: &[u8],
+    writer: &mut W,
+) -> Result<Verdict, WriteFailed>
+    ensures ok { IfOk result (λ v. Leads (Meant (S.means session.old) at.old) (Meant (S.means session.new) at.new) (λ first. Does first line.now)
+        (Judges v (W.contents writer.old) (W.contents writer.new))) }
+    ensures err { OnErr result (Leads (Meant (S.means session.old) at.old) (Meant (S.means session.new) at.new) (λ first. Does first line.now)
+        (AppendsPart (W.contents writer.old) (W.contents writer.new))) }
+{
+    let request = read_request(alloc, line);
+    let answered = answer(alloc, session, at, &request, writer);
+    // Let go by a call: its kinds are not told apart here.
+    drop(request);
+    answered
+}
+
+// Does what is asked for, and writes the reply. Returns whether that is a fault or an error.
 fn answer<S: Session, W: Write>(
     alloc: Global,
     session: &mut S,
     at: &mut u64,
     request: &Request,
     writer: &mut W,
-) -> Result<(), WriteFailed>
-    ensures ok { OnOk result (Leads (Meant (S.means session.old) at.old) (Meant (S.means session.new) at.new) (λ first. Answers first request.now)
-        (Appends (W.contents writer.old) (W.contents writer.new))) }
+) -> Result<Verdict, WriteFailed>
+    ensures ok { IfOk result (λ v. Leads (Meant (S.means session.old) at.old) (Meant (S.means session.new) at.new) (λ first. Answers first request.now)
+        (Judges v (W.contents writer.old) (W.contents writer.new))) }
     ensures err { OnErr result (Leads (Meant (S.means session.old) at.old) (Meant (S.means session.new) at.new) (λ first. Answers first request.now)
         (AppendsPart (W.contents writer.old) (W.contents writer.new))) }
 {
     match request {
-        Request::Silent => Ok(()),
-        Request::Overlong => put(writer, b"error line\n"),
-        Request::Malformed => put(writer, b"error syntax\n"),
-        Request::Refused(fault) => put_fault(writer, *fault),
+        Request::Silent => Ok(Verdict::Done),
+        Request::Overlong => put_line(writer, b"error line\n", Verdict::Overlong),
+        Request::Malformed => put_line(writer, b"error syntax\n", Verdict::Malformed),
+        Request::Refused(fault) => put_refusal(writer, *fault),
         Request::Moment(moment) => {
             *at = *moment;
-            put(writer, b"ok\n")
+            put_line(writer, b"ok\n", Verdict::Done)
         }
         Request::Wanted(call) => {
             let reply = session.call(alloc, call, *at);
@@ -269,24 +346,45 @@ fn answer<S: Session, W: Write>(
     }
 }
 
+// Writes a line, and returns what it is known to be.
+fn put_line<W: Write>(writer: &mut W, line: &[u8], verdict: Verdict) -> Result<Verdict, WriteFailed>
+    requires { fails verdict ≡ is_fault line.now }
+    ensures ok { IfOk result (λ v. Judges v (W.contents writer.old) (W.contents writer.new) line.now) }
+    ensures err { OnErr result (AppendsPart (W.contents writer.old) (W.contents writer.new) line.now) }
+{
+    put(writer, line)?;
+    Ok(verdict)
+}
+
+// Writes the line of a refusal.
+fn put_refusal<W: Write>(writer: &mut W, fault: Errno) -> Result<Verdict, WriteFailed>
+    ensures ok { IfOk result (λ v. Judges v (W.contents writer.old) (W.contents writer.new) (reply_text (Fault fault))) }
+    ensures err { OnErr result (AppendsPart (W.contents writer.old) (W.contents writer.new) (reply_text (Fault fault))) }
+{
+    put_fault(writer, fault)?;
+    Ok(Verdict::Fault)
+}
+
 // Writes the reply to a call.
-fn put_reply<W: Write>(writer: &mut W, reply: Reply) -> Result<(), WriteFailed>
-    ensures ok { OnOk result (Appends (W.contents writer.old) (W.contents writer.new) (reply_text reply)) }
+fn put_reply<W: Write>(writer: &mut W, reply: Reply) -> Result<Verdict, WriteFailed>
+    ensures ok { IfOk result (λ v. Judges v (W.contents writer.old) (W.contents writer.new) (reply_text reply)) }
     ensures err { OnErr result (AppendsPart (W.contents writer.old) (W.contents writer.new) (reply_text reply)) }
 {
+    let verdict = Verdict::of_reply(&reply);
     let reported = write_reply(writer, &reply);
     // Let go by a call, so that the proof costs less.
     drop(reply);
-    reported
+    reported?;
+    Ok(verdict)
 }
 
 // Writes the reply to a snapshot call.
-fn put_settled<W: Write>(writer: &mut W, settled: Result<(), Errno>) -> Result<(), WriteFailed>
-    ensures ok { OnOk result (Appends (W.contents writer.old) (W.contents writer.new) (reply_text (settled_reply settled))) }
+fn put_settled<W: Write>(writer: &mut W, settled: Result<(), Errno>) -> Result<Verdict, WriteFailed>
+    ensures ok { IfOk result (λ v. Judges v (W.contents writer.old) (W.contents writer.new) (reply_text (settled_reply settled))) }
     ensures err { OnErr result (AppendsPart (W.contents writer.old) (W.contents writer.new) (reply_text (settled_reply settled))) }
 {
     match settled {
-        Ok(()) => put(writer, b"ok\n"),
-        Err(fault) => put_fault(writer, fault),
+        Ok(()) => put_line(writer, b"ok\n", Verdict::Done),
+        Err(fault) => put_refusal(writer, fault),
     }
 }

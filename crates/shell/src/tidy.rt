@@ -1,8 +1,10 @@
-//! The pace of the program: where enough waits, the heaviest slot is flushed, and what makes room for that is done.
+//! The pace of the program: where enough waits, the heaviest slot is flushed, and what makes room for that is done. Nodes on the flush's
+//! path that removals left nearly empty are merged before.
 //!
 //! No claim rests on its choices.
 use crate::pace::Pace;
-use node::StepReply;
+use node::{StepReply, TreeStep};
+use steps::preemptive_split;
 use volume::{Index, MAX_ATTEMPTS, Step, Volume};
 
 /// For how many lines a pace that found nothing to do does not look again: a look weighs both roots.
@@ -18,6 +20,8 @@ pub struct Tidy {
     /// How many steps in a row had no room, the last one among them. They go on over the lines: with one step a line, too, what
     /// makes room comes to its turn.
     stuck: u8,
+    /// Whether the last steps reshape nodes before a flush. If they have no room, it is tried without that.
+    reshapes: bool,
     /// Whether nothing was found to do since the last line.
     is_idle: bool,
     /// For how many lines it does not look, since nothing was to do.
@@ -31,17 +35,36 @@ impl Tidy {
             turns,
             last: None,
             stuck: 0,
+            reshapes: false,
             is_idle: false,
             rest: 0,
         }
     }
 
-    /// What makes room for the step that had none, if it was one; else the heaviest flush.
-    fn choose_step(&self, volume: &Volume) -> Option<Step> {
+    /// What makes room for the step that had none, if it was one; else the heaviest flush, or what is better done before it.
+    fn choose_step(&mut self, volume: &Volume) -> Option<Step> {
         match self.last {
-            Some(step) if self.stuck > 0 => volume.make_room(step),
-            _ => heaviest(volume),
+            Some(step) if self.stuck > 0 => self.choose_other(volume, step),
+            _ => self.choose_flush(volume),
         }
+    }
+
+    /// What makes room for this step; the flush itself where none is known and the step was to reshape nodes before it.
+    fn choose_other(&mut self, volume: &Volume, step: Step) -> Option<Step> {
+        let other = volume.make_room(step);
+        if other.is_some() || !self.reshapes {
+            return other;
+        }
+        self.reshapes = false;
+        heaviest(volume)
+    }
+
+    /// The heaviest flush, or the step that reshapes nodes on its path.
+    fn choose_flush(&mut self, volume: &Volume) -> Option<Step> {
+        let flush = heaviest(volume)?;
+        let first = reshaping(volume, flush);
+        self.reshapes = first.is_some();
+        Some(first.unwrap_or(flush))
     }
 }
 
@@ -85,6 +108,22 @@ fn heaviest(volume: &Volume) -> Option<Step> {
     }
     let step = volume.heaviest(index)?;
     Some(Step { index, step })
+}
+
+/// The step that reshapes nodes on the path of a flush before it is tried; none where it is to be tried at once.
+fn reshaping(volume: &Volume, flush: Step) -> Option<Step> {
+    let index = flush.index;
+    let step = reshaping_in(volume, index, flush.step)?;
+    Some(Step { index, step })
+}
+
+/// The same in the tree of the index.
+fn reshaping_in(volume: &Volume, index: Index, flush: TreeStep) -> Option<TreeStep> {
+    let indexes = volume.indexes();
+    match index {
+        Index::Meta => preemptive_split(&indexes.meta.tree, flush),
+        Index::Block => preemptive_split(&indexes.block.tree, flush),
+    }
 }
 
 /// How many messages wait in the longest list of an index.

@@ -1,10 +1,13 @@
-use Rattle.textio.proofs.Known.{on_err}
-use Rattle.shell.proofs.Answering.{line_done, then_kept}
+use Rattle.std.proofs.Common.{rules}
+use Rattle.shell.proofs.Answering.{line_cut, line_ends, line_taken, then_kept}
 use Rattle.shell.proofs.script.do_line.Goals as goal
 
-pub returns-in_err-reported-clause-err : goal.returns-in_err-reported-clause-err
-returns-in_err-reported-clause-err g c = on_err _ _ (line_done _ _ _ c.args.line.now _ c.read_request-request.ensures c.in_err-reported.ensures.err)
+pub returns-in_default-clause-err : goal.returns-in_default-clause-err
+returns-in_default-clause-err g c = line_cut _ _ _ _ c.args.line.now (g.V.Watch.is_strict c.args.watch.now) c.in_default.ensures.err
+
+pub returns-then-not-see-clause-err : goal.returns-then-not-see-clause-err
+returns-then-not-see-clause-err g c = line_ends _ _ _ _ c.args.line.now _ _ _ c.see.ensures.goes (search rules) c.in-Ok.ensures.ok
 
 pub returns-clause-ok : goal.returns-clause-ok
 returns-clause-ok g c =
-    then_kept _ _ _ _ _ _ (line_done _ _ _ c.args.line.now _ c.read_request-request.ensures c.in_ok-reported.ensures.ok) c.run_steps.ensures
+    then_kept _ _ _ _ _ _ (line_taken _ _ _ _ c.args.line.now _ _ _ c.see.ensures.goes (search rules) c.in-Ok.ensures.ok) c.run_steps.ensures

@@ -1,12 +1,17 @@
-use Rattle.std.proofs.lemmas.Result.{on_ok_weaker}
+use Rattle.std.proofs.Common.{◌≡◌, ap}
+use Rattle.std.specs.Prelude.{Err}
 use Rattle.shell.proofs.Answering.{left_at_end}
+use Rattle.shell.proofs.Reading.{all_done, given_done, until_done}
 use Rattle.shell.proofs.script.run_script.Goals as goal
 
-pub returns-clause-done : goal.returns-clause-done
-returns-clause-done g c = on_ok_weaker _ (left_at_end _ _ _ _ _) c.run_lines.ensures.done
+pub returns-in-Ok-clause-done : goal.returns-in-Ok-clause-done
+returns-in-Ok-clause-done g c = left_at_end _ _ _ _ _ (all_done _ _ _ _ _ _ _ c.in-Ok.ensures.done)
 
-pub returns-clause-read : goal.returns-clause-read
-returns-clause-read g c = λ e. left_at_end _ _ _ _ _ (c.run_lines.ensures.read e)
+pub returns-in-Err-Failed-clause-read : goal.returns-in-Err-Failed-clause-read
+returns-in-Err-Failed-clause-read g c = λ is. left_at_end _ _ _ _ _ (given_done _ _ _ _ _ _ _ (c.in-Err-Failed.ensures.read cc))
 
-pub returns-clause-write : goal.returns-clause-write
-returns-clause-write g c = λ e. left_at_end _ _ _ _ _ (c.run_lines.ensures.write e)
+pub returns-in-Err-Failed-clause-write : goal.returns-in-Err-Failed-clause-write
+returns-in-Err-Failed-clause-write g c = λ is. left_at_end _ _ _ _ _ (until_done _ _ _ _ _ _ _ (c.in-Err-Failed.ensures.write cc))
+
+pub returns-in-Err-Fault-clause-write : goal.returns-in-Err-Fault-clause-write
+returns-in-Err-Fault-clause-write g c = λ is. left_at_end _ _ _ _ _ (until_done _ _ _ _ _ _ _ (c.in-Err-Fault.ensures.fault c.in-Err-Fault.field-0-0 cc))
