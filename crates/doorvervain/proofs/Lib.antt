@@ -1,5 +1,11 @@
 mod Steps
 mod Boxes
 mod Pointers
+mod Handles
+mod Structs
+mod Lends
+mod IntoRaw
+mod Fills
+mod Closes
 mod Handed
 mod Applying

@@ -11,13 +11,13 @@ use Rattle.images.specs.contracts.printing.ImagePrinter.{the_row as printing_row
 use Rattle.images.specs.declared.loader.ImageLoader.{ImageLoader}
 use Rattle.images.specs.contracts.loader.ImageLoader.{the_row as loading_row}
 use Rattle.doorvervain.specs.declared.handle.VolumeHandle.{VolumeHandle}
-use Rattle.doorvervain.specs.declared.frozen.FrozenHandle.{FrozenHandle}
-use Rattle.doorvervain.specs.declared.printing.PrinterHandle.{PrinterHandle}
-use Rattle.doorvervain.specs.declared.loading.LoaderHandle.{LoaderHandle}
+use Rattle.doorvervain.specs.declared.handle.FrozenHandle.{FrozenHandle}
+use Rattle.doorvervain.specs.declared.handle.PrinterHandle.{PrinterHandle}
+use Rattle.doorvervain.specs.declared.handle.LoaderHandle.{LoaderHandle}
 use Rattle.doorvervain.specs.contracts.handle.VolumeHandle.{the_row as handle_row}
-use Rattle.doorvervain.specs.contracts.frozen.FrozenHandle.{the_row as frozen_handle_row}
-use Rattle.doorvervain.specs.contracts.printing.PrinterHandle.{the_row as printing_handle_row}
-use Rattle.doorvervain.specs.contracts.loading.LoaderHandle.{the_row as loading_handle_row}
+use Rattle.doorvervain.specs.contracts.handle.FrozenHandle.{the_row as frozen_handle_row}
+use Rattle.doorvervain.specs.contracts.handle.PrinterHandle.{the_row as printing_handle_row}
+use Rattle.doorvervain.specs.contracts.handle.LoaderHandle.{the_row as loading_handle_row}
 
 -- the handle once its volume is v
 abbrev pub with_volume : VolumeHandle → PVolume → VolumeHandle

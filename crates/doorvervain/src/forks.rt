@@ -6,11 +6,9 @@ ghost use Rattle.doorvervain.specs.Handed.{Given};
 ghost use Rattle.doorvervain.specs.Held.{IsClosed};
 ghost use Rattle.doorvervain.specs.Numbers.{IsNumber, reported};
 
-use crate::frozen::FrozenHandle;
-use crate::handle::VolumeHandle;
+use crate::handle::{FrozenHandle, VolumeHandle};
 use crate::numbers::number;
-use crate::place::VolumeOut;
-use crate::upkeep::hand_out;
+use crate::place::{VolumeOut, hand_out};
 use pathkey::Errno;
 use std::alloc::Global;
 use volume::{Frozen, Volume};

@@ -1,6 +1,14 @@
-//! A volume as C holds it: a pointer, and with it the right to the volume there.
+//! Handles as C holds them: each is a struct of one pointer, which has the right to what lies there, and to free it.
+//!
+//! There is a struct for each type, since a struct with type parameters cannot be passed to C.
 ghost use Rattle.volume.specs.Volumes.{PVolume};
+ghost use Rattle.volume.specs.contracts.frozen.Frozen.{the_row as frozen_row};
 ghost use Rattle.volume.specs.contracts.volume.Volume.{the_row as volume_row};
+ghost use Rattle.volume.specs.declared.fs_root.FsRoot.{FsRoot};
+ghost use Rattle.images.specs.Printings.{PPrinting};
+ghost use Rattle.images.specs.contracts.loader.ImageLoader.{the_row as loading_row};
+ghost use Rattle.images.specs.contracts.printing.ImagePrinter.{the_row as printing_row};
+ghost use Rattle.images.specs.declared.loader.ImageLoader.{ImageLoader};
 ghost use Rattle.doorvervain.specs.Held.{held_at};
 
 mod borrow;
@@ -8,7 +16,7 @@ mod into_raw;
 
 use std::marker::Model;
 
-/// The right to a volume, and to free it. In C a struct of one pointer.
+/// The right to a volume, and to free it.
 #[repr(C)]
 pub struct VolumeHandle {
     at: *mut u8,
@@ -17,4 +25,37 @@ pub struct VolumeHandle {
 
 impl Model for VolumeHandle {
     ghost also_owns = { λ h. held_at volume_row h.at h.volume };
+}
+
+/// The right to a frozen tree, and to free it.
+#[repr(C)]
+pub struct FrozenHandle {
+    at: *mut u8,
+    pub ghost tree: { FsRoot } by { frozen_row.coded },
+}
+
+impl Model for FrozenHandle {
+    ghost also_owns = { λ h. held_at frozen_row h.at h.tree };
+}
+
+/// The right to an image that is printed, and to free it.
+#[repr(C)]
+pub struct PrinterHandle {
+    at: *mut u8,
+    pub ghost printing: { PPrinting } by { printing_row.coded },
+}
+
+impl Model for PrinterHandle {
+    ghost also_owns = { λ h. held_at printing_row h.at h.printing };
+}
+
+/// The right to an image that is loaded, and to free it.
+#[repr(C)]
+pub struct LoaderHandle {
+    at: *mut u8,
+    pub ghost loading: { ImageLoader } by { loading_row.coded },
+}
+
+impl Model for LoaderHandle {
+    ghost also_owns = { λ h. held_at loading_row h.at h.loading };
 }

@@ -5,8 +5,7 @@ ghost use Rattle.ffi_calls.specs.Holes.{PunchesAt};
 ghost use Rattle.doorvervain.specs.Holes.{RunsAt, run_reported};
 ghost use Rattle.doorvervain.specs.Numbers.{IsNumber, reported_by};
 
-use crate::frozen::FrozenHandle;
-use crate::handle::VolumeHandle;
+use crate::handle::{FrozenHandle, VolumeHandle};
 use crate::numbers::{run, uncounted};
 use std::alloc::Global;
 

@@ -9,8 +9,7 @@ ghost use Rattle.volume.specs.Volumes.{AreNames, MeanRooted, names_in};
 ghost use Rattle.doorvervain.specs.Reads.{ListsAt, ReadsAt, StatsAt};
 ghost use Rattle.doorvervain.specs.Numbers.{Gives, IsNumber, IsShort, IsSizeNumber, short, sized_by, stat_reported, reported_by};
 
-use crate::frozen::FrozenHandle;
-use crate::handle::VolumeHandle;
+use crate::handle::{FrozenHandle, VolumeHandle};
 use crate::numbers::{count, kind, sized};
 use std::alloc::Global;
 

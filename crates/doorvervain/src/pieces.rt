@@ -5,20 +5,15 @@ ghost use Rattle.node.specs.declared.shape.Shape.{Shape as TreeShape};
 ghost use Rattle.pathkey.specs.declared.errno.Errno.TheVariants.{EINVAL, ENOMEM};
 ghost use Rattle.images.specs.Taken.{IsFresh, LoadedIn, Took, answer_of};
 ghost use Rattle.ffi_calls.specs.Images.{PrintsOn};
-ghost use Rattle.doorvervain.specs.Handed.{AnswerReported, Given, HandsOut, NoImage, NoShape, shape_of};
+ghost use Rattle.doorvervain.specs.Handed.{AnswerReported, Given, NoImage, NoShape, shape_of};
 ghost use Rattle.doorvervain.specs.Held.{IsClosed};
 ghost use Rattle.doorvervain.specs.Numbers.{IsNumber, reported, reported_by};
 
-use crate::frozen::FrozenHandle;
-use crate::loading::LoaderHandle;
-use crate::loading_place::LoaderOut;
+use crate::handle::{FrozenHandle, LoaderHandle, PrinterHandle};
 use crate::numbers::{count, number};
-use crate::parts::RawBox;
-use crate::place::VolumeOut;
-use crate::printing::PrinterHandle;
-use crate::printing_place::PrinterOut;
-use crate::upkeep::{answer, hand_out};
-use images::{ImageLoader, ImagePrinter, LoadFault};
+use crate::place::{LoaderOut, PrinterOut, VolumeOut, hand_out};
+use crate::upkeep::answer;
+use images::{ImageLoader, LoadFault};
 use node::Shape;
 use pathkey::Errno;
 use std::alloc::Global;
@@ -36,8 +31,8 @@ pub extern "C" fn doorvervain_raw_print_begin(
     ensures closed { IfErr (reported result) (λ _. IsClosed out.new.at out.new.given) }
     ensures number { IsNumber result }
 {
-    let tree = Box::into_inner(tree.into_box(alloc));
-    number(hand_out_printing(alloc, ffi_calls::print_begin(alloc, tree), out))
+    let tree = Box::into_inner(tree.into_raw_parts(alloc).into_box());
+    number(hand_out(alloc, ffi_calls::print_begin(alloc, tree), out))
 }
 
 /// Writes the next bytes of the image to the front of the buffer, and how many they are to `size`: none only at the end of the image, and
@@ -62,7 +57,7 @@ pub extern "C" fn doorvervain_raw_print_next(
 /// Ends a printing, and frees it with its tree.
 #[unsafe(no_mangle)]
 pub extern "C" fn doorvervain_raw_print_end(alloc: Global, printing: PrinterHandle) {
-    let _printing = printing.into_box(alloc);
+    let _printing = printing.into_raw_parts(alloc).into_box();
 }
 
 /// Begins to load an image into a new volume in trees of this shape, and puts the handle of the loading at `out`: 0, or EINVAL where
@@ -124,14 +119,14 @@ pub extern "C" fn doorvervain_raw_load_finish(
     ensures closed { IfErr (reported result) (λ _. IsClosed out.new.at out.new.given) }
     ensures number { IsNumber result }
 {
-    let loader = Box::into_inner(loading.into_box(alloc));
+    let loader = Box::into_inner(loading.into_raw_parts(alloc).into_box());
     number(end(alloc, loader, line, out))
 }
 
 /// Ends a loading, and frees what was loaded.
 #[unsafe(no_mangle)]
 pub extern "C" fn doorvervain_raw_load_abort(alloc: Global, loading: LoaderHandle) {
-    let _loading = loading.into_box(alloc);
+    let _loading = loading.into_raw_parts(alloc).into_box();
 }
 
 // Begins to load, and puts the handle of the loading at `out`.
@@ -141,8 +136,8 @@ fn begin(alloc: Global, shape: Shape, out: &mut LoaderOut) -> Result<(), Errno>
     ensures refused { IfErr result (λ e. (e ≡ EINVAL) ⊎ (e ≡ ENOMEM)) }
     ensures closed { IfErr result (λ _. IsClosed out.new.at out.new.given) }
 {
-    let made = new_loader(alloc, shape);
-    hand_out_loading(alloc, made, out)
+    let fresh = new_loader(alloc, shape);
+    hand_out(alloc, fresh, out)
 }
 
 // A loader that took nothing yet, or why there is none.
@@ -168,38 +163,4 @@ fn end(alloc: Global, loader: ImageLoader, line: &mut u64, out: &mut VolumeOut) 
 {
     let made = answer(loader.end(), line);
     hand_out(alloc, made, out)
-}
-
-// Puts a printing that was made on the heap, and its handle at `out`. Where there is none, `out` is closed.
-fn hand_out_printing(
-    alloc: Global,
-    made: Result<ImagePrinter, Errno>,
-    out: &mut PrinterOut,
-) -> Result<(), Errno>
-    ensures handed { HandsOut made result out.new.given }
-    ensures closed { IfErr result (λ _. IsClosed out.new.at out.new.given) }
-{
-    out.close();
-    let Ok(whole) = Box::new(alloc, made?) else {
-        return Err(Errno::ENOMEM);
-    };
-    out.fill(RawBox::of(whole));
-    Ok(())
-}
-
-// Puts a loader that was made on the heap, and its handle at `out`. Where there is none, `out` is closed.
-fn hand_out_loading(
-    alloc: Global,
-    made: Result<ImageLoader, Errno>,
-    out: &mut LoaderOut,
-) -> Result<(), Errno>
-    ensures handed { HandsOut made result out.new.given }
-    ensures closed { IfErr result (λ _. IsClosed out.new.at out.new.given) }
-{
-    out.close();
-    let Ok(whole) = Box::new(alloc, made?) else {
-        return Err(Errno::ENOMEM);
-    };
-    out.fill(RawBox::of(whole));
-    Ok(())
 }

@@ -1,17 +1,66 @@
-//! Where C takes the handle of a volume: a struct of one pointer that an export writes.
-ghost use Rattle.std.specs.Prelude.{◌≡◌, Some, Option};
+//! Where C takes handles: structs of one pointer that an export writes.
+//!
+//! If something was given, the pointer is that of its handle, and the struct owns it; else the pointer is null.
+ghost use denote.RawPtr.{Ptr};
+ghost use Rattle.std.specs.Prelude.{◌≡◌, IfErr, Some, Option};
 ghost use Rattle.std.specs.Coded.{coded_option};
 ghost use Rattle.volume.specs.Volumes.{PVolume};
+ghost use Rattle.volume.specs.contracts.frozen.Frozen.{the_row as frozen_row};
 ghost use Rattle.volume.specs.contracts.volume.Volume.{the_row as volume_row};
+ghost use Rattle.volume.specs.declared.fs_root.FsRoot.{FsRoot};
+ghost use Rattle.images.specs.Printings.{PPrinting};
+ghost use Rattle.images.specs.contracts.loader.ImageLoader.{the_row as loading_row};
+ghost use Rattle.images.specs.contracts.printing.ImagePrinter.{the_row as printing_row};
+ghost use Rattle.images.specs.declared.loader.ImageLoader.{ImageLoader};
+ghost use Rattle.doorvervain.specs.Handed.{HandsOut};
 ghost use Rattle.doorvervain.specs.Held.{IsClosed, given_at};
 
 use crate::parts::RawBox;
+use images::{ImageLoader, ImagePrinter};
+use pathkey::Errno;
 use std::alloc::Global;
 use std::marker::Model;
 use std::ptr::null_mut;
-use volume::Volume;
+use volume::{Frozen, Volume};
 
-/// Room for the handle of a volume. Where a volume was given, it is its handle.
+/// Room for a handle.
+pub(crate) trait Out {
+    /// What the handle has the right to.
+    type Held: Drop;
+
+    /// The pointer.
+    ghost at: { Self → Ptr };
+
+    /// What was given, if anything was.
+    ghost given: { Self → Option Self.Held };
+
+    /// Puts a handle here.
+    fn fill(&mut self, parts: RawBox<Self::Held, Global>)
+        ensures { given self.new ≡ Some parts.value };
+
+    /// Leaves nothing here. What was given before is not freed.
+    fn close(&mut self)
+        ensures { IsClosed (at self.new) (given self.new) };
+}
+
+/// Puts what was made on the heap, and its handle at `out`. If nothing was made, or memory is refused, `out` is closed.
+pub(crate) fn hand_out<O: Out>(
+    alloc: Global,
+    made: Result<O::Held, Errno>,
+    out: &mut O,
+) -> Result<(), Errno>
+    ensures handed { HandsOut made result (O.given out.new) }
+    ensures closed { IfErr result (λ _. IsClosed (O.at out.new) (O.given out.new)) }
+{
+    out.close();
+    let Ok(whole) = Box::new(alloc, made?) else {
+        return Err(Errno::ENOMEM);
+    };
+    out.fill(RawBox::of(whole));
+    Ok(())
+}
+
+/// Room for the handle of a volume.
 #[repr(C)]
 pub struct VolumeOut {
     pub(crate) at: *mut u8,
@@ -22,17 +71,117 @@ impl Model for VolumeOut {
     ghost also_owns = { λ p. given_at volume_row p.at p.given };
 }
 
-impl VolumeOut {
-    /// Puts the handle of a volume here.
-    pub(crate) fn fill(&mut self, parts: RawBox<Volume, Global>)
+impl Out for VolumeOut {
+    type Held = Volume;
+
+    ghost at = { λ p. p.at };
+
+    ghost given = { λ p. p.given };
+
+    fn fill(&mut self, parts: RawBox<Volume, Global>)
         ensures { self.new.given ≡ Some parts.value }
     {
         let RawBox { ptr, alloc: _ } = parts;
         self.at = ptr as *mut u8;
     }
 
-    /// Leaves nothing here. What was given before is not freed.
-    pub(crate) fn close(&mut self)
+    fn close(&mut self)
+        ensures { IsClosed self.new.at self.new.given }
+    {
+        self.at = null_mut();
+    }
+}
+
+/// Room for the handle of a frozen tree.
+#[repr(C)]
+pub struct FrozenOut {
+    pub(crate) at: *mut u8,
+    pub ghost given: { Option FsRoot } by { coded_option frozen_row.coded },
+}
+
+impl Model for FrozenOut {
+    ghost also_owns = { λ p. given_at frozen_row p.at p.given };
+}
+
+impl Out for FrozenOut {
+    type Held = Frozen;
+
+    ghost at = { λ p. p.at };
+
+    ghost given = { λ p. p.given };
+
+    fn fill(&mut self, parts: RawBox<Frozen, Global>)
+        ensures { self.new.given ≡ Some parts.value }
+    {
+        let RawBox { ptr, alloc: _ } = parts;
+        self.at = ptr as *mut u8;
+    }
+
+    fn close(&mut self)
+        ensures { IsClosed self.new.at self.new.given }
+    {
+        self.at = null_mut();
+    }
+}
+
+/// Room for the handle of an image that is printed.
+#[repr(C)]
+pub struct PrinterOut {
+    pub(crate) at: *mut u8,
+    pub ghost given: { Option PPrinting } by { coded_option printing_row.coded },
+}
+
+impl Model for PrinterOut {
+    ghost also_owns = { λ p. given_at printing_row p.at p.given };
+}
+
+impl Out for PrinterOut {
+    type Held = ImagePrinter;
+
+    ghost at = { λ p. p.at };
+
+    ghost given = { λ p. p.given };
+
+    fn fill(&mut self, parts: RawBox<ImagePrinter, Global>)
+        ensures { self.new.given ≡ Some parts.value }
+    {
+        let RawBox { ptr, alloc: _ } = parts;
+        self.at = ptr as *mut u8;
+    }
+
+    fn close(&mut self)
+        ensures { IsClosed self.new.at self.new.given }
+    {
+        self.at = null_mut();
+    }
+}
+
+/// Room for the handle of an image that is loaded.
+#[repr(C)]
+pub struct LoaderOut {
+    pub(crate) at: *mut u8,
+    pub ghost given: { Option ImageLoader } by { coded_option loading_row.coded },
+}
+
+impl Model for LoaderOut {
+    ghost also_owns = { λ p. given_at loading_row p.at p.given };
+}
+
+impl Out for LoaderOut {
+    type Held = ImageLoader;
+
+    ghost at = { λ p. p.at };
+
+    ghost given = { λ p. p.given };
+
+    fn fill(&mut self, parts: RawBox<ImageLoader, Global>)
+        ensures { self.new.given ≡ Some parts.value }
+    {
+        let RawBox { ptr, alloc: _ } = parts;
+        self.at = ptr as *mut u8;
+    }
+
+    fn close(&mut self)
         ensures { IsClosed self.new.at self.new.given }
     {
         self.at = null_mut();

@@ -7,21 +7,18 @@ ghost use Rattle.reference.specs.Worlds.{World};
 ghost use Rattle.images.specs.Taken.{LoadedIn};
 ghost use Rattle.volume.specs.Volumes.{IsNew, Means};
 ghost use Rattle.ffi_calls.specs.Upkeep.{IsIdle, IsStuck, Relieves};
-ghost use Rattle.doorvervain.specs.Handed.{AnswerReported, FaultReported, FindsHanded, Given, HandsOut, NoShape, NotLoaded, shape_of};
+ghost use Rattle.doorvervain.specs.Handed.{AnswerReported, FaultReported, FindsHanded, Given, NoShape, NotLoaded, shape_of};
 ghost use Rattle.doorvervain.specs.Held.{IsClosed};
 ghost use Rattle.doorvervain.specs.Numbers.{IsNumber, reported};
 
-use crate::frozen::FrozenHandle;
-use crate::frozen_place::FrozenOut;
-use crate::handle::VolumeHandle;
+use crate::handle::{FrozenHandle, VolumeHandle};
 use crate::numbers::number;
-use crate::parts::RawBox;
-use crate::place::VolumeOut;
+use crate::place::{FrozenOut, VolumeOut, hand_out};
 use images::LoadFault;
 use node::Shape;
 use pathkey::Errno;
 use std::alloc::Global;
-use volume::{Frozen, Volume};
+use volume::Volume;
 
 /// Makes a volume of the empty root directory in trees of this shape, and puts its handle at `out`:
 /// 0, or EINVAL where the shape is not ok, or ENOMEM. Where it is refused, `out` is closed.
@@ -78,7 +75,7 @@ pub extern "C" fn doorvervain_raw_load(
 /// Ends a handle, and frees its volume.
 #[unsafe(no_mangle)]
 pub extern "C" fn doorvervain_raw_close(alloc: Global, fs: VolumeHandle) {
-    let _volume = fs.into_box(alloc);
+    let _volume = fs.into_raw_parts(alloc).into_box();
 }
 
 /// Freezes the live tree as it stands, and puts its handle at `out`: 0, or ENOMEM, and then `out` is closed.
@@ -94,7 +91,7 @@ pub extern "C" fn doorvervain_raw_freeze(
     ensures number { IsNumber result }
     ensures kept { fs.new.volume ≡ fs.old.volume }
 {
-    number(hand_out_tree(alloc, ffi_calls::freeze(fs.volume()), out))
+    number(hand_out(alloc, ffi_calls::freeze(fs.volume()), out))
 }
 
 /// The tree of a snapshot, whose handle is put at `out`: 0, or why there is none, and then `out` is closed.
@@ -110,13 +107,13 @@ pub extern "C" fn doorvervain_raw_open_snapshot(
     ensures number { IsNumber result }
     ensures kept { fs.new.volume ≡ fs.old.volume }
 {
-    number(hand_out_tree(alloc, ffi_calls::frozen(alloc, fs.volume(), name), out))
+    number(hand_out(alloc, ffi_calls::frozen(alloc, fs.volume(), name), out))
 }
 
 /// Ends a handle, and frees its tree.
 #[unsafe(no_mangle)]
 pub extern "C" fn doorvervain_raw_frozen_close(alloc: Global, tree: FrozenHandle) {
-    let _tree = tree.into_box(alloc);
+    let _tree = tree.into_raw_parts(alloc).into_box();
 }
 
 /// Does at most so many tree steps: how many, fewer only where nothing is pending or the next step was not done. The volume means what it
@@ -198,38 +195,4 @@ fn load_fault(fault: LoadFault, line: &mut u64) -> Errno
             Errno::EINVAL
         }
     }
-}
-
-/// Puts a volume that was made on the heap, and its handle at `out`. Where there is none, `out` is closed.
-pub(crate) fn hand_out(
-    alloc: Global,
-    made: Result<Volume, Errno>,
-    out: &mut VolumeOut,
-) -> Result<(), Errno>
-    ensures handed { HandsOut made result out.new.given }
-    ensures closed { IfErr result (λ _. IsClosed out.new.at out.new.given) }
-{
-    out.close();
-    let Ok(whole) = Box::new(alloc, made?) else {
-        return Err(Errno::ENOMEM);
-    };
-    out.fill(RawBox::of(whole));
-    Ok(())
-}
-
-// Puts a tree that was found on the heap, and its handle at `out`. Where there is none, `out` is closed.
-fn hand_out_tree(
-    alloc: Global,
-    tree: Result<Frozen, Errno>,
-    out: &mut FrozenOut,
-) -> Result<(), Errno>
-    ensures handed { HandsOut tree result out.new.given }
-    ensures closed { IfErr result (λ _. IsClosed out.new.at out.new.given) }
-{
-    out.close();
-    let Ok(whole) = Box::new(alloc, tree?) else {
-        return Err(Errno::ENOMEM);
-    };
-    out.fill(RawBox::of(whole));
-    Ok(())
 }

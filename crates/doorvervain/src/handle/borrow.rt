@@ -1,10 +1,11 @@
-//! A handle lends its volume.
+//! Handles lend what they hold.
 ghost use Rattle.std.specs.Prelude.{◌≡◌};
 ghost use types.Logic.{sem};
-ghost use Rattle.doorvervain.specs.Follows.{handle_follows};
+ghost use Rattle.doorvervain.specs.Follows.{frozen_follows, handle_follows, loading_follows, printing_follows};
 
-use super::VolumeHandle;
-use volume::Volume;
+use super::{FrozenHandle, LoaderHandle, PrinterHandle, VolumeHandle};
+use images::{ImageLoader, ImagePrinter};
+use volume::{Frozen, Volume};
 
 impl VolumeHandle {
     /// The volume that it holds.
@@ -13,6 +14,39 @@ impl VolumeHandle {
         ensures value { result.now ≡ self.old.volume }
     {
         let at = self.at as *mut Volume;
+        unsafe { &mut *at }
+    }
+}
+
+impl FrozenHandle {
+    /// The tree that it holds.
+    pub(crate) fn tree(&mut self) -> &mut Frozen
+        ensures* writes_back { sem 𝓛 (frozen_follows self.entry result) }
+        ensures value { result.now ≡ self.old.tree }
+    {
+        let at = self.at as *mut Frozen;
+        unsafe { &mut *at }
+    }
+}
+
+impl PrinterHandle {
+    /// The printing that it holds.
+    pub(crate) fn printing(&mut self) -> &mut ImagePrinter
+        ensures* writes_back { sem 𝓛 (printing_follows self.entry result) }
+        ensures value { result.now ≡ self.old.printing }
+    {
+        let at = self.at as *mut ImagePrinter;
+        unsafe { &mut *at }
+    }
+}
+
+impl LoaderHandle {
+    /// The loading that it holds.
+    pub(crate) fn loading(&mut self) -> &mut ImageLoader
+        ensures* writes_back { sem 𝓛 (loading_follows self.entry result) }
+        ensures value { result.now ≡ self.old.loading }
+    {
+        let at = self.at as *mut ImageLoader;
         unsafe { &mut *at }
     }
 }

@@ -1,25 +1,59 @@
-//! A handle gives back the box that it was made of.
+//! Handles give back the boxes that they were made of.
 ghost use Rattle.std.specs.Prelude.{◌≡◌};
 
-use super::VolumeHandle;
+use super::{FrozenHandle, LoaderHandle, PrinterHandle, VolumeHandle};
 use crate::parts::RawBox;
+use images::{ImageLoader, ImagePrinter};
 use std::alloc::Global;
-use volume::Volume;
+use volume::{Frozen, Volume};
 
 impl VolumeHandle {
-    /// The box again.
-    pub(crate) fn into_box(self, alloc: Global) -> Box<Volume>
-        ensures { result.value ≡ self.volume }
-    {
-        self.into_raw_parts(alloc).into_box()
-    }
-
-    fn into_raw_parts(self, alloc: Global) -> RawBox<Volume, Global>
+    /// What the box of the volume is made of.
+    pub(crate) fn into_raw_parts(self, alloc: Global) -> RawBox<Volume, Global>
         ensures { result.value ≡ self.volume }
     {
         let VolumeHandle { at } = self;
         RawBox {
             ptr: at as *mut Volume,
+            alloc,
+        }
+    }
+}
+
+impl FrozenHandle {
+    /// What the box of the tree is made of.
+    pub(crate) fn into_raw_parts(self, alloc: Global) -> RawBox<Frozen, Global>
+        ensures { result.value ≡ self.tree }
+    {
+        let FrozenHandle { at } = self;
+        RawBox {
+            ptr: at as *mut Frozen,
+            alloc,
+        }
+    }
+}
+
+impl PrinterHandle {
+    /// What the box of the printing is made of.
+    pub(crate) fn into_raw_parts(self, alloc: Global) -> RawBox<ImagePrinter, Global>
+        ensures { result.value ≡ self.printing }
+    {
+        let PrinterHandle { at } = self;
+        RawBox {
+            ptr: at as *mut ImagePrinter,
+            alloc,
+        }
+    }
+}
+
+impl LoaderHandle {
+    /// What the box of the loading is made of.
+    pub(crate) fn into_raw_parts(self, alloc: Global) -> RawBox<ImageLoader, Global>
+        ensures { result.value ≡ self.loading }
+    {
+        let LoaderHandle { at } = self;
+        RawBox {
+            ptr: at as *mut ImageLoader,
             alloc,
         }
     }
