@@ -787,7 +787,8 @@ static inline uint8_t doorvervain_load_read(struct doorvervain *fs, uint16_t fan
 
 // Writes the delta from one tree of the volume to another into a buffer. Each tree is the snapshot of that name, or the live tree if the
 // name's length is 0. `*size` is the delta's length in bytes, also with ERANGE: the buffer is too short. A call for the size alone makes
-// the delta too, and drops it. Fails with ENOENT if there is no such snapshot, with EINVAL if a text is not a name, and with ENOMEM.
+// the delta too, and drops it. Fails with ENOENT if there is no such snapshot, with EINVAL if a text is not a name, and with ENOMEM; if
+// both names fail, with the error of `from`.
 static inline uint8_t doorvervain_delta(const struct doorvervain *fs, const char *from, size_t from_length,
     const char *to, size_t to_length, void *out, size_t capacity, size_t *size) {
     if (!size) return DOORVERVAIN_NULL;

@@ -8,7 +8,7 @@ pub mod digest;
 pub mod fault;
 pub mod header;
 pub mod laws;
-pub mod line_cursor;
+mod line_cursor;
 mod order;
 mod patch;
 pub mod print;
