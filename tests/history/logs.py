@@ -1,11 +1,11 @@
-"""Logs as `benches history` prints them: `BEGIN END CLIENT CALL ANSWER`, a line a call, below a line of what there is."""
+"""Logs as `benches history` prints them: `BEGIN END CLIENT CALL : ANSWER`, a line a call, below a line of what there is."""
 import sys
 from collections.abc import Iterable
+from functools import lru_cache
 from typing import NamedTuple
 
-from order import DONE, GONE, OTHER, STANDS, Broken, Call, Log
-
-ANSWERS = {"done": DONE, "ENOENT": GONE, "EEXIST": STANDS}
+from order import ON_TREES, Broken, Call, Log
+from tree import DONE
 
 
 class Turns(NamedTuple):
@@ -16,29 +16,39 @@ class Turns(NamedTuple):
     stale: int
 
 
-def answer_of(word: str) -> int:
-    return int(word) if word.isdigit() else ANSWERS.get(word, OTHER)
+@lru_cache(None)
+def area_of(path: str) -> int:
+    """The number of a path's area."""
+    name = path.split("/")[1]
+    if name[:1] != "a" or not name[1:].isdigit():
+        raise Broken(f"no path of an area: {path}")
+    return int(name[1:])
 
 
-def call_of(line: str) -> Call:
+def listed(answer: str, areas: int) -> tuple[str, ...]:
+    """What a listing of the root tells of each area; nothing where it is no listing in order."""
+    words = answer.split()[1:]
+    kinds = {word[2:]: word[0] for word in words}
+    names = [word[2:] for word in words]
+    known = {f"a{number}" for number in range(areas)}
+    is_right = names == sorted(set(names)) and known.issuperset(names) and all(word[:2] in ("d:", "f:") for word in words)
+    return tuple(kinds.get(f"a{number}", "") for number in range(areas)) if is_right else ()
+
+
+def call_of(line: str, areas: int) -> Call:
     """The call that a line tells."""
-    begin, end, client, kind, *words = line.split()
-    stamps, kind = (int(begin), int(end), int(client)), sys.intern(kind)
-    if kind == "scan":
-        return Call(*stamps, kind, 0, 0, *seen(words))
-    at = int(words[0])
-    if kind == "look":
-        return Call(*stamps, kind, at, 0, *seen(words[1:]))
-    if kind == "write":
-        return Call(*stamps, kind, at, int(words[1]), answer_of(words[2]))
-    return Call(*stamps, kind, at, 0, answer_of(words[1]))
-
-
-def seen(words: list[str]) -> tuple[int, tuple[int, ...]]:
-    """What a call is answered that sees all files: one word is a refusal."""
-    if len(words) == 1:
-        return answer_of(words[0]), ()
-    return DONE, tuple(map(answer_of, words))
+    asked, _, answer = line.rstrip("\n").partition(" : ")
+    begin, end, client, kind, *words = asked.split()
+    stamps = (int(begin), int(end), int(client))
+    if answer.startswith(";"):
+        seen = tuple(map(sys.intern, answer.split(";")[1:]))
+        return Call(*stamps, sys.intern(kind), int(words[0]), (), DONE, seen)
+    if kind == "readdir" and words == ["/"]:
+        seen = listed(answer, areas) if answer.startswith("names") else ()
+        return Call(*stamps, "list", 0, (), DONE if seen else answer, seen)
+    if kind in ON_TREES:
+        return Call(*stamps, sys.intern(kind), int(words[0]), (), answer)
+    return Call(*stamps, sys.intern(kind), area_of(words[0]), tuple(words), sys.intern(answer))
 
 
 def read(lines: Iterable[str]) -> tuple[Log, Turns]:
@@ -48,19 +58,15 @@ def read(lines: Iterable[str]) -> tuple[Log, Turns]:
     first = next(lines, "").split()
     if len(first) != 4 or first[0] != "history":
         raise Broken("the log does not begin as one")
-    clients, files, names = first[1:]
+    clients, areas, names = map(int, first[1:])
     for line in lines:
         if line.startswith("turns "):
-            log = Log(calls, int(clients), int(files), int(names))
-            return log, Turns(*map(int, line.split()[1:]))
-        calls.append(call_of(line))
+            return Log(calls, clients, areas, names), Turns(*map(int, line.split()[1:]))
+        calls.append(call_of(line, areas))
     raise Broken("the log ends before its last line")
 
 
 def told(call: Call) -> str:
     """A call in words."""
-    words = {it: word for word, it in ANSWERS.items()}
-    place = f"{call.kind} {call.at}" if call.kind != "scan" else call.kind
-    mark = f" {call.mark}" if call.kind == "write" else ""
-    answer = words.get(call.answer, str(call.answer))
-    return f"client {call.client}, from {call.begin} to {call.end}: {place}{mark}: {answer}"
+    place = " ".join(call.words) if call.words else "/" if call.kind == "list" else f"{call.at}"
+    return f"client {call.client}, from {call.begin} to {call.end}: {call.kind} {place}: {call.answer}"

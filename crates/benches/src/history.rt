@@ -1,11 +1,10 @@
-//! Clients and flushers of one engine over files that all share, with each call's begin, end and answer by a clock that all share.
+//! Clients and flushers of one engine over a tree that all share, with each call's begin, end and answer by a clock that all share.
 //!
 //! `benches history SEED CALLS` makes about so many calls, and prints a line for each; without numbers it makes a few, and says how
 //! many there were. `tests/history/run` at the top asks whether one order explains them.
 use crate::flushers::Turns;
-use crate::history::call::Log;
-use crate::history::names::{FILES, SNAPSHOTS};
-use crate::history::print::print_log;
+use crate::history::log::Log;
+use crate::history::names::{AREAS, SNAPSHOTS};
 use crate::history::run::{CLIENTS, FLUSHERS, Outcome, run};
 use crate::history::work::Course;
 use std::alloc::Global;
@@ -17,8 +16,8 @@ use std::thread::Threads;
 
 pub mod call;
 pub mod draw;
+pub mod log;
 pub mod names;
-pub mod print;
 pub mod run;
 pub mod work;
 
@@ -67,7 +66,7 @@ fn few_calls<R: Threads + Wait + Print + Sync>(rt: &R, alloc: Global) -> anyhow:
 fn logged(logs: &[Log]) -> usize {
     let mut logged = 0usize;
     for log in logs {
-        logged = logged.wrapping_add(log.made.len());
+        logged = logged.wrapping_add(log.made);
     }
     logged
 }
@@ -100,9 +99,9 @@ fn print_whole<W: Write>(out: &mut W, outcome: &Outcome) -> io::Result<()> {
 
 /// Prints a line of what there is, the lines of all calls, and one of what flushers did.
 fn print_all<W: Write>(out: &mut W, logs: &[Log], turns: Turns) -> io::Result<()> {
-    writeln!(out, "history {CLIENTS} {FILES} {SNAPSHOTS}")?;
+    writeln!(out, "history {CLIENTS} {AREAS} {SNAPSHOTS}")?;
     for log in logs {
-        print_log(out, log)?;
+        out.write_all(log.text.as_bytes())?;
     }
     let (made, installed, stale) = (turns.made, turns.installed, turns.stale);
     writeln!(out, "turns {made} {installed} {stale}")

@@ -1,13 +1,21 @@
 //! Which calls a client makes: numbers that look random choose them.
-use crate::history::call::Asked;
-use crate::history::names::{FILES, SNAPSHOTS};
+use crate::history::call::{Asked, PathAsked};
+use crate::history::names::{AREAS, DIRECTORIES, FIRST_OFFSET, PLACES, ROOT, SNAPSHOTS};
 use test_support::Random;
 
-/// How many files have half of the calls, so that clients often meet at one.
-const BUSY: u32 = 8;
+/// How many areas have half of the calls, so that clients often meet in one.
+const BUSY: u32 = 4;
 
-/// How far apart these lie.
-const APART: usize = 16;
+/// How many offsets there are for a write, and how far apart these are. A mark is longer than that, so neighbours overlap, and two of
+/// them lie over the end of a block.
+const OFFSETS: u32 = 5;
+
+const OFFSETS_APART: u64 = 5;
+
+/// How many lengths there are for a truncate beside 0, and how far apart these are.
+const LENGTHS: u32 = 11;
+
+const LENGTHS_APART: u64 = 3;
 
 /// After how many calls a client rests, at an average.
 const REST_AFTER: u32 = 4;
@@ -38,19 +46,96 @@ impl Draw {
         }
     }
 
-    /// A mark that no client has written: the client's number in its first half, which lies in a file's first block, and a count in
-    /// its second half.
+    /// A mark that no client has written: the client's number in its first half, and a count in its second half.
     fn mark(&mut self) -> u64 {
         self.marks = self.marks.wrapping_add(1);
         self.client.wrapping_mul(CLIENT).wrapping_add(self.marks)
     }
 
-    /// The number of a file.
-    fn file(&mut self) -> usize {
-        if self.random.below(2) == 0 {
-            return (self.random.below(BUSY) as usize).wrapping_mul(APART);
+    /// The number of an area's first path.
+    fn area(&mut self) -> usize {
+        let areas = if self.random.below(2) == 0 {
+            BUSY
+        } else {
+            AREAS as u32
+        };
+        (self.random.below(areas) as usize).wrapping_mul(PLACES)
+    }
+
+    /// A place in an area that mostly has a directory.
+    fn directory(&mut self) -> usize {
+        self.random.below(DIRECTORIES) as usize
+    }
+
+    /// A place in an area that mostly has a file.
+    fn leaf(&mut self) -> usize {
+        let leaves = (PLACES as u32).wrapping_sub(DIRECTORIES);
+        (self.random.below(leaves) as usize).wrapping_add(DIRECTORIES as usize)
+    }
+
+    /// The path of a directory, seldom of a leaf.
+    fn directory_path(&mut self) -> usize {
+        let place = if self.random.below(8) == 0 {
+            self.leaf()
+        } else {
+            self.directory()
+        };
+        self.area().wrapping_add(place)
+    }
+
+    /// The path of a leaf, seldom of a directory.
+    fn leaf_path(&mut self) -> usize {
+        let place = if self.random.below(16) == 0 {
+            self.directory()
+        } else {
+            self.leaf()
+        };
+        self.area().wrapping_add(place)
+    }
+
+    /// The path of a directory or the root.
+    fn listed_path(&mut self) -> usize {
+        if self.random.below(16) == 0 {
+            ROOT
+        } else {
+            self.directory_path()
         }
-        self.random.below(FILES as u32) as usize
+    }
+
+    /// Two places of one area. What is moved never comes to stand where its entries would have no place: a leaf has none, and
+    /// the directories 1 and 2 have the same. The first of all is never moved, since the other place is below it.
+    fn moved(&mut self) -> (usize, usize) {
+        match self.random.below(16) {
+            0..=8 => (self.leaf(), self.leaf()),
+            9..=10 => (1, 2),
+            11..=12 => (2, 1),
+            13..=14 => (self.leaf(), self.directory()),
+            _ => (0, self.leaf()),
+        }
+    }
+
+    /// A move within one area.
+    fn rename(&mut self) -> PathAsked {
+        let area = self.area();
+        let (from, to) = self.moved();
+        PathAsked::Rename(area.wrapping_add(from), area.wrapping_add(to))
+    }
+
+    /// A write of a new mark.
+    fn write(&mut self) -> PathAsked {
+        let path = self.leaf_path();
+        let offset = u64::from(self.random.below(OFFSETS)).wrapping_mul(OFFSETS_APART);
+        PathAsked::Write(path, FIRST_OFFSET.wrapping_add(offset), self.mark())
+    }
+
+    /// A truncate, in one of four to nothing.
+    fn truncate(&mut self) -> PathAsked {
+        let path = self.leaf_path();
+        if self.random.below(4) == 0 {
+            return PathAsked::Truncate(path, 0);
+        }
+        let more = u64::from(self.random.below(LENGTHS)).wrapping_mul(LENGTHS_APART);
+        PathAsked::Truncate(path, FIRST_OFFSET.wrapping_add(more))
     }
 
     /// The number of a snapshot's name.
@@ -63,22 +148,44 @@ impl Draw {
         self.random.below(REST_AFTER) == 0
     }
 
+    /// A call on paths that changes something.
+    fn change(&mut self) -> PathAsked {
+        match self.random.below(100) {
+            0..=39 => self.write(),
+            40..=49 => self.truncate(),
+            50..=67 => PathAsked::Create(self.leaf_path()),
+            68..=84 => PathAsked::Mkdir(self.directory_path()),
+            85..=87 => PathAsked::Unlink(self.leaf_path()),
+            88..=89 => PathAsked::Rmdir(self.directory_path()),
+            90 => PathAsked::Rmtree(self.directory_path()),
+            _ => self.rename(),
+        }
+    }
+
+    /// A call on paths that only reads.
+    fn look(&mut self) -> PathAsked {
+        match self.random.below(8) {
+            0 => PathAsked::Stat(self.directory_path()),
+            1 => PathAsked::Stat(self.leaf_path()),
+            2..=3 => PathAsked::Readdir(self.listed_path()),
+            _ => PathAsked::Read(self.leaf_path()),
+        }
+    }
+
     /// A call that numbers choose.
     fn chosen(&mut self) -> Asked {
         match self.random.below(1_000) {
-            0..=469 => Asked::Read(self.file()),
-            470..=889 => Asked::Write(self.file(), self.mark()),
-            890..=959 => Asked::Create(self.file()),
-            960..=979 => Asked::Unlink(self.file()),
-            980..=983 => Asked::Keep(self.name()),
-            984..=987 => Asked::Drop(self.name()),
-            988..=992 => Asked::Restore(self.name()),
-            993..=996 => Asked::Look(self.name()),
+            0..=489 => Asked::Path(self.look()),
+            490..=985 => Asked::Path(self.change()),
+            986..=988 => Asked::Keep(self.name()),
+            989..=991 => Asked::Drop(self.name()),
+            992..=995 => Asked::Restore(self.name()),
+            996..=997 => Asked::Look(self.name()),
             _ => Asked::Scan,
         }
     }
 
-    /// The next call. Behind one that keeps or restores all files comes one that sees all of them.
+    /// The next call. Behind one that keeps or restores all paths comes one that sees all of them.
     pub fn next(&mut self) -> Asked {
         let asked = match self.then {
             Some(asked) => asked,

@@ -1,13 +1,28 @@
-//! The files and snapshots that all clients share, by their numbers.
+//! The paths and snapshots that all clients share, by their numbers.
 use crate::paths::path_of;
 use engine::{Path, Shape, SnapName, Volume};
 use std::alloc::Global;
 
-/// How many files there are.
-pub const FILES: usize = 128;
+/// How many areas there are: directories in the root, each with the same places. A call on paths is in one area.
+pub const AREAS: usize = 16;
 
-/// How many files a directory has.
-const FILES_EACH: usize = 16;
+/// What stands behind an area's path in those of its places. The first few are mostly directories, the others files.
+const NAMES: [&str; 8] = ["", "/d", "/e", "/f", "/d/f", "/d/g", "/e/f", "/e/g"];
+
+/// How many places an area has.
+pub const PLACES: usize = 8;
+
+/// How many of these are mostly directories.
+pub const DIRECTORIES: u32 = 3;
+
+/// The number of the root, behind those of all areas.
+pub const ROOT: usize = 128;
+
+/// Where the first mark of a file may stand: marks lie before and behind the end of the first block, and over it.
+pub const FIRST_OFFSET: u64 = 4_080;
+
+/// How many bytes are read from there on: more than the marks have.
+pub const COUNT: u64 = 40;
 
 /// How many names of snapshots there are.
 pub const SNAPSHOTS: usize = 3;
@@ -22,26 +37,20 @@ const SMALL: Shape = Shape {
 /// The names by their numbers.
 #[derive(Drop)]
 pub struct Names {
-    /// Of the files.
-    pub files: Vec<Path>,
-    /// Of the snapshots.
+    /// The texts of all paths, the root's last.
+    texts: Vec<String>,
+    /// The paths in areas.
+    pub paths: Vec<Path>,
+    /// The names of snapshots.
     pub snapshots: Vec<SnapName>,
 }
 
-/// The path of the directory of a number.
-fn directory(alloc: Global, number: usize) -> Option<Path> {
-    match format!(in alloc; "/d{number}") {
-        Ok(text) => path_of(alloc, &text),
-        Err(_) => None,
-    }
-}
-
-/// The path of the file of a number.
-fn file(alloc: Global, number: usize) -> Option<Path> {
-    let directory = number / FILES_EACH;
-    match format!(in alloc; "/d{directory}/f{number}") {
-        Ok(text) => path_of(alloc, &text),
-        Err(_) => None,
+/// The text of the path of a number.
+fn text(alloc: Global, number: usize) -> Option<String> {
+    let area = number / PLACES;
+    match NAMES.get(number % PLACES) {
+        Some(name) if number < ROOT => format!(in alloc; "/a{area}{name}").ok(),
+        _ => format!(in alloc; "/").ok(),
     }
 }
 
@@ -66,14 +75,24 @@ fn adds<T: Drop>(all: &mut Vec<T>, one: Option<T>) -> bool {
     }
 }
 
-/// The paths of all files.
-fn files(alloc: Global) -> Option<Vec<Path>> {
-    let mut files = Vec::new(alloc);
+/// The texts of all paths.
+fn texts(alloc: Global) -> Option<Vec<String>> {
+    let mut texts = Vec::new(alloc);
     let mut is_made = true;
-    for number in 0..FILES {
-        is_made &= adds(&mut files, file(alloc, number));
+    for number in 0..ROOT + 1 {
+        is_made &= adds(&mut texts, text(alloc, number));
     }
-    is_made.then_some(files)
+    is_made.then_some(texts)
+}
+
+/// The paths of these texts, but for the last one.
+fn paths(alloc: Global, texts: &[String]) -> Option<Vec<Path>> {
+    let mut paths = Vec::new(alloc);
+    let mut is_made = true;
+    for text in texts.iter().take(ROOT) {
+        is_made &= adds(&mut paths, path_of(alloc, text));
+    }
+    is_made.then_some(paths)
 }
 
 /// The names of all snapshots.
@@ -86,61 +105,37 @@ fn snapshots(alloc: Global) -> Option<Vec<SnapName>> {
     is_made.then_some(snapshots)
 }
 
-/// These files, and all snapshots.
-fn named(alloc: Global, files: Vec<Path>) -> Option<Names> {
-    match snapshots(alloc) {
-        Some(snapshots) => Some(Names { files, snapshots }),
-        None => None,
+/// These texts with their paths, and all snapshots.
+fn named(alloc: Global, texts: Vec<String>) -> Option<Names> {
+    match (paths(alloc, texts.as_slice()), snapshots(alloc)) {
+        (Some(paths), Some(snapshots)) => Some(Names {
+            texts,
+            paths,
+            snapshots,
+        }),
+        _ => None,
     }
 }
 
 impl Names {
     /// All names; none where memory is refused.
     pub fn new(alloc: Global) -> Option<Names> {
-        match files(alloc) {
-            Some(files) => named(alloc, files),
+        match texts(alloc) {
+            Some(texts) => named(alloc, texts),
             None => None,
+        }
+    }
+
+    /// The text of the path of a number.
+    pub fn text(&self, number: usize) -> &str {
+        match self.texts.get(number) {
+            Some(text) => text.as_str(),
+            None => "",
         }
     }
 }
 
-/// Makes the directories. Whether each was made.
-fn make_directories(alloc: Global, volume: &mut Volume) -> bool {
-    let mut is_made = true;
-    for number in 0..FILES / FILES_EACH {
-        is_made &= match directory(alloc, number) {
-            Some(path) => volume.mkdir(alloc, &path, 0).is_ok(),
-            None => false,
-        };
-    }
-    is_made
-}
-
-/// Makes the files. Whether each was made.
-fn make_files(alloc: Global, volume: &mut Volume) -> bool {
-    let mut is_made = true;
-    for number in 0..FILES {
-        is_made &= match file(alloc, number) {
-            Some(path) => volume.create(alloc, &path, 0).is_ok(),
-            None => false,
-        };
-    }
-    is_made
-}
-
-/// This volume, if each file could be made in it.
-fn filled(alloc: Global, mut volume: Volume) -> Option<Volume> {
-    if make_directories(alloc, &mut volume) && make_files(alloc, &mut volume) {
-        Some(volume)
-    } else {
-        None
-    }
-}
-
-/// A volume in which each file stands, and is empty.
+/// A volume with an empty tree.
 pub fn new_volume(alloc: Global) -> Option<Volume> {
-    match Volume::new(alloc, SMALL) {
-        Ok(volume) => filled(alloc, volume),
-        Err(_) => None,
-    }
+    Volume::new(alloc, SMALL).ok()
 }

@@ -2,7 +2,7 @@
 ghost use Rattle.std.specs.Prelude.{◌≡◌};
 
 use crate::flushers::{Pace, Turns, Watch, start};
-use crate::history::call::Log;
+use crate::history::log::Log;
 use crate::history::names::new_volume;
 use crate::history::work::{Course, work};
 use engine::{Client, Engine, EngineBuilder, EngineId};

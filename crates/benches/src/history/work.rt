@@ -1,18 +1,14 @@
 //! A client makes calls, and logs each with what the clock says before it and once it is answered.
 use crate::flushers::rest;
-use crate::history::call::{Answer, Asked, Log, Made};
+use crate::history::call::{Asked, PathAsked};
 use crate::history::draw::Draw;
-use crate::history::names::Names;
-use engine::{Client, EngineId, Errno, Frozen, Path, Reply, SnapName};
+use crate::history::log::Log;
+use crate::history::names::{COUNT, FIRST_OFFSET, Names};
+use engine::{Client, EngineId, Errno, Frozen, Kind, Path, Reply, SnapName};
 use std::alloc::Global;
 use std::sync::Wait;
 use std::sync::atomic::{AtomicU64, Ordering};
-
-/// Where a mark stands in a file: over the end of a block, so that it lies in two.
-const PLACE: u64 = 4_092;
-
-/// How many bytes a mark has.
-const LEN: usize = 8;
+use test_support::ask::SampleCall;
 
 /// How much work there is, and the clock.
 #[derive(Drop)]
@@ -32,88 +28,63 @@ impl Course {
     }
 }
 
-/// The mark that these bytes are.
-fn mark_of(bytes: &[u8]) -> Answer {
-    if bytes.is_empty() {
-        return Answer::Mark(0);
-    }
-    if bytes.len() != LEN {
-        return Answer::Other;
-    }
-    let mut mark: u64 = 0;
-    for byte in bytes {
-        mark = mark.wrapping_mul(256).wrapping_add(u64::from(*byte));
-    }
-    Answer::Mark(mark)
-}
-
-/// What a call that tells nothing back is answered.
-fn settled(told: Result<(), Errno>) -> Answer {
-    match told {
-        Ok(()) => Answer::Done,
-        Err(fault) => Answer::Fault(fault),
+/// The mark that a call writes; 0 where it writes none.
+fn mark_of(asked: PathAsked) -> u64 {
+    match asked {
+        PathAsked::Write(_, _, mark) => mark,
+        _ => 0,
     }
 }
 
-/// What a write is answered.
-fn written(told: Result<u64, Errno>) -> Answer {
-    match told {
-        Ok(8) => Answer::Done,
-        Ok(_) => Answer::Other,
-        Err(fault) => Answer::Fault(fault),
+/// The call that is asked for, with the bytes of its mark.
+fn sample<'a>(names: &'a Names, asked: PathAsked, mark: &'a [u8]) -> SampleCall<'a> {
+    match asked {
+        PathAsked::Mkdir(path) => SampleCall::Mkdir(names.text(path)),
+        PathAsked::Create(path) => SampleCall::Create(names.text(path)),
+        PathAsked::Write(path, offset, _) => SampleCall::Write(names.text(path), offset, mark),
+        PathAsked::Truncate(path, len) => SampleCall::Truncate(names.text(path), len),
+        PathAsked::Unlink(path) => SampleCall::Unlink(names.text(path)),
+        PathAsked::Rmdir(path) => SampleCall::Rmdir(names.text(path)),
+        PathAsked::Rename(old, new) => SampleCall::Rename(names.text(old), names.text(new)),
+        PathAsked::Rmtree(path) => SampleCall::Rmtree(names.text(path)),
+        PathAsked::Read(path) => SampleCall::Read(names.text(path), FIRST_OFFSET, COUNT),
+        PathAsked::Stat(path) => SampleCall::Stat(names.text(path)),
+        PathAsked::Readdir(path) => SampleCall::Readdir(names.text(path)),
     }
 }
 
-/// What a read is answered.
-fn found(told: Result<Vec<u8>, Errno>) -> Answer {
-    match told {
-        Ok(bytes) => mark_of(bytes.as_slice()),
-        Err(fault) => Answer::Fault(fault),
-    }
-}
-
-/// What a read of a tree that stands still is answered.
-fn found_in(reply: &Reply) -> Answer {
-    match reply {
-        Reply::Data(bytes) => mark_of(bytes.as_slice()),
-        Reply::Fault(fault) => Answer::Fault(*fault),
-        _ => Answer::Other,
-    }
-}
-
-/// What a file of a tree that stands still has.
-fn seen_at(alloc: Global, tree: &Frozen, path: &Path) -> Answer {
-    let reply = tree.read(alloc, path, PLACE, LEN as u64 + 1);
-    found_in(&reply)
-}
-
-/// Looks at each file of a tree that stands still. Whether there was memory to log it.
-fn see_all(alloc: Global, tree: &Frozen, files: &[Path], seen: &mut Vec<Answer>) -> bool {
-    let mut is_logged = true;
-    for path in files {
-        is_logged &= seen.push(seen_at(alloc, tree, path)).is_ok();
-    }
-    is_logged
-}
-
-/// A call on a file.
-fn ask_file<J: EngineId, R: Wait>(
+/// Makes a call on paths, at what the clock says before it. Whether there was memory to log it.
+fn make_on_paths<J: EngineId, R: Wait>(
     rt: &R,
     alloc: Global,
     client: &mut Client<J>,
-    asked: Asked,
-    path: &Path,
-    at: u64,
-) -> Answer {
-    match asked {
-        Asked::Read(_) => found(client.read(rt, alloc, path, PLACE, LEN as u64 + 1)),
-        Asked::Write(_, mark) => {
-            written(client.write(rt, alloc, path, PLACE, &mark.to_be_bytes(), at))
+    course: &Course,
+    call: SampleCall,
+    log: &mut Log,
+) -> bool {
+    match call.call(alloc) {
+        Ok(asked) => {
+            let begin = course.now();
+            let reply = client.call(rt, alloc, &asked, begin);
+            let end = course.now();
+            log.add(begin, end, call, &reply)
         }
-        Asked::Create(_) => settled(client.create(rt, alloc, path, at)),
-        Asked::Unlink(_) => settled(client.unlink(rt, alloc, path, at)),
-        _ => Answer::Other,
+        Err(_) => false,
     }
+}
+
+/// Makes the call on paths that is asked for.
+fn make_path_call<J: EngineId, R: Wait>(
+    rt: &R,
+    alloc: Global,
+    client: &mut Client<J>,
+    names: &Names,
+    course: &Course,
+    asked: PathAsked,
+    log: &mut Log,
+) -> bool {
+    let mark = mark_of(asked).to_be_bytes();
+    make_on_paths(rt, alloc, client, course, sample(names, asked, &mark), log)
 }
 
 /// A call on a snapshot that tells nothing back.
@@ -123,39 +94,83 @@ fn ask_snapshot<J: EngineId, R: Wait>(
     client: &mut Client<J>,
     asked: Asked,
     name: &SnapName,
-) -> Answer {
+) -> Result<(), Errno> {
     match asked {
-        Asked::Keep(_) => settled(client.snapshot(rt, alloc, name)),
-        Asked::Drop(_) => settled(client.drop_snapshot(rt, name)),
-        Asked::Restore(_) => settled(client.restore(rt, name)),
-        _ => Answer::Other,
+        Asked::Keep(_) => client.snapshot(rt, alloc, name),
+        Asked::Drop(_) => client.drop_snapshot(rt, name),
+        _ => client.restore(rt, name),
     }
 }
 
-/// A call that gives no tree back.
-fn ask<J: EngineId, R: Wait>(
+/// The word of a call on the whole tree, and the number of its snapshot's name.
+fn word_of(asked: Asked) -> (&'static str, usize) {
+    match asked {
+        Asked::Keep(name) => ("snapshot", name),
+        Asked::Drop(name) => ("drop_snapshot", name),
+        Asked::Restore(name) => ("restore", name),
+        Asked::Look(name) => ("look", name),
+        _ => ("scan", 0),
+    }
+}
+
+/// What a call that tells nothing back is answered.
+fn answer_of(told: Result<(), Errno>) -> &'static str {
+    match told {
+        Ok(()) => "ok",
+        Err(fault) => fault.name(),
+    }
+}
+
+/// Makes a call on a snapshot that tells nothing back. Whether there was memory to log it.
+fn make_on_snapshot<J: EngineId, R: Wait>(
     rt: &R,
     alloc: Global,
     client: &mut Client<J>,
     names: &Names,
+    course: &Course,
     asked: Asked,
-    at: u64,
-) -> Answer {
-    match asked {
-        Asked::Read(file) | Asked::Write(file, _) | Asked::Create(file) | Asked::Unlink(file) => {
-            match names.files.get(file) {
-                Some(path) => ask_file(rt, alloc, client, asked, path, at),
-                None => Answer::Other,
-            }
+    log: &mut Log,
+) -> bool {
+    let (word, number) = word_of(asked);
+    match names.snapshots.get(number) {
+        Some(name) => {
+            let begin = course.now();
+            let told = ask_snapshot(rt, alloc, client, asked, name);
+            let end = course.now();
+            log.add_snapshot(begin, end, word, number, answer_of(told))
         }
-        Asked::Keep(name) | Asked::Drop(name) | Asked::Restore(name) => {
-            match names.snapshots.get(name) {
-                Some(name) => ask_snapshot(rt, alloc, client, asked, name),
-                None => Answer::Other,
-            }
-        }
-        Asked::Look(_) | Asked::Scan => Answer::Other,
+        None => false,
     }
+}
+
+/// Adds what more there is of a path: the bytes of a file, the entries of a directory.
+fn put_content(log: &mut Log, alloc: Global, tree: &Frozen, path: &Path, kind: Kind) -> bool {
+    let reply = match kind {
+        Kind::Dir => tree.readdir(alloc, path),
+        Kind::File => tree.read(alloc, path, FIRST_OFFSET, COUNT),
+    };
+    log.put_more(&reply)
+}
+
+/// Adds what a tree that stands still has at the path of a number.
+fn put_seen(log: &mut Log, alloc: Global, tree: &Frozen, path: &Path, number: usize) -> bool {
+    let reply = tree.stat(alloc, path);
+    let is_put = log.put_place(number) && log.put_more(&reply);
+    match &reply {
+        Reply::Stat(kind, _, _) => is_put && put_content(log, alloc, tree, path, *kind),
+        _ => is_put,
+    }
+}
+
+/// Adds what a tree that stands still has at all paths.
+fn put_tree(log: &mut Log, alloc: Global, tree: &Frozen, paths: &[Path]) -> bool {
+    let mut is_put = true;
+    let mut number = 0usize;
+    for path in paths {
+        is_put &= put_seen(log, alloc, tree, path, number);
+        number = number.wrapping_add(1);
+    }
+    is_put
 }
 
 /// The tree of the snapshot of a name, or the live tree where there is no name.
@@ -173,34 +188,17 @@ fn tree_of<J: EngineId, R: Wait>(
     }
 }
 
-/// What a call that gives a tree back is answered: each file of the tree is looked at, and what it has goes to `seen`.
-fn seen_of(
-    alloc: Global,
-    tree: Result<Frozen, Errno>,
-    files: &[Path],
-    seen: &mut Vec<Answer>,
-) -> Answer {
-    let from = seen.len();
-    match tree {
-        Ok(tree) => if see_all(alloc, &tree, files, seen) {
-            Answer::All(from)
-        } else {
-            Answer::Other
-        },
-        Err(fault) => Answer::Fault(fault),
-    }
-}
-
-/// Gets a tree, and looks at each of its files once the call has ended: it stands still.
-fn make_whole<J: EngineId, R: Wait>(
+/// Gets a tree, and looks at all its paths once the call has ended: it stands still. Whether there was memory to log it.
+fn make_look<J: EngineId, R: Wait>(
     rt: &R,
     alloc: Global,
     client: &mut Client<J>,
     names: &Names,
     course: &Course,
     asked: Asked,
-    seen: &mut Vec<Answer>,
-) -> Made {
+    log: &mut Log,
+) -> bool {
+    let (word, number) = word_of(asked);
     let name = match asked {
         Asked::Look(name) => names.snapshots.get(name),
         _ => None,
@@ -208,35 +206,15 @@ fn make_whole<J: EngineId, R: Wait>(
     let begin = course.now();
     let tree = tree_of(rt, client, name);
     let end = course.now();
-    Made {
-        begin,
-        end,
-        asked,
-        answer: seen_of(alloc, tree, names.files.as_slice(), seen),
+    match tree {
+        Ok(tree) => log.begin_look(begin, end, word, number)
+            && put_tree(log, alloc, &tree, names.paths.as_slice())
+            && log.end(),
+        Err(fault) => log.add_snapshot(begin, end, word, number, fault.name()),
     }
 }
 
-/// Makes a call that gives no tree back. Its moment is what the clock says before it.
-fn make_plain<J: EngineId, R: Wait>(
-    rt: &R,
-    alloc: Global,
-    client: &mut Client<J>,
-    names: &Names,
-    course: &Course,
-    asked: Asked,
-) -> Made {
-    let begin = course.now();
-    let answer = ask(rt, alloc, client, names, asked, begin);
-    let end = course.now();
-    Made {
-        begin,
-        end,
-        asked,
-        answer,
-    }
-}
-
-/// Makes a call.
+/// Makes a call. Whether there was memory to log it.
 fn make<J: EngineId, R: Wait>(
     rt: &R,
     alloc: Global,
@@ -244,11 +222,12 @@ fn make<J: EngineId, R: Wait>(
     names: &Names,
     course: &Course,
     asked: Asked,
-    seen: &mut Vec<Answer>,
-) -> Made {
+    log: &mut Log,
+) -> bool {
     match asked {
-        Asked::Look(_) | Asked::Scan => make_whole(rt, alloc, client, names, course, asked, seen),
-        _ => make_plain(rt, alloc, client, names, course, asked),
+        Asked::Path(asked) => make_path_call(rt, alloc, client, names, course, asked, log),
+        Asked::Look(_) | Asked::Scan => make_look(rt, alloc, client, names, course, asked, log),
+        _ => make_on_snapshot(rt, alloc, client, names, course, asked, log),
     }
 }
 
@@ -263,8 +242,7 @@ fn make_all<J: EngineId, R: Wait>(
 ) {
     let mut draw = Draw::new(course.seed, log.client);
     for _ in 0..course.calls {
-        let made = make(rt, alloc, client, names, course, draw.next(), &mut log.seen);
-        if log.made.push(made).is_err() {
+        if !make(rt, alloc, client, names, course, draw.next(), log) {
             return;
         }
         if draw.rests() {
