@@ -7,6 +7,7 @@
 #   make test                              runs most tests without proofs, in ten minutes (tests/quick)
 #   make prove                             proves everything and runs all tests, an hour at first (.ci/run)
 #   make dist [UNPROVED=1]                 packs one file to unpack elsewhere, out/dist/doorvervain-RELEASE-linux-MACHINE.tar.gz
+#   make UNPROVED=1 races                  builds the C library for a sanitizer of threads, which examples/run uses where it is there
 #   make needs                             installs by apt what the parts need, on Debian: compilers, headers, libfuse3
 #   make clean                             removes what was built here, but nothing that the gate proved
 #   make help                              prints this
@@ -94,6 +95,11 @@ $(OUT)/deltas: $(shell packaging/sources delta_tool) tests/unproved | toolchain
 
 $(OUT)/libdoorvervain.a: $(shell packaging/sources doorvervain) tests/unproved | toolchain
 	$(call WITHOUT_PROOFS,C library,doorvervain)
+
+# The library whose accesses of memory a sanitizer of threads sees (examples/run).
+races: $(OUT)/races.a
+$(OUT)/races.a: $(shell packaging/sources doorvervain) tests/unproved | toolchain
+	$(call WITHOUT_PROOFS,C library for a sanitizer of threads,doorvervain) --races
 else
 crates/betr/out/betr crates/delta_tool/out/delta_tool: | toolchain
 	@echo '$@ is not there: make prove proves and builds it, an hour at first; make UNPROVED=1 builds all without proofs' >&2
@@ -193,7 +199,7 @@ install: all
 	@install -m 644 $(DOCUMENTS) $(TO)/share/doc/doorvervain
 	@tar -C bindings $(LEFT_OUT) -cf - install python rust | tar -C $(SHARE)/bindings --no-same-owner -xf -
 	@$(if $(MODULE),install -m 755 $(MODULE) $(SHARE)/bindings/python/_core.abi3.so)
-	@tar -C examples $(LEFT_OUT) -cf - c cpp rust fixture build_cache sandbox | tar -C $(SHARE)/examples --no-same-owner -xf -
+	@tar -C examples $(LEFT_OUT) -cf - c cpp rust fixture build_cache parallel_tests sandbox | tar -C $(SHARE)/examples --no-same-owner -xf -
 	@$(STAMP) $(ARCHIVE) > $(SHARE)/COMMIT
 	+@$(if $(NO_MOUNT),,$(MAKE) -s -C mount install $(TO_MOUNT))
 	@echo 'installed: $(TO)'
@@ -254,4 +260,4 @@ help:
 
 # A page that could not be made is none.
 .DELETE_ON_ERROR:
-.PHONY: all libraries mount install uninstall missing dist test prove needs clean help toolchain always
+.PHONY: all libraries races mount install uninstall missing dist test prove needs clean help toolchain always

@@ -25,9 +25,14 @@
 // Caller obligations, which no check can see:
 //   - Set `ptr` to null before the first use (`struct doorvervain fs = {0};`), and do not change it.
 //   - A copy of a struct is the same volume. Do not use a copy after a close: that is a use of freed memory.
-//   - Only one thread at a time may be in a volume and in the trees frozen from it, also for calls that only read: put one
-//     lock around them, or keep them on one thread. Any two volumes may be called by two threads at once, also a volume
-//     and a fork of it: a node that both have is never changed, but copied.
+//   - A call that changes a volume is alone in it. Calls that take a `const struct doorvervain *` only look: any number of
+//     them may be in one volume at once while no other call is. So a read-write lock around the calls of a volume is enough.
+//   - Any number of threads may be in one frozen tree at once, without a lock, by calls that take a
+//     `const struct doorvervain_frozen *`. All others close it, and need it alone.
+//   - Different volumes and frozen trees may be called by different threads at once without a lock, also a volume, its forks
+//     and the trees that were frozen from it while it changes: a node that two of them have is never changed, but copied.
+//     doorvervain_restore_frozen changes its volume, and only looks at its frozen tree.
+//   - A printer, a loader or a list is for one thread at a time.
 //   - A pointer with a length points to at least that many bytes. Bytes that a call writes overlap no bytes that it
 //     reads, and no other result.
 //   - Make no call from a signal handler, nor in the forked child of a process with threads.
@@ -604,7 +609,7 @@ static inline void doorvervain_frozen_close(struct doorvervain_frozen *tree) {
 
 // ---- listings, entry by entry
 // A list is a snapshot of a directory: begin reads all entries into memory of `malloc`, which the list owns until end frees it. Later
-// changes of the volume, also its close, do not affect the list. One list is for one thread at a time; two lists have nothing in common.
+// changes of the volume, also its close, do not affect the list.
 
 // Frees a list with the names that it returned, and closes it. A closed list is left unchanged.
 static inline void doorvervain_list_end(struct doorvervain_list *list) {

@@ -1,15 +1,19 @@
-// The calls of a volume as a module of Python, over the library for C: the types `Volume` and `Frozen`, and the lock that
-// they share. It keeps to the stable interface of Python 3.9, so that one build serves every later version.
+// The calls of a volume as a module of Python, over the library for C: the types `Volume` and `Frozen`, and their locks. It
+// keeps to the stable interface of Python 3.9, so that one build serves every later version.
 //
-// A volume and the trees frozen from it share nodes, so each call holds the lock that they share, throughout. A call whose
-// time grows with bytes or entries releases the interpreter's lock meanwhile; all others keep it, since releasing it takes
-// about as long as they do.
+// A volume has a read-write lock: a call that changes it holds the lock alone, and one that only looks holds it beside others
+// that only look. A frozen tree has a lock of its own, which only its close holds alone. A call whose time grows with bytes or
+// entries releases the interpreter's lock meanwhile; all others keep it, since releasing it takes about as long as they do.
+//
+// Who holds a lock beside others runs no code of Python, and makes no object that the collector knows: a finalizer might want
+// the lock again, and a thread that waits to hold it alone would be in between.
 #ifndef DOORVERVAIN_CORE_H
 #define DOORVERVAIN_CORE_H
 
 #define PY_SSIZE_T_CLEAN
 #define Py_LIMITED_API 0x03090000
 #include <Python.h>
+#include <pthread.h>
 
 #include <doorvervain.h>
 
@@ -21,8 +25,9 @@
 // A method that takes its arguments as an array, and some of them by name.
 #define FAST(call) (PyCFunction)(void (*)(void))(call), METH_FASTCALL | METH_KEYWORDS
 
-// How many bytes are read on the stack, and written without releasing the interpreter's lock.
-enum { FEW = 1 << 14 };
+// How many bytes are read on the stack, and written without releasing the interpreter's lock; and from how many bytes on a
+// read releases it.
+enum { FEW = 1 << 14, LONG_READ = 1 << 12 };
 
 // Volumes and frozen trees are visited as what they have in common says.
 enum { MORE = Py_TPFLAGS_DEFAULT | Py_TPFLAGS_BASETYPE, COMMON = MORE | Py_TPFLAGS_HAVE_GC };
@@ -35,20 +40,27 @@ struct known {
 };
 extern struct known known;
 
-// A reentrant lock. `holder`, `depth` and `forks` are read and written by who holds the interpreter.
+// A read-write lock, reentrant for who holds it alone. `depth` says how often `holder` holds it, `readers` how many threads hold
+// it beside each other: one of the two is 0. These fields are read and written by who holds the interpreter. A thread that has
+// to wait notes `turn` and releases the interpreter; whoever gives the lock back while others wait makes it the next turn. New
+// readers wait behind who waits to hold it alone.
 //
 // In the forked child of a process with threads a lock of the parent may be held by a thread that the child does not have,
 // and its volume may be in the middle of a call. So each lock knows how many forks lie above the process that last took it:
 // in such a child the locks of before raise an error, for good.
 typedef struct {
     PyObject_HEAD
-    PyThread_type_lock gate;
-    unsigned long holder;
-    size_t depth, forks;
+    pthread_mutex_t gate;
+    pthread_cond_t next;
+    unsigned long turn, holder;
+    size_t depth, readers, waiting, waiting_alone, forks;
 } Lock;
 
-// -1 with a RuntimeError if the lock is of before such a fork.
+// Takes the lock alone, or beside others that only look. -1 with a RuntimeError if the lock is of before such a fork.
 int lock_take(Lock *lock);
+int lock_share(Lock *lock);
+
+// Gives back what the one or the other took.
 void lock_give(Lock *lock);
 
 // Whether a lock is of before such a fork.
@@ -57,8 +69,16 @@ int lock_is_lost(Lock *lock);
 // Has this module told of each fork of the process. -1 with an exception.
 int watch_forks(PyObject *module);
 
+// The shape of the trees of a snapshot. There is none if the name has no bytes.
+enum { NAME = 64, SNAPSHOTS = 64 };
+struct kept {
+    uint8_t name[NAME];
+    size_t length;
+    uint16_t shape[3];
+};
+
 // A volume, or a tree that was frozen from one: one of the two handles is closed. `lock` is null until it is begun. `clock`
-// is null for the system's.
+// is null for the system's. `kept` has the shapes of all snapshots, and is null until the first is taken.
 typedef struct {
     PyObject_HEAD
     struct doorvervain volume;
@@ -66,20 +86,21 @@ typedef struct {
     Lock *lock;
     PyObject *clock;
     uint16_t shape[3];
+    struct kept *kept;
 } Tree;
 
-// Takes the lock of a tree. -1 with an exception if it was never begun, or is lost by a fork.
+// Takes the lock of a tree, alone or beside others that only look. -1 with an exception if the tree was never begun, or is
+// lost by a fork.
 int enter(Tree *tree);
+int enter_to_look(Tree *tree);
 void leave(Tree *tree);
-
-// Takes the locks of two trees, which may be one: that with the lower address first, so that two threads that take the same
-// two never wait for each other. -1 with an exception if one was never begun.
-int enter_both(Tree *one, Tree *other);
-void leave_both(Tree *one, Tree *other);
 int is_open(const Tree *tree);
 
-// Initialises a tree: it gets a lock, which is `lock` if that is not null. -1 with an exception.
-int begin(Tree *tree, Lock *lock);
+// Initialises a tree: it gets a lock. -1 with an exception.
+int begin(Tree *tree);
+
+// The shape of the trees of a snapshot of that name; of the volume's own if there is none.
+const uint16_t *shape_of_snapshot(const Tree *tree, const uint8_t *name, size_t length);
 
 // ---- arguments and results of calls
 

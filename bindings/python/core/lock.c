@@ -1,4 +1,4 @@
-// The lock of a volume and of the trees frozen from it.
+// The lock of a volume or of a frozen tree.
 #include "core.h"
 
 // How many forks lie above this process; the last of them that a process with other threads made, or 0; and whether the
@@ -13,34 +13,64 @@ static int lock_is_mine(const Lock *lock) {
 int lock_is_lost(Lock *lock) {
     if (lock->forks == forks) return 0;
     // (a thread that began after it was asked whether there are others)
-    if (lock->forks < last_lost || (lock->depth && !lock_is_mine(lock))) return 1;
+    if (lock->forks < last_lost || lock->readers || lock->waiting || (lock->depth && !lock_is_mine(lock))) return 1;
     lock->forks = forks;
     return 0;
 }
 
+static int refuses_lost(Lock *lock) {
+    if (!lock_is_lost(lock)) return 0;
+    PyErr_SetString(PyExc_RuntimeError,
+        "the volume is of before a fork of this process, which had other threads then: use it in the parent, and here "
+        "a volume that is made here, or run the child by the start method 'spawn' or 'forkserver'");
+    return 1;
+}
+
+// Waits without the interpreter until the lock was given back. It may be taken by another thread again.
+static void wait_for_turn(Lock *lock) {
+    unsigned long turn = lock->turn;
+    lock->waiting++;
+    Py_BEGIN_ALLOW_THREADS
+    pthread_mutex_lock(&lock->gate);
+    while (lock->turn == turn) pthread_cond_wait(&lock->next, &lock->gate);
+    pthread_mutex_unlock(&lock->gate);
+    Py_END_ALLOW_THREADS
+    lock->waiting--;
+}
+
 int lock_take(Lock *lock) {
-    if (lock_is_lost(lock)) {
-        PyErr_SetString(PyExc_RuntimeError,
-            "the volume is of before a fork of this process, which had other threads then: use it in the parent, and here "
-            "a volume that is made here, or run the child by the start method 'spawn' or 'forkserver'");
-        return -1;
-    }
+    if (refuses_lost(lock)) return -1;
     if (lock_is_mine(lock)) {
         lock->depth++;
         return 0;
     }
-    if (!PyThread_acquire_lock(lock->gate, NOWAIT_LOCK)) {
-        Py_BEGIN_ALLOW_THREADS
-        PyThread_acquire_lock(lock->gate, WAIT_LOCK);
-        Py_END_ALLOW_THREADS
-    }
+    lock->waiting_alone++;
+    while (lock->depth || lock->readers) wait_for_turn(lock);
+    lock->waiting_alone--;
     lock->holder = PyThread_get_thread_ident();
     lock->depth = 1;
     return 0;
 }
 
+int lock_share(Lock *lock) {
+    if (refuses_lost(lock)) return -1;
+    if (lock_is_mine(lock)) {
+        lock->depth++;
+        return 0;
+    }
+    while (lock->depth || lock->waiting_alone) wait_for_turn(lock);
+    lock->readers++;
+    return 0;
+}
+
 void lock_give(Lock *lock) {
-    if (--lock->depth == 0) PyThread_release_lock(lock->gate);
+    if (lock->depth) lock->depth--;
+    else lock->readers--;
+    if (lock->depth || lock->readers || !lock->waiting) return;
+    pthread_mutex_lock(&lock->gate);
+    lock->turn++;
+    pthread_cond_broadcast(&lock->next);
+    pthread_mutex_unlock(&lock->gate);
 }
 
 // ---- forks
@@ -89,17 +119,19 @@ static PyObject *lock_new(PyTypeObject *type, PyObject *words, PyObject *named) 
     Lock *lock = (Lock *)allocate(type, 0);
     if (!lock) return NULL;
     lock->forks = forks;
-    lock->gate = PyThread_allocate_lock();
-    if (lock->gate) return (PyObject *)lock;
-    Py_DECREF(lock);
-    return PyErr_NoMemory();
+    pthread_mutex_init(&lock->gate, NULL);
+    pthread_cond_init(&lock->next, NULL);
+    return (PyObject *)lock;
 }
 
 static void lock_dealloc(PyObject *self) {
     PyTypeObject *type = Py_TYPE(self);
     Lock *lock = (Lock *)self;
-    // (one that a thread of the parent holds stays as it is)
-    if (lock->gate && !lock_is_lost(lock)) PyThread_free_lock(lock->gate);
+    // (one that threads of the parent hold or wait for stays as it is)
+    if (!lock_is_lost(lock)) {
+        pthread_cond_destroy(&lock->next);
+        pthread_mutex_destroy(&lock->gate);
+    }
     ((freefunc)PyType_GetSlot(type, Py_tp_free))(self);
     Py_DECREF(type);
 }
@@ -122,13 +154,13 @@ static PyObject *lock_exit(PyObject *self, PyObject *unused) {
 }
 
 static PyMethodDef lock_methods[] = {
-    {"__enter__", lock_enter, METH_NOARGS, "Acquires the lock."},
+    {"__enter__", lock_enter, METH_NOARGS, "Acquires the lock alone."},
     {"__exit__", lock_exit, METH_VARARGS, "Releases the lock."},
     {NULL, NULL, 0, NULL},
 };
 
 static PyType_Slot lock_slots[] = {
-    {Py_tp_doc, "A reentrant lock."},
+    {Py_tp_doc, "A reentrant lock, which calls that only look hold beside each other."},
     {Py_tp_new, lock_new},
     {Py_tp_dealloc, lock_dealloc},
     {Py_tp_methods, lock_methods},

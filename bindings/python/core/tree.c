@@ -7,28 +7,16 @@
 // The most bytes that one call reads.
 enum { MOST = 1 << 20 };
 
-int enter(Tree *tree) {
-    if (!tree->lock) {
-        refuse(DOORVERVAIN_CLOSED, NULL, NULL);
-        return -1;
-    }
-    return lock_take(tree->lock);
+static int was_begun(const Tree *tree) {
+    if (!tree->lock) refuse(DOORVERVAIN_CLOSED, NULL, NULL);
+    return tree->lock != NULL;
 }
+
+int enter(Tree *tree) { return was_begun(tree) ? lock_take(tree->lock) : -1; }
+
+int enter_to_look(Tree *tree) { return was_begun(tree) ? lock_share(tree->lock) : -1; }
 
 void leave(Tree *tree) { lock_give(tree->lock); }
-
-int enter_both(Tree *one, Tree *other) {
-    Tree *first = (uintptr_t)one->lock < (uintptr_t)other->lock ? one : other;
-    if (enter(first)) return -1;
-    if (!enter(first == one ? other : one)) return 0;
-    leave(first);
-    return -1;
-}
-
-void leave_both(Tree *one, Tree *other) {
-    leave(one);
-    leave(other);
-}
 
 int is_open(const Tree *tree) { return tree->volume.ptr || tree->frozen.ptr; }
 
@@ -57,52 +45,67 @@ static uint8_t look_readdir(Tree *tree, const struct text *path, uint8_t *out, s
 
 // ---- reading
 
-// Reads into a buffer until it is full or the file ends, piece by piece: how many bytes, or -1 with an exception.
-static Py_ssize_t read_pieces(
-    Tree *tree, PyObject *given, const struct text *path, uint64_t offset, uint8_t *out, size_t size) {
-    size_t done = 0, got = 0, piece = 0;
+// Reads into a buffer until it is full or the file ends, piece by piece, without the interpreter's lock. `*done` is how many
+// bytes; the number of the call.
+static uint8_t read_pieces(
+    Tree *tree, const struct text *path, uint64_t offset, uint8_t *out, size_t size, size_t *done) {
+    size_t got = 0, piece = 0;
     uint8_t number = 0;
+    *done = 0;
     Py_BEGIN_ALLOW_THREADS
-    while (done < size) {
-        piece = size - done < MOST ? size - done : MOST;
-        number = look_read(tree, path, offset + done, out + done, piece, &got);
-        done += got;
+    while (*done < size) {
+        piece = size - *done < MOST ? size - *done : MOST;
+        number = look_read(tree, path, offset + *done, out + *done, piece, &got);
+        *done += got;
         if (number || got < piece) break;
     }
     Py_END_ALLOW_THREADS
-    if (!number) return (Py_ssize_t)done;
-    refuse(number, given, NULL);
-    return -1;
+    return number;
 }
 
-// The bytes of a file from `offset` on, of which the first `has` were read, at most `size` of them: under the lock.
-static PyObject *read_many(Tree *tree, PyObject *given, const struct text *path, uint64_t offset, uint64_t size,
-    const uint8_t *front, size_t has) {
+// What is read of a file: the number of the call, and the bytes, which are null without memory for them.
+struct read {
+    uint8_t number;
+    PyObject *bytes;
+};
+
+// The bytes of a file from `offset` on, of which the first `has` were read, at most `size` of them.
+static struct read read_many(
+    Tree *tree, const struct text *path, uint64_t offset, uint64_t size, const uint8_t *front, size_t has) {
     struct stat_of it;
-    uint8_t number = look_stat(tree, path, &it);
-    if (number) return refuse(number, given, NULL);
-    if (it.kind == DOORVERVAIN_DIRECTORY) return refuse(DOORVERVAIN_EISDIR, given, NULL);
+    struct read read = {look_stat(tree, path, &it), NULL};
+    if (!read.number && it.kind == DOORVERVAIN_DIRECTORY) read.number = DOORVERVAIN_EISDIR;
+    if (read.number) return read;
     uint64_t there = it.size > offset ? it.size - offset : 0;
     uint64_t want = there < size ? there : size;
-    PyObject *bytes = PyBytes_FromStringAndSize(NULL, (Py_ssize_t)want);
-    if (!bytes) return NULL;
-    uint8_t *out = (uint8_t *)PyBytes_AsString(bytes);
+    read.bytes = PyBytes_FromStringAndSize(NULL, (Py_ssize_t)want);
+    if (!read.bytes) return read;
+    uint8_t *out = (uint8_t *)PyBytes_AsString(read.bytes);
     if (has) memcpy(out, front, has);
-    Py_ssize_t got = read_pieces(tree, given, path, offset + has, out + has, (size_t)want - has);
-    if (got >= 0) return bytes;
-    Py_DECREF(bytes);
-    return NULL;
+    size_t got;
+    read.number = read_pieces(tree, path, offset + has, out + has, (size_t)want - has, &got);
+    if (read.number) Py_CLEAR(read.bytes);
+    return read;
 }
 
-static PyObject *read_locked(Tree *tree, PyObject *given, const struct text *path, uint64_t offset, uint64_t size) {
+// The bytes of a file from `offset` on, at most `size` of them: under the lock. Of a file whose size is not known the first
+// LONG_READ bytes are read with the interpreter's lock.
+static struct read read_locked(Tree *tree, const struct text *path, uint64_t offset, uint64_t size) {
     uint8_t few[FEW];
-    size_t want = size < FEW ? (size_t)size : FEW, got = 0;
+    int is_short = size < LONG_READ || size >= BEYOND;
+    size_t first = !is_short ? 0 : size < LONG_READ ? (size_t)size : LONG_READ, got = 0, more = 0;
+    struct read read = {0, NULL};
     // A greater length is read into its result at once.
-    if (size > FEW && size < BEYOND) return read_many(tree, given, path, offset, size, NULL, 0);
-    uint8_t number = look_read(tree, path, offset, few, want, &got);
-    if (number) return refuse(number, given, NULL);
-    if (got < want || got == size) return PyBytes_FromStringAndSize((const char *)few, (Py_ssize_t)got);
-    return read_many(tree, given, path, offset, size, few, got);
+    if (size > FEW && size < BEYOND) return read_many(tree, path, offset, size, NULL, 0);
+    if (is_short) read.number = look_read(tree, path, offset, few, first, &got);
+    if (!read.number && got == first && got < size) {
+        size_t rest = size < FEW ? (size_t)size - got : FEW - got;
+        read.number = read_pieces(tree, path, offset + got, few + got, rest, &more);
+        if (!read.number && more == rest && got + more < size)
+            return read_many(tree, path, offset, size, few, got + more);
+    }
+    if (!read.number) read.bytes = PyBytes_FromStringAndSize((const char *)few, (Py_ssize_t)(got + more));
+    return read;
 }
 
 static const struct signature read_signature = {"read", 1, 3, {"path", "size", "offset"}};
@@ -117,13 +120,13 @@ static PyObject *tree_read(PyObject *self, PyObject *const *words, Py_ssize_t co
     if (args[1] && bytes_of(args[1], &size, &all)) return NULL;
     if (all) size = BEYOND;
     if (place_of_bytes(args[2], args[0], &offset) || text_of(args[0], &path)) return NULL;
-    PyObject *bytes = NULL;
-    if (!enter(tree)) {
-        bytes = read_locked(tree, args[0], &path, offset, size);
+    struct read read = {0, NULL};
+    if (!enter_to_look(tree)) {
+        read = read_locked(tree, &path, offset, size);
         leave(tree);
     }
     Py_DECREF(path.owner);
-    return bytes;
+    return read.number ? refuse(read.number, args[0], NULL) : read.bytes;
 }
 
 static uint8_t look_extent(Tree *tree, const struct text *path, uint64_t offset, uint64_t *from, uint64_t *to) {
@@ -140,7 +143,7 @@ static PyObject *tree_next_extent(PyObject *self, PyObject *const *words, Py_ssi
     uint64_t offset, from, to;
     if (words_of(&extent_signature, words, count, named, args) || place_of_bytes(args[1], args[0], &offset)) return NULL;
     if (text_of(args[0], &path)) return NULL;
-    if (!enter(tree)) {
+    if (!enter_to_look(tree)) {
         uint8_t number = look_extent(tree, &path, offset, &from, &to);
         leave(tree);
         done = number ? refuse(number, args[0], NULL) : Py_BuildValue("KK", (unsigned long long)from, (unsigned long long)to);
@@ -156,7 +159,7 @@ static int ask_stat(Tree *tree, PyObject *given, struct stat_of *it) {
     struct text path;
     if (text_of(given, &path)) return -1;
     int number = -1;
-    if (!enter(tree)) {
+    if (!enter_to_look(tree)) {
         number = look_stat(tree, &path, it);
         leave(tree);
     }
@@ -241,7 +244,7 @@ static int ask_filled(Tree *tree, PyObject *given, fill call, struct listing *it
     uint8_t number = 0;
     if ((given && text_of(given, &path))) return -1;
     it->at = it->few;
-    int begun = !enter(tree);
+    int begun = !enter_to_look(tree);
     if (begun) {
         Py_BEGIN_ALLOW_THREADS
         number = filled(tree, &path, call, it);
@@ -314,8 +317,8 @@ static PyObject *tree_scandir(PyObject *self, PyObject *const *words, Py_ssize_t
 
 // ---- closing
 
-// Frees a tree under its lock, without the interpreter's lock. A closed one is left unchanged. What is lost by a fork is not
-// freed: the parent's threads may be in the middle of it.
+// Frees a tree under its lock, which it holds alone, without the interpreter's lock. A closed one is left unchanged. What is
+// lost by a fork is not freed: the parent's threads may be in the middle of it.
 static void close_tree(Tree *tree) {
     if (!is_open(tree)) return;
     int is_lost = lock_is_lost(tree->lock);
@@ -374,43 +377,39 @@ static void tree_dealloc(PyObject *self) {
     PyObject_GC_UnTrack(self);
     close_tree(tree);
     tree_clear(self);
+    free(tree->kept);
     Py_CLEAR(tree->lock);
     ((freefunc)PyType_GetSlot(type, Py_tp_free))(self);
     Py_DECREF(type);
 }
 
-int begin(Tree *tree, Lock *lock) {
+int begin(Tree *tree) {
     if (tree->lock) {
         PyErr_SetString(PyExc_RuntimeError, "a volume or tree is begun once");
         return -1;
     }
-    Py_XINCREF(lock);
-    tree->lock = lock ? lock : (Lock *)PyObject_CallObject((PyObject *)known.lock, NULL);
+    tree->lock = (Lock *)PyObject_CallObject((PyObject *)known.lock, NULL);
     return tree->lock ? 0 : -1;
 }
 
 // ---- frozen trees
 
-// Freezes the tree of a volume, or that of a snapshot, into a tree that shares the volume's lock.
+// Freezes the tree of a volume, or that of a snapshot.
 static int frozen_of(Tree *frozen, Tree *volume, PyObject *name) {
     struct text text = {NULL, NULL, 0};
-    struct doorvervain_frozen made = {NULL};
-    if (name && text_of(name, &text)) return -1;
+    if (begin(frozen) || (name && text_of(name, &text))) return -1;
     uint8_t number = 0;
-    int failed = enter(volume);
+    int failed = enter_to_look(volume);
     if (!failed) {
-        number = name ? doorvervain_open_snapshot(&volume->volume, text.at, text.length, &made)
-                      : doorvervain_freeze(&volume->volume, &made);
-        failed = number || begin(frozen, volume->lock);
-        if (failed) doorvervain_frozen_close(&made);
+        const uint16_t *shape = name ? shape_of_snapshot(volume, (const uint8_t *)text.at, text.length) : volume->shape;
+        number = name ? doorvervain_open_snapshot(&volume->volume, text.at, text.length, &frozen->frozen)
+                      : doorvervain_freeze(&volume->volume, &frozen->frozen);
+        memcpy(frozen->shape, shape, sizeof frozen->shape);
         leave(volume);
         if (number) refuse_name(number, name, NULL);
     }
     Py_XDECREF(text.owner);
-    if (failed) return -1;
-    frozen->frozen = made;
-    memcpy(frozen->shape, volume->shape, sizeof frozen->shape);
-    return 0;
+    return failed || number ? -1 : 0;
 }
 
 static int frozen_init(PyObject *self, PyObject *words, PyObject *named) {
@@ -476,7 +475,7 @@ static PyMethodDef tree_methods[] = {
 static PyGetSetDef tree_properties[] = {
     {"closed", tree_closed, NULL, "Whether it is closed.", NULL},
     {"_shape", tree_shape, NULL, "The shape of its trees.", NULL},
-    {"_lock", tree_lock, NULL, "The lock that each call of the volume and of its frozen trees holds.", NULL},
+    {"_lock", tree_lock, NULL, "The lock that each of its calls holds: alone, or beside others that only look.", NULL},
     {NULL, NULL, NULL, NULL, NULL},
 };
 

@@ -1,10 +1,8 @@
 // Volumes: calls that change them, snapshots and compaction.
 #include "core.h"
 
+#include <stdlib.h>
 #include <string.h>
-
-// The most bytes that the name of a snapshot has.
-enum { NAME = 64 };
 
 // The numbers of a shape. A number out of C's range is replaced by another that is not valid. -1 with an exception if they are
 // not three numbers.
@@ -46,7 +44,7 @@ static int volume_init(PyObject *self, PyObject *words, PyObject *named) {
     uint16_t numbers[3] = {DOORVERVAIN_FANOUT, DOORVERVAIN_PENDING, DOORVERVAIN_LEAF};
     struct doorvervain opened = {NULL};
     if (!PyArg_ParseTupleAndKeywords(words, named, "|OO:Volume", names, &shape, &clock)) return -1;
-    if ((shape && shape_of(shape, numbers)) || begin((Tree *)self, NULL)) return -1;
+    if ((shape && shape_of(shape, numbers)) || begin((Tree *)self)) return -1;
     uint8_t number = doorvervain_open(&opened, numbers[0], numbers[1], numbers[2]);
     if (number) {
         refuse_shape(number, shape);
@@ -72,7 +70,7 @@ static PyObject *volume_load(PyObject *self, PyObject *words) {
     uint64_t line = 0;
     uint8_t number;
     if (!PyArg_ParseTuple(words, "y#OO:load", &text, &length, &shape, &clock)) return NULL;
-    if (shape_of(shape, numbers) || begin((Tree *)self, NULL)) return NULL;
+    if (shape_of(shape, numbers) || begin((Tree *)self)) return NULL;
     Py_BEGIN_ALLOW_THREADS
     number = doorvervain_load(
         &opened, numbers[0], numbers[1], numbers[2], (const uint8_t *)text, (size_t)length, &line);
@@ -273,7 +271,46 @@ static PyObject *volume_write_bytes(PyObject *self, PyObject *const *words, Py_s
 
 // ---- snapshots
 
-typedef uint8_t (*snapshot_fn)(struct doorvervain *fs, const char *name, size_t length);
+static struct kept *kept_of(const Tree *tree, const uint8_t *name, size_t length) {
+    for (size_t place = 0; tree->kept && place < SNAPSHOTS; place++) {
+        struct kept *it = &tree->kept[place];
+        if (it->length == length && memcmp(it->name, name, length) == 0) return it;
+    }
+    return NULL;
+}
+
+const uint16_t *shape_of_snapshot(const Tree *tree, const uint8_t *name, size_t length) {
+    const struct kept *it = length ? kept_of(tree, name, length) : NULL;
+    return it ? it->shape : tree->shape;
+}
+
+// The calls that take the name of a snapshot, each with the shape of what it keeps or restores.
+static uint8_t take_snapshot(Tree *tree, const struct text *name) {
+    if (!tree->kept) tree->kept = calloc(SNAPSHOTS, sizeof *tree->kept);
+    if (!tree->kept) return DOORVERVAIN_ENOMEM;
+    uint8_t number = doorvervain_snapshot(&tree->volume, name->at, name->length);
+    struct kept *it = number ? NULL : kept_of(tree, (const uint8_t *)"", 0);
+    if (!it) return number;
+    memcpy(it->name, name->at, name->length);
+    memcpy(it->shape, tree->shape, sizeof it->shape);
+    it->length = name->length;
+    return number;
+}
+
+static uint8_t drop_snapshot(Tree *tree, const struct text *name) {
+    uint8_t number = doorvervain_drop_snapshot(&tree->volume, name->at, name->length);
+    struct kept *it = number ? NULL : kept_of(tree, (const uint8_t *)name->at, name->length);
+    if (it) it->length = 0;
+    return number;
+}
+
+static uint8_t restore_snapshot(Tree *tree, const struct text *name) {
+    uint8_t number = doorvervain_restore(&tree->volume, name->at, name->length);
+    if (!number) memcpy(tree->shape, shape_of_snapshot(tree, (const uint8_t *)name->at, name->length), sizeof tree->shape);
+    return number;
+}
+
+typedef uint8_t (*snapshot_fn)(Tree *tree, const struct text *name);
 
 // Makes a call that takes the name of a snapshot, without the interpreter's lock if it may free a tree.
 static PyObject *snapshot_call(PyObject *self, PyObject *name, snapshot_fn call, int is_long) {
@@ -283,7 +320,7 @@ static PyObject *snapshot_call(PyObject *self, PyObject *name, snapshot_fn call,
     if (text_of(name, &text)) return NULL;
     if (!enter(tree)) {
         PyThreadState *state = is_long ? PyEval_SaveThread() : NULL;
-        uint8_t number = call(&tree->volume, text.at, text.length);
+        uint8_t number = call(tree, &text);
         if (state) PyEval_RestoreThread(state);
         leave(tree);
         done = number ? refuse_name(number, name, NULL) : answer(0, NULL);
@@ -292,24 +329,29 @@ static PyObject *snapshot_call(PyObject *self, PyObject *name, snapshot_fn call,
     return done;
 }
 
-static PyObject *volume_snapshot(PyObject *self, PyObject *name) { return snapshot_call(self, name, doorvervain_snapshot, 0); }
-static PyObject *volume_drop_snapshot(PyObject *self, PyObject *name) { return snapshot_call(self, name, doorvervain_drop_snapshot, 1); }
+static PyObject *volume_snapshot(PyObject *self, PyObject *name) { return snapshot_call(self, name, take_snapshot, 0); }
+static PyObject *volume_drop_snapshot(PyObject *self, PyObject *name) { return snapshot_call(self, name, drop_snapshot, 1); }
 
 // Restores a frozen tree, which may be one of another volume, with its shape. The tree that was there may be freed.
 static PyObject *restore_frozen(Tree *tree, Tree *frozen) {
     uint8_t number;
-    if (enter_both(tree, frozen)) return NULL;
+    if (enter(tree)) return NULL;
+    if (enter_to_look(frozen)) {
+        leave(tree);
+        return NULL;
+    }
     Py_BEGIN_ALLOW_THREADS
     number = doorvervain_restore_frozen(&tree->volume, &frozen->frozen);
     Py_END_ALLOW_THREADS
     if (!number) memcpy(tree->shape, frozen->shape, sizeof tree->shape);
-    leave_both(tree, frozen);
+    leave(frozen);
+    leave(tree);
     return answer(number, NULL);
 }
 
 static PyObject *volume_restore(PyObject *self, PyObject *from) {
     if (PyObject_TypeCheck(from, known.frozen)) return restore_frozen((Tree *)self, (Tree *)from);
-    return snapshot_call(self, from, doorvervain_restore, 1);
+    return snapshot_call(self, from, restore_snapshot, 1);
 }
 
 // Initialises a volume as the fork of a volume or a frozen tree.
@@ -318,37 +360,45 @@ static PyObject *volume_fork_of(PyObject *self, PyObject *words) {
     struct doorvervain made = {NULL};
     if (!PyArg_ParseTuple(words, "O!O:fork", known.tree, &given, &clock)) return NULL;
     Tree *from = (Tree *)given;
-    if (begin((Tree *)self, NULL) || enter(from)) return NULL;
+    uint16_t shape[3];
+    if (begin((Tree *)self) || enter_to_look(from)) return NULL;
     uint8_t number =
         from->frozen.ptr ? doorvervain_frozen_fork(&from->frozen, &made) : doorvervain_fork(&from->volume, &made);
+    memcpy(shape, from->shape, sizeof shape);
     leave(from);
     if (number) return refuse(number, NULL, NULL);
-    volume_begins((Tree *)self, made, from->shape, clock == Py_None && from->clock ? from->clock : clock);
+    volume_begins((Tree *)self, made, shape, clock == Py_None && from->clock ? from->clock : clock);
     Py_RETURN_NONE;
 }
 
-// The list of the names of all snapshots, under the lock.
-static PyObject *names_of(struct doorvervain *fs) {
-    uint8_t name[NAME];
-    PyObject *names = PyList_New(0);
-    while (names) {
-        size_t size;
-        uint8_t number = doorvervain_snapshot_name(fs, (size_t)PyList_Size(names), name, NAME, &size);
-        if (number == DOORVERVAIN_ENOENT) return names;
-        PyObject *one = number ? refuse(number, NULL, NULL) : PyUnicode_FromStringAndSize((char *)name, (Py_ssize_t)size);
-        if (!one || PyList_Append(names, one)) Py_CLEAR(names);
-        Py_XDECREF(one);
-    }
-    return NULL;
+// The names of all snapshots, each of which has at most NAME bytes.
+struct names {
+    size_t count, length[SNAPSHOTS];
+    char name[SNAPSHOTS][NAME];
+};
+
+// Reads all names, under the lock: 0, or the number of the call that failed.
+static uint8_t read_names(const struct doorvervain *fs, struct names *names) {
+    uint8_t number = 0;
+    for (names->count = 0; !number && names->count < SNAPSHOTS; names->count += !number)
+        number = doorvervain_snapshot_name(fs, names->count, names->name[names->count], NAME, &names->length[names->count]);
+    return number == DOORVERVAIN_ENOENT ? DOORVERVAIN_DONE : number;
 }
 
 static PyObject *volume_snapshots(PyObject *self, PyObject *unused) {
     (void)unused;
     Tree *tree = (Tree *)self;
-    if (enter(tree)) return NULL;
-    PyObject *names = names_of(&tree->volume);
+    struct names names;
+    if (enter_to_look(tree)) return NULL;
+    uint8_t number = read_names(&tree->volume, &names);
     leave(tree);
-    return names;
+    if (number) return refuse(number, NULL, NULL);
+    PyObject *list = PyList_New((Py_ssize_t)names.count);
+    for (size_t place = 0; list && place < names.count; place++) {
+        PyObject *name = PyUnicode_FromStringAndSize(names.name[place], (Py_ssize_t)names.length[place]);
+        if (!name || PyList_SetItem(list, (Py_ssize_t)place, name)) Py_CLEAR(list);
+    }
+    return list;
 }
 
 // ---- deltas
@@ -365,7 +415,7 @@ static PyObject *delta_of(Tree *tree, const struct text *names) {
     uint8_t number;
     PyObject *text = NULL;
     it.at = it.few;
-    if (enter(tree)) return NULL;
+    if (enter_to_look(tree)) return NULL;
     Py_BEGIN_ALLOW_THREADS
     number = filled(tree, names, look_delta, &it);
     Py_END_ALLOW_THREADS
@@ -398,6 +448,7 @@ static PyObject *volume_apply_delta(PyObject *self, PyObject *given) {
     Py_BEGIN_ALLOW_THREADS
     number = doorvervain_apply_delta(&tree->volume, (const uint8_t *)text, (size_t)length, &line);
     Py_END_ALLOW_THREADS
+    if (!number && tree->kept) memset(tree->kept, 0, SNAPSHOTS * sizeof *tree->kept);
     leave(tree);
     if (number == DOORVERVAIN_ENOENT) return refuse_as(number, "the delta begins with another tree", NULL, NULL);
     if (number != DOORVERVAIN_EINVAL) return answer(number, NULL);

@@ -18,6 +18,13 @@ class Examples(unittest.TestCase):
         folder = EXAMPLES / "build_cache"
         self.assertEqual(said(folder / "build_cache.py"), (folder / "build_cache.expected").read_text())
 
+    def test_parallel_tests(self):
+        folder = EXAMPLES / "parallel_tests"
+        expected = (folder / "parallel_tests.expected").read_text()
+        self.assertEqual(said(folder / "parallel_tests.py", stderr=subprocess.DEVNULL), expected)
+        copies = said(folder / "parallel_tests.py", "--copies", "--tests", "50", stderr=subprocess.DEVNULL)
+        self.assertEqual(copies, expected.replace("1000", "50"))
+
     @unittest.skipUnless(importlib.util.find_spec("pytest"), "pytest is not installed")
     def test_fixture(self):
         options = ["-q", "-p", "no:cacheprovider", "--tree", "volume"]

@@ -11,7 +11,7 @@ CONFTEST = """
     built = []
 
     @pytest.fixture(scope="session")
-    def volume_tree():
+    def doorvervain_tree():
         built.append(1)
         with doorvervain.Volume(clock=lambda: 7) as volume:
             volume.write_text("/x", "as built")
@@ -21,6 +21,10 @@ CONFTEST = """
 TESTS = """
     import pytest
 
+    @pytest.fixture
+    def volume(doorvervain_volume):
+        return doorvervain_volume
+
     @pytest.mark.parametrize("number", range(5))
     def test_it_is_as_built(volume, number):
         assert volume.read_text("/x") == "as built" and volume.listdir() == ["x"]
@@ -29,8 +33,8 @@ TESTS = """
         volume.create("/y")
         assert volume.stat("/y").modified == 7
 
-    def test_the_tree_itself_may_change(volume, volume_tree):
-        volume_tree.create("/z")
+    def test_the_tree_itself_may_change(volume, doorvervain_tree):
+        doorvervain_tree.create("/z")
         assert volume.listdir() == ["x"]
 
     def test_later_ones_do_not_see_it(volume):
@@ -57,11 +61,26 @@ class Plugin(unittest.TestCase):
         self.assertIn("7 passed", self.runs(conftest=named))
 
     def test_without_it(self):
-        self.assertIn("fixture 'volume' not found", self.runs("-p", "no:doorvervain.pytest_plugin", conftest=""))
+        self.assertIn("fixture 'doorvervain_volume' not found", self.runs("-p", "no:doorvervain.pytest_plugin", conftest=""))
 
     def test_the_tree_is_empty_unless_it_is_built(self):
-        tests = "def test_it(volume):\n    assert volume.listdir() == []\n"
+        tests = "def test_it(doorvervain_volume):\n    assert doorvervain_volume.listdir() == []\n"
         self.assertIn("1 passed", self.runs(conftest="", tests=tests))
+
+    def test_a_fixture_of_the_project_is_not_hidden(self):
+        tests = """
+            import pytest
+
+            @pytest.fixture
+            def volume():
+                return 11
+
+            def test_it(volume, doorvervain_volume):
+                assert volume == 11 and doorvervain_volume.listdir() == []
+        """
+        self.assertIn("1 passed", self.runs(conftest="", tests=tests))
+        names = {line.split()[0] for line in self.runs("--fixtures", conftest="", tests="").splitlines() if "pytest_plugin.py" in line}
+        self.assertEqual(names, {"doorvervain_tree", "doorvervain_volume"})
 
     def test_a_frozen_tree_will_do(self):
         frozen = CONFTEST.replace("yield volume", "yield volume.freeze()").replace("clock=lambda: 7", "")

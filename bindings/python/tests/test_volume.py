@@ -195,11 +195,12 @@ class Files(unittest.TestCase):
 
     def test_reads_of_all_lengths(self):
         data = bytes(i * i >> 8 & 0xFF for i in range(3 << 20))
-        for length in [0, 1, 4095, 4097, (1 << 15) - 1, 1 << 15, (1 << 15) + 1, 1 << 20, (1 << 20) + 1, 3 << 20]:
+        edges = [(1 << bits) + more for bits in (12, 14, 15) for more in (-1, 0, 1)]
+        for length in [0, 1, *edges, 1 << 20, (1 << 20) + 1, 3 << 20]:
             with self.subTest(length=length):
                 self.volume.write_bytes("/f", data[:length])
                 self.assertEqual(self.volume.stat("/f").size, length)
-                for size in [-1, 0, 1, length - 1, length, length + 1, 1 << 15, (1 << 20) + 7]:
+                for size in [-1, 0, 1, length - 1, length, length + 1, *edges, (1 << 20) + 7]:
                     for offset in [0, 1, 4096, length - 1, length, length + 1]:
                         if offset >= 0:
                             end = length if size < 0 else offset + size
@@ -365,6 +366,31 @@ class Snapshots(unittest.TestCase):
         self.assertEqual((volume.snapshots(), other.exists("/more")), (["s"], True))
         volume.restore("s")
         self.assertEqual(volume.listdir(), ["mine"])
+
+    def test_each_snapshot_has_its_shape(self):
+        small, usual = (4, 4, 4), doorvervain.USUAL
+        volume, tree = Volume(shape=small), Volume().freeze()
+        volume.snapshot("small")
+        volume.restore(tree)
+        volume.snapshot("usual")
+        self.assertEqual([volume.open_snapshot(name)._shape for name in ("small", "usual")], [small, usual])
+        for name, shape in [("small", small), ("usual", usual), ("small", small)]:
+            volume.restore(name)
+            self.assertEqual((volume._shape, volume.freeze()._shape, volume.fork()._shape), (shape,) * 3)
+            refused(self, FileNotFoundError, errno.ENOENT, volume.restore, "none")
+            refused(self, FileExistsError, errno.EEXIST, volume.snapshot, "usual")
+        volume.drop_snapshot("small")
+        for number in range(63):
+            volume.snapshot(f"s{number}")
+        refused(self, OSError, errno.ENOSPC, volume.snapshot, "more")
+        volume.restore("usual")
+        volume.drop_snapshot("s0")
+        volume.snapshot("small")
+        volume.restore("s62")
+        self.assertEqual((volume._shape, volume.open_snapshot("small")._shape), (small, usual))
+        volume.apply_delta(volume.delta("s1"))
+        volume.snapshot("usual")
+        self.assertEqual((volume._shape, volume.open_snapshot("usual")._shape), (small, small))
 
     def test_images(self):
         volume = Volume(clock=lambda: 9)
@@ -557,6 +583,102 @@ class Threads(unittest.TestCase):
             thread.join()
         self.assertEqual(faults, [])
         self.assertEqual(len(volume.listdir()), 9)
+
+    def run_all(self, *works):
+        """Runs each in a thread of its own, and raises what one of them raises."""
+        faults = []
+
+        def runs(work):
+            try:
+                work()
+            except BaseException as fault:
+                faults.append(fault)
+
+        crew = [threading.Thread(target=runs, args=(work,)) for work in works]
+        for thread in crew:
+            thread.start()
+        for thread in crew:
+            thread.join()
+        if faults:
+            raise faults[0]
+
+    def goes_on_beside(self, long, short):
+        """Whether short calls of one thread end in the middle of a long call of another: on a busy machine not each time."""
+        for _ in range(10):
+            began, ended, times = [], [], []
+
+            def runs_long():
+                began.append(time.perf_counter())
+                long()
+                ended.append(time.perf_counter())
+
+            def runs_short():
+                while not ended:
+                    short()
+                    times.append(time.perf_counter())
+
+            self.run_all(runs_long, runs_short)
+            quarter = (ended[0] - began[0]) / 4
+            if sum(began[0] + quarter < at < ended[0] - quarter for at in times) >= 10:
+                return True
+        return False
+
+    def test_calls_that_only_look_go_on_beside_each_other(self):
+        volume = Volume()
+        volume.snapshot("empty")
+        for number in range(20_000):
+            volume.write_bytes(f"/f{number}", b"x" * 100)
+        tree = volume.freeze()
+        for it, long in [(tree, tree.image), (volume, lambda: volume.delta("empty"))]:
+            for short in [
+                lambda: it.stat("/f1"), lambda: it.read("/f2"), lambda: it.scandir("/f3") if it.is_dir("/f3") else None,
+                lambda: it.fork().close(), lambda: it._next_extent("/f4", 0),
+            ]:
+                self.assertTrue(self.goes_on_beside(long, short))
+        self.assertTrue(self.goes_on_beside(lambda: volume.delta("empty"), lambda: (volume.snapshots(), volume.freeze().close())))
+        # what changes the volume does not wait for those that look at a frozen tree
+        self.assertTrue(self.goes_on_beside(tree.image, lambda: volume.create("/y") or volume.unlink("/y")))
+
+    def test_a_change_is_never_seen_in_part(self):
+        volume, sizes, stops = Volume(), [100, 5_000, 20_000, 100_000], threading.Event()
+        volume.write_bytes("/f", b"0" * 100)
+        volume.snapshot("s0")
+
+        def changes(number):
+            for turn in range(300):
+                volume.write_bytes("/f", b"%d" % number * sizes[turn % 4])
+                if turn % 10 == 9:
+                    volume.restore("s0")
+            stops.set()
+
+        def looks():
+            while not stops.is_set():
+                data = volume.read("/f")
+                self.assertIn(len(data), sizes)
+                self.assertEqual(data, data[:1] * len(data))
+                self.assertEqual(volume.listdir(), ["f"])
+
+        self.run_all(lambda: changes(1), lambda: changes(2), looks, looks, looks)
+
+    def test_a_frozen_tree_is_closed_beside_its_readers(self):
+        volume = Volume()
+        volume.write_bytes("/f", bytes(300_000))
+        for _ in range(20):
+            tree, reads = volume.freeze(), []
+
+            def looks():
+                with self.assertRaises(OSError) as caught:
+                    while True:
+                        reads.append(len(tree.read("/f")))
+                self.assertEqual(caught.exception.errno, errno.EBADF)
+
+            def closes():
+                while len(reads) < 20:
+                    time.sleep(0.0001)
+                tree.close()
+
+            self.run_all(looks, looks, looks, closes)
+            self.assertEqual(set(reads), {300_000})
 
     def test_the_lock_is_held_by_one_thread(self):
         volume, lock, order = Volume(), Volume()._lock, []

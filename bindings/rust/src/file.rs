@@ -131,8 +131,12 @@ impl Write for File<'_> {
             Tree::Live(volume) => volume,
             Tree::Frozen(_) => return Err(io::Error::from_raw_os_error(EBADF)),
         };
-        let from = if self.appends { self.size()? } else { self.position };
-        volume.write_at(&self.path, from, bytes)?;
+        let from = if self.appends {
+            volume.append(&self.path, bytes)?
+        } else {
+            volume.write_at(&self.path, self.position, bytes)?;
+            self.position
+        };
         self.position = from + bytes.len() as u64;
         Ok(bytes.len())
     }

@@ -3,18 +3,17 @@
 //! The obligations of a caller of the library, and how they are met:
 //! - *No null pointer, and no volume that is closed*: a handle owns a volume from its creation to its drop, and a slice is never
 //!   null.
-//! - *One thread at a time in a volume and in the trees frozen from it*: they share one lock, which each call holds. A fork has a
-//!   lock of its own: volumes that share nodes may be used by different threads at once.
+//! - *A call that changes a volume is in it alone; calls that only look may be in it beside each other*: each volume has a read-write
+//!   lock, which each call holds. A frozen tree has none: no call changes it, and its drop has the only reference.
 //! - *Bytes that a call writes overlap no others*: they are borrowed by `&mut`.
 #![allow(unsafe_code)]
 
 use crate::errno::{Errno, LoadError, SHORT};
 use crate::listing::{Kind, Stat};
-use std::cmp::Ordering;
 use std::ffi::c_void;
 use std::mem::ManuallyDrop;
-use std::ptr::{self, null_mut, NonNull};
-use std::sync::{Arc, Mutex, MutexGuard, PoisonError};
+use std::ptr::{null_mut, NonNull};
+use std::sync::{PoisonError, RwLock};
 
 /// The most bytes that one call reads.
 const MOST: usize = 1 << 20;
@@ -27,7 +26,7 @@ const DIRECTORY: u8 = 1;
 
 /// A volume or a frozen tree, as C has it. A copy is the same one.
 #[repr(C)]
-struct RawHandle {
+pub(crate) struct RawHandle {
     ptr: *mut c_void,
 }
 
@@ -146,39 +145,21 @@ fn done(number: u8) -> Result<(), Errno> {
     }
 }
 
-/// A volume or a frozen tree, with the lock that it shares.
-pub(crate) struct Held {
-    ptr: NonNull<c_void>,
-    lock: Arc<Mutex<()>>,
-}
+/// Something of the library, which its owner frees.
+struct Held(NonNull<c_void>);
 
-// SAFETY: the object is bound to no thread, each call into it and into the trees frozen from it holds the lock that they share, and
-// nodes that a fork shares with it are not changed.
+// SAFETY: nothing of the library is bound to a thread.
 unsafe impl Send for Held {}
 
 impl Held {
     /// Takes ownership of what a successful call wrote.
-    fn new(raw: &RawHandle, lock: Arc<Mutex<()>>) -> Result<Held, Errno> {
-        let ptr = NonNull::new(raw.ptr).ok_or(Errno::ENOMEM)?;
-        Ok(Held { ptr, lock })
+    fn new(raw: &RawHandle) -> Result<Held, Errno> {
+        NonNull::new(raw.ptr).map(Held).ok_or(Errno::ENOMEM)
     }
 
+    /// What is held, for one call. A call that only looks writes nothing there, not even in passing.
     fn raw(&self) -> RawHandle {
-        RawHandle { ptr: self.ptr.as_ptr() }
-    }
-
-    fn locked(&self) -> MutexGuard<'_, ()> {
-        self.lock.lock().unwrap_or_else(PoisonError::into_inner)
-    }
-
-    /// Takes the locks of two trees, which may be one: that at the lower address first, so that two threads that take the same two
-    /// never wait for each other.
-    fn both_locked<'a>(&'a self, other: &'a Held) -> (MutexGuard<'a, ()>, Option<MutexGuard<'a, ()>>) {
-        match Arc::as_ptr(&self.lock).cmp(&Arc::as_ptr(&other.lock)) {
-            Ordering::Less => (self.locked(), Some(other.locked())),
-            Ordering::Equal => (self.locked(), None),
-            Ordering::Greater => (other.locked(), Some(self.locked())),
-        }
+        RawHandle { ptr: self.0.as_ptr() }
     }
 }
 
@@ -186,55 +167,38 @@ const CLOSED: RawHandle = RawHandle { ptr: null_mut() };
 
 /// The read-only calls, which a volume and a frozen tree have in common.
 pub(crate) trait Reads {
-    fn held(&self) -> &Held;
+    /// Runs calls that only look while none changes the tree.
+    fn look<T>(&self, calls: impl FnOnce(*mut RawHandle) -> T) -> T;
     fn calls() -> Calls;
 
     fn read(&self, path: &[u8], offset: u64, out: &mut [u8]) -> Result<usize, Errno> {
-        let held = self.held();
-        let _lock = held.locked();
-        let (mut raw, mut done_bytes) = (held.raw(), 0);
-        loop {
-            let capacity = (out.len() - done_bytes).min(MOST);
-            let piece = &mut out[done_bytes..done_bytes + capacity];
-            let (mut got, from) = (0, offset.saturating_add(done_bytes as u64));
-            // SAFETY: the tree is there, under its lock; the bytes are those of slices.
-            done(unsafe {
-                (Self::calls().read)(
-                    &mut raw,
-                    path.as_ptr(),
-                    path.len(),
-                    from,
-                    piece.as_mut_ptr(),
-                    capacity,
-                    &mut got,
-                )
-            })?;
-            done_bytes += got;
-            if got < capacity || done_bytes == out.len() {
-                return Ok(done_bytes);
-            }
-        }
+        // SAFETY: the tree is there, and nothing changes it. So in the calls below.
+        self.look(|raw| unsafe { Self::calls().read_into(raw, path, offset, out) })
+    }
+
+    /// All bytes of a file, as they are at one time.
+    fn read_all(&self, path: &[u8]) -> Result<Vec<u8>, Errno> {
+        self.look(|raw| {
+            let stat = unsafe { Self::calls().stat_of(raw, path) }?;
+            let size = usize::try_from(stat.size).map_err(|_| Errno::ENOMEM)?;
+            let mut out = Vec::new();
+            out.try_reserve_exact(size).map_err(|_| Errno::ENOMEM)?;
+            out.resize(size, 0);
+            let got = unsafe { Self::calls().read_into(raw, path, 0, &mut out) }?;
+            out.truncate(got);
+            Ok(out)
+        })
     }
 
     fn stat(&self, path: &[u8]) -> Result<Stat, Errno> {
-        let held = self.held();
-        let _lock = held.locked();
-        let (mut raw, mut kind, mut size, mut modified) = (held.raw(), 0, 0, 0);
-        // SAFETY: as in `read`.
-        done(unsafe {
-            (Self::calls().stat)(&mut raw, path.as_ptr(), path.len(), &mut kind, &mut size, &mut modified)
-        })?;
-        let kind = if kind == DIRECTORY { Kind::Directory } else { Kind::File };
-        Ok(Stat { kind, size, modified })
+        self.look(|raw| unsafe { Self::calls().stat_of(raw, path) })
     }
 
     fn readdir(&self, path: &[u8]) -> Result<Vec<u8>, Errno> {
-        let held = self.held();
-        let _lock = held.locked();
-        let mut raw = held.raw();
-        // SAFETY: as in `read`.
-        filled(1024, |out, size| unsafe {
-            (Self::calls().readdir)(&mut raw, path.as_ptr(), path.len(), out.as_mut_ptr(), out.len(), size)
+        self.look(|raw| {
+            filled(1024, |out, size| unsafe {
+                (Self::calls().readdir)(raw, path.as_ptr(), path.len(), out.as_mut_ptr(), out.len(), size)
+            })
         })
     }
 }
@@ -263,15 +227,71 @@ pub(crate) struct Calls {
     readdir: List,
 }
 
+impl Calls {
+    /// Reads a file into a slice, piece by piece.
+    ///
+    /// # Safety
+    /// `raw` is a tree of the kind that these calls are for, and nothing changes it meanwhile.
+    unsafe fn read_into(&self, raw: *mut RawHandle, path: &[u8], offset: u64, out: &mut [u8]) -> Result<usize, Errno> {
+        let mut done_bytes = 0;
+        loop {
+            let capacity = (out.len() - done_bytes).min(MOST);
+            let piece = &mut out[done_bytes..done_bytes + capacity];
+            let (mut got, from, at) = (0, offset.saturating_add(done_bytes as u64), piece.as_mut_ptr());
+            done((self.read)(
+                raw,
+                path.as_ptr(),
+                path.len(),
+                from,
+                at,
+                capacity,
+                &mut got,
+            ))?;
+            done_bytes += got;
+            if got < capacity || done_bytes == out.len() {
+                return Ok(done_bytes);
+            }
+        }
+    }
+
+    /// Returns kind, size and mtime of an entry.
+    ///
+    /// # Safety
+    /// As of `read_into`.
+    unsafe fn stat_of(&self, raw: *mut RawHandle, path: &[u8]) -> Result<Stat, Errno> {
+        let (mut kind, mut size, mut modified) = (0, 0, 0);
+        done((self.stat)(
+            raw,
+            path.as_ptr(),
+            path.len(),
+            &mut kind,
+            &mut size,
+            &mut modified,
+        ))?;
+        let kind = if kind == DIRECTORY { Kind::Directory } else { Kind::File };
+        Ok(Stat { kind, size, modified })
+    }
+}
+
 /// A volume, which is freed with its owner.
-pub(crate) struct VolumeHandle(Held);
+pub(crate) struct VolumeHandle {
+    held: Held,
+    lock: RwLock<()>,
+}
+
+// SAFETY: a call that changes the volume holds the lock alone, and one that only looks holds it beside others that only look.
+unsafe impl Sync for VolumeHandle {}
 
 /// A frozen tree, which is freed with its owner.
 pub(crate) struct FrozenHandle(Held);
 
+// SAFETY: each call by a shared reference only looks.
+unsafe impl Sync for FrozenHandle {}
+
 impl Reads for VolumeHandle {
-    fn held(&self) -> &Held {
-        &self.0
+    fn look<T>(&self, calls: impl FnOnce(*mut RawHandle) -> T) -> T {
+        let _lock = self.lock.read().unwrap_or_else(PoisonError::into_inner);
+        calls(&mut self.held.raw())
     }
 
     fn calls() -> Calls {
@@ -284,8 +304,8 @@ impl Reads for VolumeHandle {
 }
 
 impl Reads for FrozenHandle {
-    fn held(&self) -> &Held {
-        &self.0
+    fn look<T>(&self, calls: impl FnOnce(*mut RawHandle) -> T) -> T {
+        calls(&mut self.0.raw())
     }
 
     fn calls() -> Calls {
@@ -298,175 +318,190 @@ impl Reads for FrozenHandle {
 }
 
 impl VolumeHandle {
+    /// Takes ownership of a volume that a successful call wrote.
+    fn new(raw: &RawHandle) -> Result<VolumeHandle, Errno> {
+        let (held, lock) = (Held::new(raw)?, RwLock::new(()));
+        Ok(VolumeHandle { held, lock })
+    }
+
     pub(crate) fn open(fanout: u16, pending: u16, leaf: u16) -> Result<VolumeHandle, Errno> {
         let mut out = CLOSED;
         // SAFETY: the out-parameter can be written.
         done(unsafe { doorvervain_raw_open(fanout, pending, leaf, &mut out) })?;
-        Ok(VolumeHandle(Held::new(&out, Arc::default())?))
+        VolumeHandle::new(&out)
+    }
+
+    /// Runs calls that may change the volume while nobody else is in it.
+    fn change<T>(&self, calls: impl FnOnce(*mut RawHandle) -> T) -> T {
+        let _lock = self.lock.write().unwrap_or_else(PoisonError::into_inner);
+        calls(&mut self.held.raw())
     }
 
     pub(crate) fn path_call(&self, call: PathCall, path: &[u8], at: u64) -> Result<(), Errno> {
-        let held = &self.0;
-        let _lock = held.locked();
-        // SAFETY: the volume is there, under its lock; the bytes are those of a slice. So in the calls below.
-        done(unsafe { call.call()(&mut held.raw(), path.as_ptr(), path.len(), at) })
+        // SAFETY: the volume is there, and nobody else is in it; the bytes are those of slices. So in the calls below.
+        self.change(|raw| done(unsafe { call.call()(raw, path.as_ptr(), path.len(), at) }))
     }
 
     pub(crate) fn rename(&self, from: &[u8], to: &[u8], at: u64) -> Result<(), Errno> {
-        let held = &self.0;
-        let _lock = held.locked();
         let (from_at, to_at) = (from.as_ptr(), to.as_ptr());
-        done(unsafe { doorvervain_raw_rename(&mut held.raw(), from_at, from.len(), to_at, to.len(), at) })
+        self.change(|raw| done(unsafe { doorvervain_raw_rename(raw, from_at, from.len(), to_at, to.len(), at) }))
     }
 
     pub(crate) fn truncate(&self, path: &[u8], size: u64, at: u64) -> Result<(), Errno> {
-        let held = &self.0;
-        let _lock = held.locked();
-        done(unsafe { doorvervain_raw_truncate(&mut held.raw(), path.as_ptr(), path.len(), size, at) })
+        self.change(|raw| done(unsafe { doorvervain_raw_truncate(raw, path.as_ptr(), path.len(), size, at) }))
     }
 
     pub(crate) fn write(&self, path: &[u8], offset: u64, bytes: &[u8], at: u64) -> Result<(), Errno> {
-        let held = &self.0;
-        let _lock = held.locked();
-        let (mut raw, from) = (held.raw(), bytes.as_ptr());
-        done(unsafe { doorvervain_raw_write(&mut raw, path.as_ptr(), path.len(), offset, from, bytes.len(), at) })
+        self.change(|raw| unsafe { write_at(raw, path, offset, bytes, at) })
+    }
+
+    /// Makes a file of these bytes, without others seeing a part of them.
+    pub(crate) fn replace(&self, path: &[u8], bytes: &[u8], at: u64) -> Result<(), Errno> {
+        self.change(|raw| {
+            match done(unsafe { doorvervain_raw_create(raw, path.as_ptr(), path.len(), at) }) {
+                Err(Errno::EEXIST) => done(unsafe { doorvervain_raw_truncate(raw, path.as_ptr(), path.len(), 0, at) })?,
+                ended => ended?,
+            }
+            unsafe { write_at(raw, path, 0, bytes, at) }
+        })
+    }
+
+    /// Writes at the end of a file, and returns where that was.
+    pub(crate) fn append(&self, path: &[u8], bytes: &[u8], at: u64) -> Result<u64, Errno> {
+        self.change(|raw| {
+            let size = unsafe { Self::calls().stat_of(raw, path) }?.size;
+            unsafe { write_at(raw, path, size, bytes, at) }?;
+            Ok(size)
+        })
     }
 
     pub(crate) fn punch(&self, path: &[u8], offset: u64, count: u64, at: u64) -> Result<(), Errno> {
-        let held = &self.0;
-        let _lock = held.locked();
-        done(unsafe { doorvervain_raw_punch(&mut held.raw(), path.as_ptr(), path.len(), offset, count, at) })
+        self.change(|raw| done(unsafe { doorvervain_raw_punch(raw, path.as_ptr(), path.len(), offset, count, at) }))
     }
 
     pub(crate) fn snapshot_call(&self, call: SnapshotCall, name: &[u8]) -> Result<(), Errno> {
-        let held = &self.0;
-        let _lock = held.locked();
-        done(unsafe { call.call()(&mut held.raw(), name.as_ptr(), name.len()) })
+        self.change(|raw| done(unsafe { call.call()(raw, name.as_ptr(), name.len()) }))
     }
 
-    /// The name of the snapshot at an index, in the order of names; none past the last.
-    pub(crate) fn snapshot_name(&self, index: usize) -> Option<String> {
-        let held = &self.0;
-        let _lock = held.locked();
-        let (mut raw, mut size, mut name) = (held.raw(), 0, vec![0; LONGEST_NAME]);
-        let number =
-            unsafe { doorvervain_raw_snapshot_name(&mut raw, index, name.as_mut_ptr(), name.len(), &mut size) };
-        done(number).ok()?;
-        name.truncate(size);
-        String::from_utf8(name).ok()
+    /// The names of all snapshots, in order, as they are at one time.
+    pub(crate) fn snapshot_names(&self) -> Vec<String> {
+        self.look(|raw| (0..).map_while(|index| unsafe { snapshot_name(raw, index) }).collect())
     }
 
     pub(crate) fn freeze(&self) -> Result<FrozenHandle, Errno> {
-        let held = &self.0;
-        let _lock = held.locked();
         let mut out = CLOSED;
-        done(unsafe { doorvervain_raw_freeze(&mut held.raw(), &mut out) })?;
-        Ok(FrozenHandle(Held::new(&out, Arc::clone(&held.lock))?))
+        self.look(|raw| done(unsafe { doorvervain_raw_freeze(raw, &mut out) }))?;
+        Held::new(&out).map(FrozenHandle)
     }
 
     pub(crate) fn fork(&self) -> Result<VolumeHandle, Errno> {
-        let held = &self.0;
-        let _lock = held.locked();
         let mut out = CLOSED;
-        done(unsafe { doorvervain_raw_fork(&mut held.raw(), &mut out) })?;
-        Ok(VolumeHandle(Held::new(&out, Arc::default())?))
+        self.look(|raw| done(unsafe { doorvervain_raw_fork(raw, &mut out) }))?;
+        VolumeHandle::new(&out)
     }
 
     pub(crate) fn restore_frozen(&self, tree: &FrozenHandle) -> Result<(), Errno> {
-        let (held, tree) = (&self.0, &tree.0);
-        let _locks = held.both_locked(tree);
-        done(unsafe { doorvervain_raw_restore_frozen(&mut held.raw(), &mut tree.raw()) })
+        self.change(|raw| tree.look(|tree| done(unsafe { doorvervain_raw_restore_frozen(raw, tree) })))
     }
 
     pub(crate) fn open_snapshot(&self, name: &[u8]) -> Result<FrozenHandle, Errno> {
-        let held = &self.0;
-        let _lock = held.locked();
         let mut out = CLOSED;
-        done(unsafe { doorvervain_raw_open_snapshot(&mut held.raw(), name.as_ptr(), name.len(), &mut out) })?;
-        Ok(FrozenHandle(Held::new(&out, Arc::clone(&held.lock))?))
+        self.look(|raw| done(unsafe { doorvervain_raw_open_snapshot(raw, name.as_ptr(), name.len(), &mut out) }))?;
+        Held::new(&out).map(FrozenHandle)
     }
 
     pub(crate) fn delta(&self, from: &[u8], to: &[u8]) -> Result<Vec<u8>, Errno> {
-        let held = &self.0;
-        let _lock = held.locked();
-        let mut raw = held.raw();
         let (from_at, to_at) = (from.as_ptr(), to.as_ptr());
-        filled(1024, |out, size| unsafe {
-            doorvervain_raw_delta(
-                &mut raw,
-                from_at,
-                from.len(),
-                to_at,
-                to.len(),
-                out.as_mut_ptr(),
-                out.len(),
-                size,
-            )
+        self.look(|raw| {
+            filled(1024, |out, size| unsafe {
+                let (out_at, capacity) = (out.as_mut_ptr(), out.len());
+                doorvervain_raw_delta(raw, from_at, from.len(), to_at, to.len(), out_at, capacity, size)
+            })
         })
     }
 
     /// Applies a delta; or returns the error, with the first bad line of the text.
     pub(crate) fn apply_delta(&self, text: &[u8]) -> Result<(), (Errno, u64)> {
-        let held = &self.0;
-        let _lock = held.locked();
         let mut line = 0;
-        let number = unsafe { doorvervain_raw_apply_delta(&mut held.raw(), text.as_ptr(), text.len(), &mut line) };
+        let number =
+            self.change(|raw| unsafe { doorvervain_raw_apply_delta(raw, text.as_ptr(), text.len(), &mut line) });
         done(number).map_err(|refused| (refused, line))
     }
 
     pub(crate) fn compact(&self, steps: u32) -> u32 {
-        let held = &self.0;
-        let _lock = held.locked();
-        unsafe { doorvervain_raw_compact(&mut held.raw(), steps) }
+        self.change(|raw| unsafe { doorvervain_raw_compact(raw, steps) })
     }
+}
+
+/// Writes bytes to a file.
+///
+/// # Safety
+/// `raw` is a volume that nobody else is in.
+unsafe fn write_at(raw: *mut RawHandle, path: &[u8], offset: u64, bytes: &[u8], at: u64) -> Result<(), Errno> {
+    let from = bytes.as_ptr();
+    done(doorvervain_raw_write(
+        raw,
+        path.as_ptr(),
+        path.len(),
+        offset,
+        from,
+        bytes.len(),
+        at,
+    ))
+}
+
+/// The name of the snapshot at an index, in the order of names; none past the last.
+///
+/// # Safety
+/// `raw` is a volume, and nothing changes it meanwhile.
+unsafe fn snapshot_name(raw: *mut RawHandle, index: usize) -> Option<String> {
+    let (mut size, mut name) = (0, vec![0; LONGEST_NAME]);
+    done(doorvervain_raw_snapshot_name(
+        raw,
+        index,
+        name.as_mut_ptr(),
+        name.len(),
+        &mut size,
+    ))
+    .ok()?;
+    name.truncate(size);
+    String::from_utf8(name).ok()
 }
 
 impl FrozenHandle {
     pub(crate) fn fork(&self) -> Result<VolumeHandle, Errno> {
-        let held = &self.0;
-        let _lock = held.locked();
         let mut out = CLOSED;
-        // SAFETY: the tree is there, under its lock; the out-parameter can be written.
-        done(unsafe { doorvervain_raw_frozen_fork(&mut held.raw(), &mut out) })?;
-        Ok(VolumeHandle(Held::new(&out, Arc::default())?))
+        // SAFETY: the tree is there, and the call only looks at it; the out-parameter can be written.
+        self.look(|raw| done(unsafe { doorvervain_raw_frozen_fork(raw, &mut out) }))?;
+        VolumeHandle::new(&out)
     }
 
     pub(crate) fn image(&self) -> Result<Vec<u8>, Errno> {
-        let held = &self.0;
-        let _lock = held.locked();
-        let mut raw = held.raw();
-        // SAFETY: the tree is there, under its lock; the bytes are those of a slice.
-        filled(1024, |out, size| unsafe {
-            doorvervain_raw_image(&mut raw, out.as_mut_ptr(), out.len(), size)
+        // SAFETY: the tree is there, and the call only looks at it; the bytes are those of a slice.
+        self.look(|raw| {
+            filled(1024, |out, size| unsafe {
+                doorvervain_raw_image(raw, out.as_mut_ptr(), out.len(), size)
+            })
         })
     }
 }
 
-/// Prints the image of a frozen tree, one piece at a time. It has the tree, and its lock.
+/// Prints the image of a frozen tree, which it has, one piece at a time.
 pub(crate) struct Printer(Held);
 
 impl Printer {
     /// Takes the tree.
     pub(crate) fn begin(tree: FrozenHandle) -> Result<Printer, Errno> {
-        let tree = ManuallyDrop::new(tree);
-        // SAFETY: the tree is not dropped, so this is its one owner.
-        let held = unsafe { ptr::read(&tree.0) };
-        let mut out = CLOSED;
-        let number = {
-            let _lock = held.locked();
-            // SAFETY: the tree is there, under its lock; the call closes it, whatever it returns.
-            unsafe { doorvervain_raw_print_begin(held.raw(), &mut out) }
-        };
-        done(number)?;
-        Ok(Printer(Held::new(&out, held.lock)?))
+        let (tree, mut out) = (ManuallyDrop::new(tree), CLOSED);
+        // SAFETY: the tree is not dropped, so this is its one owner; the call closes it, whatever it returns.
+        done(unsafe { doorvervain_raw_print_begin(tree.0.raw(), &mut out) })?;
+        Held::new(&out).map(Printer)
     }
 
     /// Writes the next bytes into the buffer, and returns how many, 0 only at the end of the image.
     pub(crate) fn next(&mut self, piece: &mut [u8]) -> Result<usize, Errno> {
-        let held = &self.0;
-        let _lock = held.locked();
-        let (mut raw, mut size) = (held.raw(), 0);
-        // SAFETY: the printer is there, under the lock of its tree; the bytes are those of a slice.
+        let (mut raw, mut size) = (self.0.raw(), 0);
+        // SAFETY: the printer is there, and no other thread has it; the bytes are those of a slice.
         done(unsafe { doorvervain_raw_print_next(&mut raw, piece.as_mut_ptr(), piece.len(), &mut size) })?;
         Ok(size)
     }
@@ -481,9 +516,7 @@ impl LoaderHandle {
         // SAFETY: the out-parameter can be written.
         let number = unsafe { doorvervain_raw_load_begin(fanout, pending, leaf, &mut out) };
         loaded(number, 0)?;
-        Held::new(&out, Arc::default())
-            .map(LoaderHandle)
-            .map_err(LoadError::Refused)
+        Held::new(&out).map(LoaderHandle).map_err(LoadError::Refused)
     }
 
     /// Feeds the next bytes of the text.
@@ -497,12 +530,10 @@ impl LoaderHandle {
     /// Ends the text.
     pub(crate) fn finish(self) -> Result<VolumeHandle, LoadError> {
         let (loader, mut out, mut line) = (ManuallyDrop::new(self), CLOSED, 0);
-        // SAFETY: the loader is not dropped, so this is its one owner, and its lock is that of the volume then.
-        let held = unsafe { ptr::read(&loader.0) };
-        // SAFETY: the loader is there; the call closes it, whatever it returns.
-        let number = unsafe { doorvervain_raw_load_finish(held.raw(), &mut line, &mut out) };
+        // SAFETY: the loader is not dropped, so this is its one owner; the call closes it, whatever it returns.
+        let number = unsafe { doorvervain_raw_load_finish(loader.0.raw(), &mut line, &mut out) };
         loaded(number, line)?;
-        Held::new(&out, held.lock).map(VolumeHandle).map_err(LoadError::Refused)
+        VolumeHandle::new(&out).map_err(LoadError::Refused)
     }
 }
 
@@ -514,36 +545,28 @@ fn loaded(number: u8, line: u64) -> Result<(), LoadError> {
     })
 }
 
+// SAFETY, in each drop: the owner is dropped, so nobody uses what it held again.
+
 impl Drop for Printer {
     fn drop(&mut self) {
-        let held = &self.0;
-        let _lock = held.locked();
-        // SAFETY: the owner is dropped, so nobody uses the printer again.
-        unsafe { doorvervain_raw_print_end(held.raw()) };
+        unsafe { doorvervain_raw_print_end(self.0.raw()) };
     }
 }
 
 impl Drop for LoaderHandle {
     fn drop(&mut self) {
-        // SAFETY: the owner is dropped, so nobody uses the loader again.
         unsafe { doorvervain_raw_load_abort(self.0.raw()) };
     }
 }
 
 impl Drop for VolumeHandle {
     fn drop(&mut self) {
-        let held = &self.0;
-        let _lock = held.locked();
-        // SAFETY: the owner is dropped, so nobody uses the volume again.
-        unsafe { doorvervain_raw_close(held.raw()) };
+        unsafe { doorvervain_raw_close(self.held.raw()) };
     }
 }
 
 impl Drop for FrozenHandle {
     fn drop(&mut self) {
-        let held = &self.0;
-        let _lock = held.locked();
-        // SAFETY: the owner is dropped, so nobody uses the tree again.
-        unsafe { doorvervain_raw_frozen_close(held.raw()) };
+        unsafe { doorvervain_raw_frozen_close(self.0.raw()) };
     }
 }

@@ -77,19 +77,21 @@ fn bytes_of(path: &Path) -> &[u8] {
 /// # Ok::<(), Errno>(())
 /// ```
 ///
-/// A volume may be moved to another thread (`Send`), as a frozen tree may:
+/// Threads may share a volume (`Sync`), and it may be moved to another (`Send`). It has a read-write lock: calls that only look run
+/// beside each other, and one that changes the volume runs alone. Each call is seen by others as a whole, also `read` and `write`; but
+/// `create_dir_all` and `File::create` are several calls.
 ///
 /// ```
-/// fn moved<T: Send>() {}
-/// moved::<doorvervain::Volume>();
-/// moved::<doorvervain::Frozen>();
-/// ```
-///
-/// but not be shared by two (not `Sync`):
-///
-/// ```compile_fail,E0277
-/// fn shared<T: Sync>() {}
-/// shared::<doorvervain::Volume>();
+/// # use doorvervain::{Errno, Volume};
+/// let volume = Volume::new()?;
+/// std::thread::scope(|scope| {
+///     for thread in 0..4 {
+///         let volume = &volume;
+///         scope.spawn(move || volume.write(format!("/{thread}"), "rain"));
+///     }
+/// });
+/// assert_eq!(volume.readdir("/")?.len(), 4);
+/// # Ok::<(), Errno>(())
 /// ```
 pub struct Volume {
     handle: VolumeHandle,
@@ -104,19 +106,16 @@ pub struct Volume {
 /// let volume = Volume::new()?;
 /// volume.create("/x")?;
 /// let tree = volume.freeze()?;
-/// volume.unlink("/x")?;
-/// let seen = std::thread::spawn(move || tree.exists("/x")).join();
-/// assert_eq!(seen.unwrap(), Ok(true));
+/// std::thread::scope(|scope| {
+///     let readers = [scope.spawn(|| tree.exists("/x")), scope.spawn(|| tree.exists("/x"))];
+///     volume.unlink("/x").unwrap();
+///     assert!(readers.into_iter().all(|reader| reader.join().unwrap() == Ok(true)));
+/// });
 /// assert_eq!(volume.exists("/x"), Ok(false));
 /// # Ok::<(), Errno>(())
 /// ```
 ///
-/// Nor may two threads share it:
-///
-/// ```compile_fail,E0277
-/// fn shared<T: Sync>() {}
-/// shared::<doorvervain::Frozen>();
-/// ```
+/// Any number of threads may read it at the same time, without a lock (`Sync`).
 pub struct Frozen {
     handle: FrozenHandle,
 }
@@ -137,15 +136,7 @@ macro_rules! read_only_calls {
             /// # Errors
             /// `ENOENT`, `ENOTDIR`: the path does not exist; `EISDIR`: it is a directory; `ENOMEM`.
             pub fn read<P: AsRef<Path>>(&self, path: P) -> Result<Vec<u8>, Errno> {
-                let path = bytes_of(path.as_ref());
-                let stat = self.handle.stat(path)?;
-                let size = usize::try_from(stat.size).map_err(|_| Errno::ENOMEM)?;
-                let mut out = Vec::new();
-                out.try_reserve_exact(size).map_err(|_| Errno::ENOMEM)?;
-                out.resize(size, 0);
-                let got = self.handle.read(path, 0, &mut out)?;
-                out.truncate(got);
-                Ok(out)
+                self.handle.read_all(bytes_of(path.as_ref()))
             }
 
             /// Returns a file as text.
@@ -304,12 +295,10 @@ macro_rules! changing_calls {
             /// `ENOENT`, `ENOTDIR`: the parent is not a directory; `EISDIR`: the path is a directory; `EFBIG`: more than 2^40 bytes; `ENOMEM`:
             /// the file may be empty then.
             pub fn write<P: AsRef<Path>, B: AsRef<[u8]>>(&self, path: P, bytes: B) -> Result<(), Errno> {
-                let path = path.as_ref();
-                match self.create(path) {
-                    Err(Errno::EEXIST) => self.truncate(path, 0)?,
-                    ended => ended?,
-                }
-                self.write_at(path, 0, bytes)
+                let path = bytes_of(path.as_ref());
+                self.volume()
+                    .handle
+                    .replace(path, bytes.as_ref(), self.timestamp())
             }
 
             /// Writes bytes to a file that exists from `offset` on, in bytes, and extends it if they reach past its end. The write is atomic.
@@ -377,6 +366,11 @@ impl Volume {
 
     fn timestamp(&self) -> u64 {
         (self.clock)()
+    }
+
+    /// Writes bytes at the end of a file, and returns where that was: no other call comes between.
+    pub(crate) fn append(&self, path: &Path, bytes: &[u8]) -> Result<u64, Errno> {
+        self.handle.append(bytes_of(path), bytes, self.timestamp())
     }
 
     /// A volume over a handle, with the clock of the system.
@@ -505,8 +499,7 @@ impl Volume {
 
     /// The names of the snapshots as they are now, in order: a snapshot may be taken or dropped meanwhile.
     pub fn snapshots(&self) -> impl Iterator<Item = String> {
-        let names: Vec<String> = (0..).map_while(|index| self.handle.snapshot_name(index)).collect();
-        names.into_iter()
+        self.handle.snapshot_names().into_iter()
     }
 
     /// Freezes the current tree, in constant time.

@@ -1,6 +1,6 @@
 //! Each call: what it gives, what it refuses, and what stands still.
-use doorvervain::{DeltaError, Errno, Frozen, Kind, LoadError, Shape, Stat, Volume};
-use std::io;
+use doorvervain::{DeltaError, Errno, File, Frozen, Kind, LoadError, Shape, Stat, Volume};
+use std::io::{self, Write};
 use std::path::Path;
 use std::thread;
 
@@ -253,6 +253,72 @@ fn threads() -> Outcome {
     assert_eq!(moved.join().expect("it ends"), Ok(7));
     for reader in readers {
         assert!(reader.join().expect("it ends"));
+    }
+    Ok(())
+}
+
+/// One frozen tree is read, forked and printed by several threads at once.
+#[test]
+fn threads_share_a_frozen_tree() -> Outcome {
+    let volume = Volume::new()?;
+    for number in 0..500_u32 {
+        volume.write(format!("/f{number}"), number.to_string().repeat(50))?;
+    }
+    let tree = volume.freeze()?;
+    let image = tree.image()?;
+    let read_all = |first: u32| -> Outcome {
+        for number in (first..500).chain(0..first) {
+            let path = format!("/f{number}");
+            assert_eq!(tree.read(&path)?, number.to_string().repeat(50).into_bytes());
+            tree.fork()?.unlink(&path)?;
+        }
+        assert_eq!(tree.readdir("/")?.len(), 500);
+        assert_eq!(tree.image()?, image);
+        Ok(())
+    };
+    thread::scope(|scope| {
+        let readers: Vec<_> = (0..4)
+            .map(|reader| scope.spawn(move || read_all(reader * 125)))
+            .collect();
+        for number in 0..500_u32 {
+            volume.unlink(format!("/f{number}"))?;
+        }
+        readers
+            .into_iter()
+            .try_for_each(|reader| reader.join().expect("it ends"))
+    })
+}
+
+/// Appends of several threads are all kept, and a file that is written is never seen in part.
+#[test]
+fn threads_share_a_volume() -> Outcome {
+    let volume = Volume::new()?;
+    volume.write("/whole", "0".repeat(1000))?;
+    let append = |letter: &str| {
+        let mut lines = File::append(&volume, "/lines").expect("it is there");
+        for number in 1..=200_usize {
+            lines.write_all(letter.as_bytes()).expect("it is written");
+            volume
+                .write("/whole", letter.repeat(1000 + number))
+                .expect("it is written");
+        }
+    };
+    let look = || {
+        for _ in 0..200 {
+            let whole = volume.read("/whole").expect("it is there");
+            assert!(whole.len() >= 1000 && whole.iter().all(|&byte| byte == whole[0]));
+        }
+    };
+    thread::scope(|scope| {
+        let append = &append;
+        for letter in ["a", "b", "c"] {
+            scope.spawn(move || append(letter));
+            scope.spawn(look);
+        }
+    });
+    let lines = volume.read("/lines")?;
+    for letter in b"abc" {
+        assert_eq!(lines.iter().filter(|&byte| byte == letter).count(), 200);
     }
     Ok(())
 }
