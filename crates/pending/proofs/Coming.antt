@@ -3,7 +3,6 @@ use Rattle.std.proofs.Common.{◌≡◌, ℕ, ◌+◌, ◌<◌, ◌≤◌, List,
 use Rattle.std.proofs.Math.Seq.{take-append_seam, drop-append_seam}
 use Rattle.std.specs.List.{All, filter, slice_get}
 use Rattle.std.specs.Prelude.{Result, Ok, Err, OnOk, OnErr}
-use Rattle.std.proofs.lemmas.Result.{on_ok_weaker}
 use Rattle.std.specs.BTreeMap.{is_at}
 use Rattle.std.proofs.lemmas.Bool.{or_parts}
 use Rattle.std.proofs.lemmas.List.Elements.{All-nil, All-cons}
@@ -38,7 +37,7 @@ module _ {U V : Type 0} (means : U → Option V → Option V) where
   -- ---- a message for one key
 
   -- the points take a message that they mean
-  pub takes_inserts : (m : Msg U V) (es fs : List (List ℕ × List (KeyOp U V))) (k : List ℕ) → Rises es → Rises fs → AreRuns es → ((q : List ℕ) → touches m q ≡ same k q) → Inserts means k (made_of means m) es fs → point_count fs ≤ point_count es + 1 → Takes means (point_msgs es) (m ∷ []) (point_msgs fs)
+  takes_inserts : (m : Msg U V) (es fs : List (List ℕ × List (KeyOp U V))) (k : List ℕ) → Rises es → Rises fs → AreRuns es → ((q : List ℕ) → touches m q ≡ same k q) → Inserts means k (made_of means m) es fs → point_count fs ≤ point_count es + 1 → Takes means (point_msgs es) (m ∷ []) (point_msgs fs)
   takes_inserts m es fs k s t r w l b = record {
     meaning = λ q o.
         effects-points means fs q o t
@@ -52,16 +51,16 @@ module _ {U V : Type 0} (means : U → Option V → Option V) where
   }
 
   -- what stands before a list stays before it
-  pub takes_behind : (p a x b : List (Msg U V)) → Takes means a x b → Takes means (p ++ a) x (p ++ b)
+  takes_behind : (p a x b : List (Msg U V)) → Takes means a x b → Takes means (p ++ a) x (p ++ b)
   takes_behind p a x b t = record {
     meaning = λ k v. effects-append means p b k v ∙ t.meaning k (effects means p k v) ∙ ap (λ w. effects means x k w) (sym (effects-append means p a k v));
     bound = omega (arith, t.bound, length-append p a, length-append p b);
     touched = λ k h g. any_touches-append p b k (untouched_first p a k h) (t.touched k (untouched_second p a k h) g);
   }
 
-  -- the whole list takes a message that its points take
-  pub inserts_point : {E : Type 0} (r : Result Unit E) (m n : Msg U V) (rs : List Span) (es fs : List (List ℕ × List (KeyOp U V))) → n ≡ m → OnOk r (Takes means (point_msgs es) (m ∷ []) (point_msgs fs)) → OnOk r (Takes means (sorted_msgs rs es) (n ∷ []) (sorted_msgs rs fs))
-  inserts_point r m n rs es fs e t = subst (λ x. OnOk r (Takes means (sorted_msgs rs es) (x ∷ []) (sorted_msgs rs fs))) (sym e) (on_ok_weaker r (λ l. takes_behind (range_msgs rs) (point_msgs es) (m ∷ []) (point_msgs fs) l) t)
+  -- the whole list takes a message that its points mean
+  pub inserts_point : (m n : Msg U V) (rs : List Span) (es fs : List (List ℕ × List (KeyOp U V))) (k : List ℕ) → n ≡ m → Rises es → Rises fs → AreRuns es → ((q : List ℕ) → touches m q ≡ same k q) → Inserts means k (made_of means m) es fs → point_count fs ≤ point_count es + 1 → Takes means (sorted_msgs rs es) (n ∷ []) (sorted_msgs rs fs)
+  inserts_point m n rs es fs k e s t r w l b = subst (λ x. Takes means (sorted_msgs rs es) (x ∷ []) (sorted_msgs rs fs)) (sym e) (takes_behind (range_msgs rs) (point_msgs es) (m ∷ []) (point_msgs fs) (takes_inserts m es fs k s t r w l b))
 
   -- a message that finds no place stands behind what stayed
   pub inserts_none : (m : Msg U V) (old new : List (Msg U V)) → new ≡ old → Takes means old (m ∷ []) (new ++ m ∷ [])

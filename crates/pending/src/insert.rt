@@ -5,12 +5,12 @@
 ghost use Rattle.std.specs.Prelude.{◌≡◌, ◌+◌, ◌^◌, ◌<◌, ◌++◌, [], ◌∷◌, length, IfErr, OnOk, OnErr};
 ghost use Rattle.message.specs.Effects.{Takes};
 ghost use Rattle.message.specs.declared.msg.Msg.TheVariants as msg;
-ghost use Rattle.point_ops.specs.PointOps.{point_count, point_msgs};
+ghost use Rattle.point_ops.specs.PointOps.{point_count};
 ghost use Rattle.pending.specs.SortedMsgs.{sorted_msgs};
 
 use message::ends::is_before_end;
 use message::{Msg, Update};
-use pathkey::{Key, KeyRange};
+use pathkey::KeyRange;
 use point_ops::PointOps;
 use range_set::RangeSet;
 use std::alloc::Global;
@@ -28,70 +28,30 @@ pub(crate) fn insert<U: Update>(
     ensures refused { OnErr result (Takes U.means (sorted_msgs ranges.old points.old) (msg ∷ []) (sorted_msgs ranges.new points.new ++ msg ∷ [])) }
     ensures back { IfErr result (λ m. m ≡ msg) }
 {
+    points.assert_invariant();
     match msg {
-        Msg::Put(key, value) => put(points, key, value),
-        Msg::Del(key) => del(points, key),
+        Msg::Put(key, value) => match points.put(key, value) {
+            Ok(()) => {
+                points.assert_invariant();
+                Ok(())
+            }
+            Err((key, value)) => Err(Msg::Put(key, value)),
+        },
+        Msg::Del(key) => match points.del(key) {
+            Ok(()) => {
+                points.assert_invariant();
+                Ok(())
+            }
+            Err(key) => Err(Msg::Del(key)),
+        },
         Msg::DelRange(range) => del_range(ranges, points, alloc, range),
-        Msg::Edit(key, update) => edit(points, alloc, key, update),
-    }
-}
-
-/// Lays a message that gives the key a value.
-#[inline(always)]
-fn put<U: Update>(points: &mut PointOps<U>, key: Key, value: U::Value) -> Result<(), Msg<U>>
-    requires { point_count points.old < 2 ^ 62 }
-    ensures takes { OnOk result (Takes U.means (point_msgs points.old) (msg.Put key value ∷ []) (point_msgs points.new)) }
-    ensures unchanged { OnErr result (points.new ≡ points.old) }
-    ensures back { IfErr result (λ m. m ≡ msg.Put key value) }
-{
-    points.assert_invariant();
-    match points.put(key, value) {
-        Ok(()) => {
-            points.assert_invariant();
-            Ok(())
-        }
-        Err((key, value)) => Err(Msg::Put(key, value)),
-    }
-}
-
-/// Lays a message that takes the key's value away.
-#[inline(always)]
-fn del<U: Update>(points: &mut PointOps<U>, key: Key) -> Result<(), Msg<U>>
-    requires { point_count points.old < 2 ^ 62 }
-    ensures takes { OnOk result (Takes U.means (point_msgs points.old) (msg.Del key ∷ []) (point_msgs points.new)) }
-    ensures unchanged { OnErr result (points.new ≡ points.old) }
-    ensures back { IfErr result (λ m. m ≡ msg.Del key) }
-{
-    points.assert_invariant();
-    match points.del(key) {
-        Ok(()) => {
-            points.assert_invariant();
-            Ok(())
-        }
-        Err(key) => Err(Msg::Del(key)),
-    }
-}
-
-/// Lays an update over the key's value.
-#[inline(always)]
-fn edit<U: Update>(
-    points: &mut PointOps<U>,
-    alloc: Global,
-    key: Key,
-    update: U,
-) -> Result<(), Msg<U>>
-    requires { point_count points.old < 2 ^ 62 }
-    ensures takes { OnOk result (Takes U.means (point_msgs points.old) (msg.Edit key update ∷ []) (point_msgs points.new)) }
-    ensures unchanged { OnErr result (points.new ≡ points.old) }
-    ensures back { IfErr result (λ m. m ≡ msg.Edit key update) }
-{
-    points.assert_invariant();
-    match points.edit(alloc, key, update) {
-        Ok(()) => {
-            points.assert_invariant();
-            Ok(())
-        }
-        Err((key, update)) => Err(Msg::Edit(key, update)),
+        Msg::Edit(key, update) => match points.edit(alloc, key, update) {
+            Ok(()) => {
+                points.assert_invariant();
+                Ok(())
+            }
+            Err((key, update)) => Err(Msg::Edit(key, update)),
+        },
     }
 }
 

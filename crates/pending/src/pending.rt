@@ -89,7 +89,14 @@ impl<U: Update> Pending<U> {
         ensures takes { Takes U.means self.old.0 (msg ∷ []) self.new.0 }
         ensures room { self.old.1 ≤ self.new.1 + 1 }
     {
-        insert(&mut self.sorted, &mut self.tail_msgs, msg);
+        condense(&mut self.sorted, &mut self.tail_msgs);
+        if self.tail_msgs.len() > 0 {
+            self.push_uncondensed(msg);
+            return;
+        }
+        if let Err(refused) = self.sorted.push(self.tail_msgs.allocator(), msg) {
+            self.push_uncondensed(refused);
+        }
     }
 
     /// Adds all messages of `newer`, in their order and newer than all others, into reserved room, and
@@ -594,23 +601,6 @@ impl<U: Update> Pending<U> {
     {
         let first = self.sorted.range_deleted_until(from, end);
         self.tail_msgs.stretch_stop(alloc, from, first)
-    }
-}
-
-/// Lays a message over the sorted part, or puts it behind the others where it finds no place there.
-#[inline(always)]
-fn insert<U: Update>(sorted: &mut SortedMsgs<U>, tail_msgs: &mut Tail<U>, msg: Msg<U>)
-    requires { 0 < tail_msgs.old.1 }
-    ensures takes { Takes U.means (sorted.old ++ tail_msgs.old.0) (msg ∷ []) (sorted.new ++ tail_msgs.new.0) }
-    ensures room { tail_msgs.old.1 ≤ tail_msgs.new.1 + 1 }
-{
-    condense(sorted, tail_msgs);
-    if tail_msgs.len() > 0 {
-        tail_msgs.push_reserved(msg);
-        return;
-    }
-    if let Err(msg) = sorted.push(tail_msgs.allocator(), msg) {
-        tail_msgs.push_reserved(msg);
     }
 }
 
