@@ -7,21 +7,23 @@
 #include "private_dir.h"
 #include "delta_parse.h"
 #include "delta_print.h"
-#include "requests.h"
 #include "memlimit.h"
 #include "snapshots.h"
+#include "workers.h"
 #include <assert.h>
 #include <errno.h>
 #include <string.h>
-#include <time.h>
-
-enum { REST = 100000, MOST_AT_ONCE = 1 << 17 }; // nanoseconds, bytes
 
 // ---- a difference is printed
 
+// Prints a fork, so that no lock is needed.
 static int open_tree(struct mount *mount, const char *name, struct doorvervain_printer *out) {
+    struct doorvervain fork;
     struct doorvervain_frozen tree;
-    uint8_t number = doorvervain_open_snapshot(mount->backend.tree, name, strlen(name), &tree);
+    int err = worker_fork(mount, name, &fork);
+    if (err) return err;
+    uint8_t number = doorvervain_freeze(&fork, &tree);
+    doorvervain_close(&fork);
     return doorvervain_errno(number ? number : doorvervain_print_begin(out, &tree));
 }
 
@@ -45,20 +47,13 @@ int delta_open_trees(struct mount *mount, const struct send_request *wanted, str
 }
 
 void delta_close_trees(struct delta_trees *trees) {
-    requests_lock();
     doorvervain_print_end(&trees->from);
     doorvervain_print_end(&trees->to);
-    requests_unlock();
 }
 
-// Pieces are short, and between two there is a rest: so a request that waits for the lock gets it.
 static int next_piece(void *self, struct doorvervain_printer *image, uint8_t *out, size_t capacity, size_t *size) {
     (void)self;
-    nanosleep(&(struct timespec){0, REST}, NULL);
-    requests_lock();
-    uint8_t number = doorvervain_print_next(image, out, capacity < MOST_AT_ONCE ? capacity : MOST_AT_ONCE, size);
-    requests_unlock();
-    return doorvervain_errno(number);
+    return doorvervain_errno(doorvervain_print_next(image, out, capacity, size));
 }
 
 static int put_text(void *self, const char *bytes, size_t count) { return bytes_append(self, bytes, count); }

@@ -2,10 +2,11 @@
 //
 // Invariant: `entries` is the number of names that requests added, less those that they removed, since the tree was
 // frozen that was walked last, and of the names in that one once the walk has ended. A walk that begins later counts
-// alone.
+// alone. `names` of a directory is right where its `names_gen` is the mount's `tree_gen`.
 #include "entry_count.h"
 #include "memlimit.h"
 #include "requests.h"
+#include "workers.h"
 #include <assert.h>
 #include <errno.h>
 #include <stdio.h>
@@ -13,7 +14,7 @@
 
 struct walk {
     struct mount *mount;
-    struct doorvervain_frozen tree;
+    struct doorvervain tree;  // a fork
     struct bytes directories; // that are not listed yet: paths, each with a byte 0
     struct bytes names;       // of one
     int64_t found;
@@ -25,22 +26,6 @@ static void pop(struct bytes *paths, char out[LONGEST_PATH + 1]) {
     while (from && paths->at[from - 1]) from--;
     snprintf(out, LONGEST_PATH + 1, "%s", paths->at + from);
     paths->length = from;
-}
-
-static int list(struct walk *walk, const char *path) {
-    const char *of = *path ? path : "/";
-    struct bytes *names = &walk->names;
-    size_t size = 4096;
-    uint8_t number = DOORVERVAIN_ERANGE;
-    names->length = 0;
-    while (number == DOORVERVAIN_ERANGE) {
-        if (bytes_reserve(names, size)) return ENOMEM;
-        requests_lock();
-        number = doorvervain_frozen_readdir(&walk->tree, of, strlen(of), names->at, names->capacity, &size);
-        requests_unlock();
-    }
-    names->length = number ? 0 : size;
-    return doorvervain_errno(number);
 }
 
 // The mount's own directory counts for nothing.
@@ -63,7 +48,7 @@ static int walk_all(struct walk *walk) {
     int err = bytes_append(&walk->directories, "", 1);
     while (!err && walk->directories.length) {
         pop(&walk->directories, path);
-        err = list(walk, path);
+        err = worker_list(&walk->tree, *path ? path : "/", &walk->names);
         if (!err) err = count_names(walk, path);
     }
     bytes_free(&walk->directories);
@@ -74,7 +59,7 @@ static int walk_all(struct walk *walk) {
 static int begin(struct walk *walk, uint64_t *walks) {
     struct mount *mount = walk->mount;
     requests_lock();
-    int err = doorvervain_errno(doorvervain_freeze(mount->backend.tree, &walk->tree));
+    int err = worker_fork(mount, NULL, &walk->tree);
     *walks = ++mount->entry_walks;
     mount->entries = mount->deferred ? -1 : 0; // the tree still has the name of a file that is deferred
     mount->entries_known = false;
@@ -87,8 +72,8 @@ void entry_count_walk(struct mount *mount) {
     uint64_t walks;
     if (!mount->backend.tree || begin(&walk, &walks)) return;
     int err = walk_all(&walk);
+    doorvervain_close(&walk.tree);
     requests_lock();
-    doorvervain_frozen_close(&walk.tree);
     if (!err && walks == mount->entry_walks) {
         mount->entries += walk.found;
         mount->entries_known = true;
@@ -96,9 +81,22 @@ void entry_count_walk(struct mount *mount) {
     requests_unlock();
 }
 
-void entry_count_add(struct mount *mount, int change) {
+void entry_count_add(struct mount *mount, struct inode *directory, int change) {
     assert(request_lock_is_held(mount));
     mount->entries += change;
+    if (change > 0 || directory->names) directory->names += (uint64_t)(int64_t)change;
+}
+
+void entry_count_note(const struct mount *mount, struct inode *directory, uint64_t count) {
+    assert(request_lock_is_held(mount));
+    directory->names_gen = mount->tree_gen;
+    directory->names = count;
+}
+
+uint64_t entry_count_guess(const struct mount *mount, const struct inode *directory) {
+    const struct inode *root = inode_root(directory);
+    if (directory->names_gen == mount->tree_gen) return directory->names;
+    return root && root->role == SNAPSHOT_ROOT ? root->entries : entry_count(mount);
 }
 
 void entry_count_set(struct mount *mount, uint64_t count) {

@@ -128,9 +128,11 @@ static void set_headers(struct etcd_client *etcd) {
     etcd->headers = curl_slist_append(etcd->headers, head);
 }
 
+// The authority that is named is the only one: libcurl would add those of a directory of the system's.
 static void set_trust(struct etcd_client *etcd) {
     const struct etcd_options *options = etcd->members->options;
     if (options->cacert) curl_easy_setopt(etcd->curl, CURLOPT_CAINFO, options->cacert);
+    if (options->cacert) curl_easy_setopt(etcd->curl, CURLOPT_CAPATH, NULL);
     if (options->cert) curl_easy_setopt(etcd->curl, CURLOPT_SSLCERT, options->cert);
     if (options->key) curl_easy_setopt(etcd->curl, CURLOPT_SSLKEY, options->key);
 }

@@ -387,15 +387,18 @@ static void leave_out(struct bytes *listing, const char *name) {
     }
 }
 
+void fs_hide_reserved(const struct inode *directory, struct bytes *listing) {
+    if (directory->role != LIVE_ROOT && directory->role != SNAPSHOT_ROOT) return;
+    leave_out(listing, RESERVED);
+    leave_out(listing, SNAPSHOTS);
+}
+
 int fs_readdir(struct mount *mount, struct inode *inode, struct bytes *out) {
     assert(request_lock_is_held(mount));
     struct resolved_path resolved;
     if (inode->role == SNAPSHOT_FOLDER) return list_snapshots(inode, out);
     int err = inode_path(inode, NULL, &resolved);
     if (!err) err = backend_readdir(&mount->backend, (struct path_ref){resolved.snapshot, resolved.path}, out);
-    if (!err && (inode->role == LIVE_ROOT || inode->role == SNAPSHOT_ROOT)) {
-        leave_out(out, RESERVED);
-        leave_out(out, SNAPSHOTS);
-    }
+    if (!err) fs_hide_reserved(inode, out);
     return err;
 }

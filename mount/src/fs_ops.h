@@ -57,6 +57,8 @@ int fs_readlink(const struct request *request, struct inode *inode, struct bytes
 
 // The names of a directory, as `struct backend_ops` tells them; those of the mount's own are left out.
 int fs_readdir(struct mount *mount, struct inode *inode, struct bytes *out);
+// Takes those of the mount's own out of a listing of a directory.
+void fs_hide_reserved(const struct inode *directory, struct bytes *listing);
 
 // Whether a name in a directory is one of the mount's own, which no user's file has.
 bool fs_is_reserved(const struct inode *parent, const char *name);

@@ -188,7 +188,7 @@ int hardlink_create(struct request *request, struct inode *inode, struct inode *
     } while (memlimit_retry(&request->budget, &mount->backend, &err));
     out->inode = inode;
     if (err) return err;
-    entry_count_add(mount, 1);
+    entry_count_add(mount, parent, 1);
     fs_fill_stat(mount, inode, args.file, &out->stat);
     return 0;
 }

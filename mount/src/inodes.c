@@ -15,7 +15,7 @@ static uint64_t numbers;   // of entries that there ever were
 static struct inode *gone; // out of the tree, and held: at the end of a mount the kernel does not forget all of them
 static struct timespec began;
 
-enum { NANOSECONDS = 1000000000 };
+enum { NANOSECONDS = 1000000000, SLOTS_AT_ONCE = 1024 };
 
 static struct timespec now(void) {
     struct timespec time;
@@ -119,6 +119,16 @@ struct inode *inode_find(const struct inode *parent, const char *name) {
     for (struct inode *inode = slots[slot_of(parent, name)]; inode; inode = inode->same_slot)
         if (inode->parent == parent && !strcmp(inode->name, name)) return inode;
     return NULL;
+}
+
+// Where there are twice as many slots meanwhile, what stood at one of those to come does so still.
+bool inodes_next_known(size_t *slot, struct bytes *out) {
+    size_t end = *slot + SLOTS_AT_ONCE < slot_count ? *slot + SLOTS_AT_ONCE : slot_count;
+    out->length = 0;
+    for (; *slot < end; ++*slot)
+        for (const struct inode *inode = slots[*slot]; inode; inode = inode->same_slot)
+            if (inode->nlookup) bytes_append(out, &inode, sizeof inode);
+    return *slot < slot_count;
 }
 
 struct inode *inode_add(struct inode *parent, const char *name, bool is_directory) {

@@ -55,7 +55,9 @@ struct inode {
     struct timespec access, change;
     bool has_access;
     uint64_t entries; // of a snapshot's root: names in its tree (entry_count.h)
-    bool is_pinned;   // an unlinked file that could not be removed yet: not freed with its directory
+    // Of a directory: how many names it has, and in which state of the mount that was known.
+    uint64_t names, names_gen;
+    bool is_pinned; // an unlinked file that could not be removed yet: not freed with its directory
 };
 
 // The path of an inode. `path` points into `text`.
@@ -81,6 +83,9 @@ void inodes_renumber(struct inode *root);
 void inode_detach(struct inode *inode);
 // Gives an inode another name, which it then owns.
 void inode_move(struct inode *inode, struct inode *parent, char *name);
+// The numbers, in memory, of the next inodes that the kernel knows: their addresses. `*slot` is 0 at first. False: there
+// are no more. Those that come meanwhile may be left out. Without memory some are.
+bool inodes_next_known(size_t *slot, struct bytes *out);
 // Whether the kernel knows the inode, or somebody has it open.
 bool inode_is_held(const struct inode *inode);
 // Frees an inode that nobody holds, and what nobody holds below it and just above it.

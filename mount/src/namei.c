@@ -85,7 +85,8 @@ int namei_create(struct request *request, struct inode *parent, const char *name
         err = make(mount, parent, name, &resolved, &wanted, request->at, &out->inode);
     } while (memlimit_retry(&request->budget, &mount->backend, &err));
     if (err) return err;
-    entry_count_add(mount, 1);
+    entry_count_add(mount, parent, 1);
+    if (is_directory) entry_count_note(mount, out->inode, 0);
     size_t length = args->target ? strlen(args->target) : 0;
     holes_dense(mount, out->inode, length);
     fs_fill_stat(mount, out->inode, (struct node_stat){is_directory, length, request->at}, &out->stat);
@@ -125,7 +126,7 @@ static int remove_folder(struct mount *mount, struct inode *parent, const char *
     txn_begin(&txn, mount, at);
     int err = txn_end(&txn, take_folder(&txn, parent, resolved));
     if (err) return err;
-    entry_count_add(mount, -1);
+    entry_count_add(mount, parent, -1);
     if (!inode) return 0;
     inode->change = ns_to_timespec(at);
     inode_detach(inode);
@@ -153,7 +154,7 @@ int namei_remove(struct request *request, struct inode *parent, const char *name
     if (result.inode->is_directory) return EISDIR;
     if (result.is_other_name) err = hardlink_remove(mount, parent, name, result.inode, request->at);
     else err = orphan_unlink(mount, result.inode, request->at);
-    if (!err) entry_count_add(mount, -1);
+    if (!err) entry_count_add(mount, parent, -1);
     return err;
 }
 
@@ -199,7 +200,8 @@ static int move_path(struct request *request, struct move *move) {
 // The entries follow a rename that was done. A file with several names keeps its entry.
 static void follow(struct mount *mount, struct move *move, char *name, uint64_t at) {
     struct inode *source = move->source.inode, *target = move->target.inode;
-    if (target) entry_count_add(mount, -1);
+    entry_count_add(mount, move->parent, -1);
+    if (!target) entry_count_add(mount, move->new_parent, 1);
     if (target && target->is_directory) inode_detach(target);
     else if (target && move->target.is_other_name) hardlink_follow(mount, target, &move->counted, at);
     else if (target) orphan_moved(mount, target, &move->orphan, at);

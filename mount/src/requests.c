@@ -1,6 +1,6 @@
 // The requests of the kernel. Each takes the request lock, does what fs_ops.h has for it, drops the lock, and replies.
-// One thread serves all of them, since most take less time than waking another would; a snapshot is restored, and a
-// delta printed or applied, by a thread of its own.
+// One thread serves all of them, since most take less time than waking another would. Those that may take long it leaves
+// to workers: a long listing, a snapshot that is restored or dropped, and a delta that is printed or applied.
 //
 // Invariant: all changes of the tree come through the kernel, so what it caches of names and attributes stays right;
 // when the tree is replaced, the kernel is told what is stale. The bytes of a file are read again whenever it is
@@ -15,6 +15,7 @@
 #include "extended.h"
 #include "holes.h"
 #include "hardlinks.h"
+#include "listings.h"
 #include "locks.h"
 #include "namei.h"
 #include "replica.h"
@@ -22,6 +23,7 @@
 #include "snapshots.h"
 #include "status.h"
 #include "store.h"
+#include "workers.h"
 #include <errno.h>
 #include <fcntl.h>
 #include <linux/capability.h>
@@ -32,23 +34,20 @@
 #include <string.h>
 #include <unistd.h>
 
-enum { MOST_WAITING_STEPS = 64, IDLE_MILLISECONDS = 5000 };
+enum { MOST_WAITING_STEPS = 64, IDLE_MILLISECONDS = 5000, FORGETS_AT_ONCE = 256, REST_NANOSECONDS = 50000 };
 #define SECONDS_KNOWN 86400.0
 #define SECONDS_SHARED 1.0
-// The number of an entry that is not known, as libfuse has it.
-#define NO_NUMBER 0xffffffff
 
 static struct lock request_lock = LOCK_FREE;
 static struct fuse_session *session;
 static double seconds_known = SECONDS_KNOWN;
-static _Atomic unsigned threads; // that make the tree another one
 
 void requests_use(struct fuse_session *used, bool is_shared) {
     session = used;
     seconds_known = is_shared ? SECONDS_SHARED : SECONDS_KNOWN;
 }
 
-bool requests_are_under_way(void) { return threads > 0 || answers_wait(); }
+bool requests_are_under_way(void) { return workers_are_busy() || answers_wait(); }
 
 bool requests_wait_for_forget(const struct mount *mount) {
     lock_take(&request_lock);
@@ -114,7 +113,7 @@ static struct inode *inode_of(const struct request *request, fuse_ino_t ino) {
     return ino == FUSE_ROOT_ID ? request->mount->root : (struct inode *)(uintptr_t)ino;
 }
 
-static struct fuse_entry_param to_fuse_entry(const struct lookup_result *result) {
+struct fuse_entry_param requests_entry(const struct lookup_result *result) {
     return (struct fuse_entry_param){.ino = (fuse_ino_t)(uintptr_t)result->inode,
                                      .attr = result->stat,
                                      .attr_timeout = seconds_known,
@@ -122,7 +121,7 @@ static struct fuse_entry_param to_fuse_entry(const struct lookup_result *result)
 }
 
 // Takes the lock. An unlinked file that the kernel still knows becomes an orphan.
-static int request_begin(const struct request *request) {
+int requests_begin(const struct request *request) {
     lock_take(&request_lock);
     return orphan_flush_deferred(request->mount);
 }
@@ -136,11 +135,11 @@ static int begin_bytes(const struct request *request, fuse_ino_t ino) {
 
 // The same for a write. A store keeps the changes in the order in which they were answered.
 static int begin_write(const struct request *request, fuse_ino_t ino) {
-    return request->mount->store ? request_begin(request) : begin_bytes(request, ino);
+    return request->mount->store ? requests_begin(request) : begin_bytes(request, ino);
 }
 
 // Leaves the lock: the request is at its end, and a store keeps what it did.
-static int request_end_changed(const struct request *request, int err, bool *has_changed) {
+static int end_changed(const struct request *request, int err, bool *has_changed) {
     struct mount *mount = request->mount;
     int other = 0;
     *has_changed = false;
@@ -151,16 +150,16 @@ static int request_end_changed(const struct request *request, int err, bool *has
 }
 
 // The same of a request that is answered at once: it asks alone.
-static int request_end(const struct request *request, int err) {
+int requests_end(const struct request *request, int err) {
     bool has_changed;
-    return request_end_changed(request, err, &has_changed);
+    return end_changed(request, err, &has_changed);
 }
 
 // Leaves the lock, and answers a request that changes something.
 static void finish(const struct request *request, int err, struct answer answer) {
     bool has_changed;
     answer.request = *request;
-    answer.err = request_end_changed(request, err, &has_changed);
+    answer.err = end_changed(request, err, &has_changed);
     answer_change(&answer, has_changed);
 }
 
@@ -178,13 +177,13 @@ static int hold(int err, const struct lookup_result *result) {
 // That there is no such name is known for as long as one.
 static void answer_entry(const struct request *request, int err, const struct lookup_result *result) {
     struct fuse_entry_param param = {.entry_timeout = seconds_known};
-    if (!err) param = to_fuse_entry(result);
+    if (!err) param = requests_entry(result);
     if (err == ENOENT || !answer_failed(request, err)) fuse_reply_entry(request->req, &param);
 }
 
 static struct answer entry_answer(int err, const struct lookup_result *result) {
     struct answer answer = {.kind = ANSWER_ENTRY};
-    if (!err) answer.entry = to_fuse_entry(result);
+    if (!err) answer.entry = requests_entry(result);
     return answer;
 }
 
@@ -196,27 +195,62 @@ static void on_init(void *mount, struct fuse_conn_info *connection) {
 static void on_lookup(fuse_req_t req, fuse_ino_t parent, const char *name) {
     struct request request = request_of(req);
     struct lookup_result result;
-    int err = request_begin(&request);
+    int err = requests_begin(&request);
     if (!err) err = hold(fs_lookup(request.mount, inode_of(&request, parent), name, &result), &result);
-    err = request_end(&request, err);
+    err = requests_end(&request, err);
     answer_entry(&request, err, &result);
+}
+
+static void forget_some(const struct request *request, const struct fuse_forget_data *forgets, size_t count) {
+    lock_take(&request_lock);
+    for (size_t i = 0; i < count; i++)
+        if (forgets[i].ino != FUSE_ROOT_ID)
+            orphan_forget(request->mount, inode_of(request, forgets[i].ino), forgets[i].nlookup, request->at);
+    requests_end(request, 0);
+}
+
+// Behind a restore the kernel may forget 65,000 inodes by one request.
+struct forgetting {
+    struct request request;
+    size_t count;
+    struct fuse_forget_data forgets[];
+};
+
+// A worker. Between two parts there is a rest: so a request that waits for the lock gets it.
+static void forget_by_parts(void *argument) {
+    struct forgetting *forgetting = argument;
+    for (size_t at = 0; at < forgetting->count; at += FORGETS_AT_ONCE) {
+        size_t left = forgetting->count - at;
+        forget_some(&forgetting->request, forgetting->forgets + at, left < FORGETS_AT_ONCE ? left : FORGETS_AT_ONCE);
+        nanosleep(&(struct timespec){0, REST_NANOSECONDS}, NULL);
+    }
+    fuse_reply_none(forgetting->request.req);
+    mem_free(forgetting);
+}
+
+// An inode stands until all that the kernel has of it are forgotten: so that may come late, but to a replica, which has
+// one thread.
+static bool forgets_later(const struct request *request, const struct fuse_forget_data *forgets, size_t count) {
+    if (count <= FORGETS_AT_ONCE || request->mount->replica) return false;
+    struct forgetting *copy = mem_alloc(sizeof *copy + count * sizeof *forgets);
+    if (!copy) return false;
+    *copy = (struct forgetting){*request, count};
+    memcpy(copy->forgets, forgets, count * sizeof *forgets);
+    if (!worker_start(forget_by_parts, copy)) return true;
+    mem_free(copy);
+    return false;
 }
 
 static void on_forget(fuse_req_t req, fuse_ino_t ino, uint64_t lookups) {
     struct request request = request_of(req);
-    lock_take(&request_lock);
-    if (ino != FUSE_ROOT_ID) orphan_forget(request.mount, inode_of(&request, ino), lookups, request.at);
-    request_end(&request, 0);
+    forget_some(&request, &(struct fuse_forget_data){ino, lookups}, 1);
     fuse_reply_none(req);
 }
 
 static void on_forget_many(fuse_req_t req, size_t count, struct fuse_forget_data *forgets) {
     struct request request = request_of(req);
-    lock_take(&request_lock);
-    for (size_t i = 0; i < count; i++)
-        if (forgets[i].ino != FUSE_ROOT_ID)
-            orphan_forget(request.mount, inode_of(&request, forgets[i].ino), forgets[i].nlookup, request.at);
-    request_end(&request, 0);
+    if (forgets_later(&request, forgets, count)) return;
+    forget_some(&request, forgets, count);
     fuse_reply_none(req);
 }
 
@@ -228,9 +262,9 @@ static void on_getattr(fuse_req_t req, fuse_ino_t ino, struct fuse_file_info *in
     struct request request = request_of(req);
     struct stat stat;
     (void)info;
-    int err = request_begin(&request);
+    int err = requests_begin(&request);
     if (!err) err = fs_getattr(request.mount, inode_of(&request, ino), &stat);
-    err = request_end(&request, err);
+    err = requests_end(&request, err);
     answer_stat(&request, err, &stat);
 }
 
@@ -253,7 +287,7 @@ static void on_setattr(fuse_req_t req, fuse_ino_t ino, struct stat *wanted, int 
     };
     struct stat stat;
     (void)info;
-    int err = request_begin(&request);
+    int err = requests_begin(&request);
     if (!err) err = fs_setattr(&request, inode_of(&request, ino), &setattr);
     if (!err) err = fs_getattr(request.mount, inode_of(&request, ino), &stat);
     struct answer answer = {.kind = ANSWER_ATTRIBUTES, .seconds = seconds_known};
@@ -282,7 +316,7 @@ static struct create_args create_args_of(const struct request *request, mode_t m
 
 static void make(struct request *request, fuse_ino_t parent, const char *name, const struct create_args *args) {
     struct lookup_result result;
-    int err = request_begin(request);
+    int err = requests_begin(request);
     if (!err) err = namei_create(request, inode_of(request, parent), name, args, &result);
     hold(err, &result);
     finish(request, err, entry_answer(err, &result));
@@ -311,9 +345,9 @@ static void on_symlink(fuse_req_t req, const char *target, fuse_ino_t parent, co
 static void on_readlink(fuse_req_t req, fuse_ino_t ino) {
     struct request request = request_of(req);
     struct bytes target = {NULL};
-    int err = request_begin(&request);
+    int err = requests_begin(&request);
     if (!err) err = fs_readlink(&request, inode_of(&request, ino), &target);
-    err = request_end(&request, err);
+    err = requests_end(&request, err);
     if (!answer_failed(&request, err)) fuse_reply_readlink(req, target.at);
     bytes_free(&target);
 }
@@ -321,16 +355,46 @@ static void on_readlink(fuse_req_t req, fuse_ino_t ino) {
 static void on_link(fuse_req_t req, fuse_ino_t ino, fuse_ino_t parent, const char *name) {
     struct request request = request_of(req);
     struct lookup_result result;
-    int err = request_begin(&request);
+    int err = requests_begin(&request);
     if (!err) err = hardlink_create(&request, inode_of(&request, ino), inode_of(&request, parent), name, &result);
     hold(err, &result);
     finish(&request, err, entry_answer(err, &result));
 }
 
 static void take_name(struct request *request, fuse_ino_t parent, const char *name, bool is_directory) {
-    int err = request_begin(request);
+    int err = requests_begin(request);
     if (!err) err = namei_remove(request, inode_of(request, parent), name, is_directory);
     finish_done(request, err);
+}
+
+// A snapshot that was dropped: what no other tree has of it is to be freed.
+struct dropped {
+    struct answer answer;
+    struct doorvervain tree; // a fork of it
+    bool has_changed;
+};
+
+// A worker, which answers behind that: a size of the mount then has the memory again.
+static void free_dropped(void *argument) {
+    struct dropped *dropped = argument;
+    doorvervain_close(&dropped->tree);
+    answer_change(&dropped->answer, dropped->has_changed);
+    mem_free(dropped);
+}
+
+// Without memory for a worker the thread that serves requests does it.
+static void drop_tree(struct request *request, struct inode *folder, const char *name) {
+    struct dropped dropped = {.answer = {.kind = ANSWER_DONE, .request = *request}};
+    struct dropped *copy = mem_alloc(sizeof *copy);
+    int err = requests_begin(request);
+    if (!err && copy) worker_fork(request->mount, name, &dropped.tree);
+    if (!err) err = namei_remove(request, folder, name, true);
+    dropped.answer.err = end_changed(request, err, &dropped.has_changed);
+    if (copy) *copy = dropped;
+    if (copy && !worker_start(free_dropped, copy)) return;
+    mem_free(copy);
+    doorvervain_close(&dropped.tree);
+    answer_change(&dropped.answer, dropped.has_changed);
 }
 
 static void on_unlink(fuse_req_t req, fuse_ino_t parent, const char *name) {
@@ -340,13 +404,15 @@ static void on_unlink(fuse_req_t req, fuse_ino_t parent, const char *name) {
 
 static void on_rmdir(fuse_req_t req, fuse_ino_t parent, const char *name) {
     struct request request = request_of(req);
-    take_name(&request, parent, name, true);
+    struct inode *folder = inode_of(&request, parent);
+    if (folder->role == SNAPSHOT_FOLDER && request.mount->backend.tree) drop_tree(&request, folder, name);
+    else take_name(&request, parent, name, true);
 }
 
 static void on_rename(fuse_req_t req, fuse_ino_t parent, const char *name, fuse_ino_t new_parent, const char *new_name,
                       unsigned flags) {
     struct request request = request_of(req);
-    int err = request_begin(&request);
+    int err = requests_begin(&request);
     struct inode *from = inode_of(&request, parent), *to = inode_of(&request, new_parent);
     if (!err) err = namei_rename(&request, from, name, to, new_name, flags);
     finish_done(&request, err);
@@ -415,7 +481,7 @@ static void open_file(const struct request *request, struct fuse_file_info *info
 static void on_open(fuse_req_t req, fuse_ino_t ino, struct fuse_file_info *info) {
     struct request request = request_of(req);
     struct inode *inode = inode_of(&request, ino);
-    int err = request_begin(&request);
+    int err = requests_begin(&request);
     if (!err) err = fs_open(&request, inode, info->flags, may_drop(&request, inode, info->flags));
     if (!err) open_file(&request, info);
     finish(&request, err, (struct answer){.kind = ANSWER_OPENED, .info = *info});
@@ -443,7 +509,7 @@ static int create(struct request *request, fuse_ino_t parent, const char *name, 
 static void on_create(fuse_req_t req, fuse_ino_t parent, const char *name, mode_t mode, struct fuse_file_info *info) {
     struct request request = request_of(req);
     struct lookup_result result;
-    int err = request_begin(&request);
+    int err = requests_begin(&request);
     if (!err) err = create(&request, parent, name, mode, info->flags, &result);
     struct answer answer = entry_answer(err, &result);
     if (!err) open_file(&request, info);
@@ -468,7 +534,7 @@ static void on_read(fuse_req_t req, fuse_ino_t ino, size_t size, off_t offset, s
     int err = begin_bytes(&request, ino);
     if (!bytes) err = ENOMEM;
     if (!err) err = fs_read(&request, inode_of(&request, ino), (uint64_t)offset, bytes, size, &got);
-    err = request_end(&request, err);
+    err = requests_end(&request, err);
     if (!answer_failed(&request, err)) fuse_reply_buf(req, bytes, got);
     mem_free(bytes);
 }
@@ -490,7 +556,7 @@ static void on_fallocate(fuse_req_t req, fuse_ino_t ino, int mode, off_t offset,
                          struct fuse_file_info *info) {
     struct request request = request_of(req);
     (void)info;
-    int err = request_begin(&request);
+    int err = requests_begin(&request);
     if (!err) err = holes_allocate(&request, inode_of(&request, ino), mode, (uint64_t)offset, (uint64_t)count);
     finish_done(&request, err);
 }
@@ -499,9 +565,9 @@ static void on_lseek(fuse_req_t req, fuse_ino_t ino, off_t offset, int whence, s
     struct request request = request_of(req);
     uint64_t found = 0;
     (void)info;
-    int err = request_begin(&request);
+    int err = requests_begin(&request);
     if (!err) err = holes_seek(request.mount, inode_of(&request, ino), (uint64_t)offset, whence, &found);
-    err = request_end(&request, err);
+    err = requests_end(&request, err);
     if (!answer_failed(&request, err)) fuse_reply_lseek(req, (off_t)found);
 }
 
@@ -513,8 +579,8 @@ static void on_fsync(fuse_req_t req, fuse_ino_t ino, int data_only, struct fuse_
         .kind = ANSWER_SYNCED, .request = request, .errseq_seen = handle ? &handle->errseq_seen : NULL};
     bool is_kept = request.mount->store;
     (void)ino, (void)data_only;
-    int err = is_kept ? request_begin(&request) : 0;
-    if (is_kept) err = request_end(&request, err);
+    int err = is_kept ? requests_begin(&request) : 0;
+    if (is_kept) err = requests_end(&request, err);
     if (is_kept && !err) answer_sync(&answer);
     else answer_done(&request, err);
 }
@@ -531,98 +597,10 @@ static void on_releasedir(fuse_req_t req, fuse_ino_t ino, struct fuse_file_info 
     fuse_reply_err(req, 0);
 }
 
-// A page of a listing that is put together.
-struct page {
-    const struct request *request;
-    struct inode *directory;
-    bool is_plus; // what stands at each name is told with it
-    char *out;
-    size_t capacity, length;
-};
-
-// What is told of a name.
-struct line {
-    const char *name;
-    struct fuse_entry_param param;
-    struct inode *held; // what the kernel holds by it; null: nothing
-    off_t next;         // the place behind it
-};
-
-// Puts a line in: false where there is no room left.
-static bool put_line(struct page *page, const struct line *line) {
-    char *to = page->out + page->length;
-    size_t capacity = page->capacity - page->length, size;
-    if (page->is_plus)
-        size = fuse_add_direntry_plus(page->request->req, to, capacity, line->name, &line->param, line->next);
-    else size = fuse_add_direntry(page->request->req, to, capacity, line->name, &line->param.attr, line->next);
-    if (size > capacity) return false;
-    if (line->held) line->held->nlookup++;
-    page->length += size;
-    return true;
-}
-
-// `.` or `..`, whose number no look-up gives. Above the root is what the kernel has there.
-static bool put_dots(struct page *page, const char *name, off_t next) {
-    const struct inode *directory = page->directory;
-    if (name[1] && directory->parent) directory = directory->parent;
-    struct stat stat = {.st_mode = S_IFDIR, .st_ino = directory->ino};
-    return put_line(page, &(struct line){.name = name, .param.attr = stat, .next = next});
-}
-
-// A name of the listing: what stands there, or its number alone. A name that is gone is left out.
-static bool put_name(struct page *page, const char *name, bool is_directory, off_t next) {
-    struct line line = {.name = name, .next = next};
-    struct inode *known = page->is_plus ? NULL : inode_find(page->directory, name);
-    struct lookup_result result = {.inode = known};
-    int err = known ? 0 : fs_lookup(page->request->mount, page->directory, name, &result);
-    if (err == ENOENT) return true;
-    if (!err && known) err = fs_getattr(page->request->mount, known, &result.stat);
-    line.param.attr.st_mode = err ? is_directory ? S_IFDIR : S_IFREG : result.stat.st_mode;
-    line.param.attr.st_ino = err ? NO_NUMBER : result.inode->ino;
-    if (!err && page->is_plus) {
-        line.param = to_fuse_entry(&result);
-        line.held = result.inode;
-    }
-    return put_line(page, &line);
-}
-
-// The place of the first name at or behind a place that lseek(2) may have named.
-static size_t path_of_name(const struct bytes *names, size_t from) {
-    bool is_inside = from > 0 && from < names->length && names->at[from - 1];
-    return is_inside ? from + strlen(names->at + from) + 1 : from;
-}
-
-// Place 0 is before `.`, 1 before `..`, and 2 and so many bytes of the listing before each name.
-static void put_names(struct page *page, const struct bytes *names, off_t at) {
-    if (at == 0 && !put_dots(page, ".", ++at)) return;
-    if (at == 1 && !put_dots(page, "..", ++at)) return;
-    for (size_t from = path_of_name(names, (size_t)at - 2); from < names->length;) {
-        const char *name = names->at + from;
-        from += strlen(name) + 1;
-        if (!put_name(page, name + 1, name[0] == 'd', (off_t)from + 2)) return;
-    }
-}
-
-static int fill_page(struct page *page, struct bytes *names, off_t at) {
-    int err = 0;
-    if (at == 0 || !names->at) {
-        names->length = 0;
-        err = fs_readdir(page->request->mount, page->directory, names);
-    }
-    if (err == ENOENT) err = 0; // A directory that is gone has no names.
-    if (!err && at >= 0) put_names(page, names, at);
-    return err;
-}
-
 static void answer_page(const struct request *request, fuse_ino_t ino, size_t size, off_t at,
                         struct fuse_file_info *info, bool is_plus) {
-    struct page page = {request, inode_of(request, ino), is_plus, mem_alloc(size), size, 0};
-    int err = request_begin(request);
-    if (!page.out) err = ENOMEM;
-    if (!err) err = fill_page(&page, &handle_of(info)->names, at);
-    err = request_end(request, err);
-    if (!answer_failed(request, err)) fuse_reply_buf(request->req, page.out, page.length);
-    mem_free(page.out);
+    struct page_args args = {inode_of(request, ino), &handle_of(info)->names, size, at, is_plus};
+    listing_answer(request, &args);
 }
 
 static void on_readdir(fuse_req_t req, fuse_ino_t ino, size_t size, off_t at, struct fuse_file_info *info) {
@@ -659,14 +637,14 @@ static void on_statfs(fuse_req_t req, fuse_ino_t ino) {
 
 static void on_setxattr(fuse_req_t req, fuse_ino_t ino, const char *name, const char *value, size_t size, int flags) {
     struct request request = request_of(req);
-    int err = request_begin(&request);
+    int err = requests_begin(&request);
     if (!err) err = extended_set(&request, inode_of(&request, ino), name, value, size, flags);
     finish_done(&request, err);
 }
 
 static void on_removexattr(fuse_req_t req, fuse_ino_t ino, const char *name) {
     struct request request = request_of(req);
-    int err = request_begin(&request);
+    int err = requests_begin(&request);
     if (!err) err = extended_remove(&request, inode_of(&request, ino), name);
     finish_done(&request, err);
 }
@@ -684,7 +662,7 @@ static void on_getxattr(fuse_req_t req, fuse_ino_t ino, const char *name, size_t
     struct bytes value = {NULL};
     int err = begin_bytes(&request, ino);
     if (!err) err = extended_get(request.mount, inode_of(&request, ino), name, &value);
-    err = request_end(&request, err);
+    err = requests_end(&request, err);
     answer_sized(&request, err, &value, capacity);
     bytes_free(&value);
 }
@@ -694,7 +672,7 @@ static void on_listxattr(fuse_req_t req, fuse_ino_t ino, size_t capacity) {
     struct bytes names = {NULL};
     int err = begin_bytes(&request, ino);
     if (!err) err = extended_list(request.mount, inode_of(&request, ino), !fuse_req_ctx(req)->uid, &names);
-    err = request_end(&request, err);
+    err = requests_end(&request, err);
     answer_sized(&request, err, &names, capacity);
     bytes_free(&names);
 }
@@ -710,18 +688,52 @@ bool requests_invalidate_names(void) {
     return write(fuse_session_fd(session), &notice, sizeof notice) == sizeof notice;
 }
 
-// Tells the kernel to forget what it knows. It may wait for other requests, so no lock is held.
-static void notify_stale(struct bytes *list) {
+// What the kernel has to forget where the tree becomes another one.
+struct stale {
+    bool is_all;        // all names at once, which it can: none was noted
+    struct bytes noted; // else a list of `struct stale_dentry`
+};
+
+static struct stale find_stale(void) { return (struct stale){.is_all = requests_invalidate_names()}; }
+
+// Where names are noted.
+static struct bytes *noted(struct stale *stale) { return stale->is_all ? NULL : &stale->noted; }
+
+// The kernel is told of names while it may wait for other requests, so no lock is held.
+static void notify_noted(struct bytes *list) {
     struct stale_dentry *stale = (struct stale_dentry *)list->at;
-    bool knows_names = !requests_invalidate_names();
     for (size_t i = 0; i < list->length / sizeof *stale; i++) {
-        if (stale[i].parent_ino && knows_names)
+        if (stale[i].parent_ino)
             fuse_lowlevel_notify_inval_entry(session, stale[i].parent_ino, stale[i].name, strlen(stale[i].name));
         if (stale[i].ino) fuse_lowlevel_notify_inval_inode(session, stale[i].ino, 0, 0);
         mem_free(stale[i].name);
     }
+}
+
+// Of all inodes that it knows, so many at a time that others need not wait.
+static void notify_known(void) {
+    size_t slot = 0;
+    bool has_more = true;
+    struct bytes inodes = {NULL};
+    while (has_more) {
+        requests_lock();
+        has_more = inodes_next_known(&slot, &inodes);
+        requests_unlock();
+        for (size_t i = 0; i < inodes.length / sizeof(fuse_ino_t); i++)
+            fuse_lowlevel_notify_inval_inode(session, ((fuse_ino_t *)inodes.at)[i], 0, 0);
+    }
+    bytes_free(&inodes);
+}
+
+// Tells the kernel to forget what it knows; where the tree is as it was, nothing.
+static void notify_stale(struct stale *stale, int err) {
+    if (!err && stale->is_all) {
+        requests_invalidate_names();
+        notify_known();
+    }
+    notify_noted(&stale->noted);
     fuse_lowlevel_notify_inval_inode(session, FUSE_ROOT_ID, -1, 0);
-    bytes_free(list);
+    bytes_free(&stale->noted);
 }
 
 struct restoring {
@@ -737,31 +749,24 @@ static void count_entries(struct mount *mount) {
     if (!is_counted) entry_count_walk(mount);
 }
 
-// Runs in a thread of its own: the other requests are served while the kernel forgets.
-static void *restore(void *argument) {
+// A worker: the other requests are served while the former tree is freed, and while the kernel forgets. Without memory
+// for a fork of that tree they wait for it.
+static void restore(void *argument) {
     struct restoring *restoring = argument;
     struct request *request = &restoring->request;
-    struct bytes stale = {NULL};
-    int err = request_begin(request);
-    if (!err) err = snapshot_restore(request->mount, restoring->wanted.name, &stale);
+    struct stale stale = find_stale();
+    struct doorvervain former = {NULL};
+    int err = requests_begin(request);
+    if (!err) worker_fork(request->mount, NULL, &former);
+    if (!err) err = snapshot_restore(request->mount, restoring->wanted.name, noted(&stale));
     struct store *store = request->mount->store;
-    err = request_end(request, err);
+    err = requests_end(request, err);
+    doorvervain_close(&former);
     if (!err && store && store_syncs_each(store)) err = store_sync(store);
-    notify_stale(&stale);
+    notify_stale(&stale, err);
     count_entries(request->mount);
     if (!answer_failed(request, err)) fuse_reply_ioctl(request->req, 0, NULL, 0);
     mem_free(restoring);
-    threads--;
-    return NULL;
-}
-
-static int start_thread(void *(*run)(void *argument), void *argument) {
-    pthread_t thread;
-    threads++;
-    int err = pthread_create(&thread, NULL, run, argument);
-    if (err) threads--;
-    else pthread_detach(thread);
-    return err;
 }
 
 static int start_restoring(const struct request *request, const struct restore_request *wanted) {
@@ -770,7 +775,7 @@ static int start_restoring(const struct request *request, const struct restore_r
     struct restoring *restoring = mem_alloc(sizeof *restoring);
     if (!restoring) return ENOMEM;
     *restoring = (struct restoring){*request, *wanted};
-    int err = start_thread(restore, restoring);
+    int err = worker_start(restore, restoring);
     if (err) mem_free(restoring);
     return err;
 }
@@ -780,23 +785,21 @@ struct receiving {
     struct bytes text;
 };
 
-// Runs in a thread of its own, as `restore` does.
-static void *receive(void *argument) {
+// A worker, as `restore` is.
+static void receive(void *argument) {
     struct receiving *receiving = argument;
     struct request *request = &receiving->request;
-    struct bytes stale = {NULL};
+    struct stale stale = find_stale();
     struct delta_answer answer;
-    int err = request_begin(request);
-    if (!err) err = delta_apply(request, &receiving->text, &answer, &stale);
-    err = request_end(request, err);
+    int err = requests_begin(request);
+    if (!err) err = delta_apply(request, &receiving->text, &answer, noted(&stale));
+    err = requests_end(request, err);
     if (!err && request->mount->store) err = store_sync(request->mount->store);
-    notify_stale(&stale);
+    notify_stale(&stale, err);
     count_entries(request->mount);
     if (!answer_failed(request, err)) fuse_reply_ioctl(request->req, 0, &answer, sizeof answer);
     bytes_free(&receiving->text);
     mem_free(receiving);
-    threads--;
-    return NULL;
 }
 
 static int start_receiving(const struct request *request, struct handle *handle) {
@@ -806,7 +809,7 @@ static int start_receiving(const struct request *request, struct handle *handle)
     *receiving = (struct receiving){*request, handle->text};
     handle->text = (struct bytes){NULL};
     handle->sent = 0;
-    int err = start_thread(receive, receiving);
+    int err = worker_start(receive, receiving);
     if (!err) return 0;
     bytes_free(&receiving->text);
     mem_free(receiving);
@@ -836,22 +839,20 @@ struct sending {
     struct handle *handle; // the kernel keeps it open until the request is answered
 };
 
-// Runs in a thread of its own: the other requests are served while the text is printed.
-static void *print_text(void *argument) {
+// A worker: the other requests are served while the text is printed.
+static void print_text(void *argument) {
     struct sending *sending = argument;
     struct request *request = &sending->request;
     struct delta_trees trees = {{NULL}, {NULL}};
-    int err = request_begin(request);
+    int err = requests_begin(request);
     if (!err) err = delta_open_trees(request->mount, &sending->wanted, &trees);
-    err = request_end(request, err);
+    err = requests_end(request, err);
     if (!err) err = delta_print(&trees, &sending->handle->text);
     delta_close_trees(&trees);
     if (err) bytes_free(&sending->handle->text);
     sending->handle->is_printing = false;
     if (!answer_failed(request, err)) fuse_reply_ioctl(request->req, 0, NULL, 0);
     mem_free(sending);
-    threads--;
-    return NULL;
 }
 
 static int start_sending(const struct request *request, const struct send_request *wanted, struct handle *handle) {
@@ -861,7 +862,7 @@ static int start_sending(const struct request *request, const struct send_reques
     *sending = (struct sending){*request, *wanted, handle};
     handle->text.length = handle->sent = 0;
     handle->is_printing = true;
-    int err = start_thread(print_text, sending);
+    int err = worker_start(print_text, sending);
     if (!err) return 0;
     handle->is_printing = false;
     mem_free(sending);
@@ -881,9 +882,9 @@ static int answer_sent_piece(const struct request *request, struct handle *handl
 
 static int answer_status(const struct request *request) {
     struct mount_status status;
-    int err = request_begin(request);
+    int err = requests_begin(request);
     if (!err) status_fill(request->mount, &status);
-    err = request_end(request, err);
+    err = requests_end(request, err);
     if (!err) fuse_reply_ioctl(request->req, 0, &status, sizeof status);
     return err;
 }

@@ -13,6 +13,12 @@ struct restore_request {
 #define RESTORE_REQUEST _IOW('D', 1, struct restore_request)
 
 extern const struct fuse_lowlevel_ops requests;
+// Takes the request lock for a request. An unlinked file that the kernel still knows becomes an orphan.
+int requests_begin(const struct request *request);
+// Leaves the lock: the request is at its end, and a store keeps what it did. What it is to be answered with.
+int requests_end(const struct request *request, int err);
+// What the kernel is told of an entry, and for how long it holds.
+struct fuse_entry_param requests_entry(const struct lookup_result *result);
 // The session that requests come by. What others change too the kernel knows for a second.
 void requests_use(struct fuse_session *session, bool is_shared);
 // All names that the kernel knows are asked for anew: kernels before 6.16 refuse that.

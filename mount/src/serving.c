@@ -3,6 +3,7 @@
 // Invariant: no signal ends the process between the last request and the end of the image. The status is 0 only if all
 // that was to be kept is kept.
 #include "serving.h"
+#include "abort_watch.h"
 #include "busy_poll.h"
 #include "entry_count.h"
 #include "exit_report.h"
@@ -140,12 +141,14 @@ static struct fuse_session *open_session(const struct options *options, struct m
 }
 
 // Whether it came to stand is said in `stood`.
-static int mount_and_serve(const struct options *options, struct mount *mount, void (*stands)(void), bool *stood) {
+static int mount_and_serve(const struct options *options, struct mount *mount, struct abort_watch *watch,
+                           void (*stands)(void), bool *stood) {
     struct fuse_session *session = open_session(options, mount);
     if (!session) return 1;
     requests_use(session, mount->replica);
     int status = fuse_set_signal_handlers(session) || fuse_session_mount(session, options->mount_point);
     if (!status) {
+        abort_watch_mounted(watch, options->mount_point);
         raise_readahead(options->mount_point);
         stands();
         *stood = true;
@@ -192,12 +195,15 @@ static void keep_memory(void) {
 // What was mounted may be kept, and nothing else: where no mount comes to stand, the file is as it was.
 static int serve_volume(const struct options *options, struct image *image, void (*stands)(void)) {
     struct mount mount = {.trusts_attributes = options->trusts_attributes || !options->open.image};
+    struct abort_watch watch = ABORT_WATCH_NONE;
     bool stood = false;
+    if (options->open.replica.members) abort_watch_begin(&watch);
     int status = open_volume(options, &mount) != 0;
     if (!status) {
-        status = mount_and_serve(options, &mount, stands, &stood);
+        status = mount_and_serve(options, &mount, &watch, stands, &stood);
         status |= close_volume(&mount, stood ? image : NULL);
     }
+    abort_watch_end(&watch);
     if (image && !stood) image_drop(image);
     return status;
 }

@@ -140,19 +140,21 @@ static void free_notes(struct bytes *notes) {
     notes->length = 0;
 }
 
-void snapshot_before_switch(struct mount *mount, struct bytes *out) { note_held(mount, mount->root, out); }
+void snapshot_before_switch(struct mount *mount, struct bytes *out) {
+    if (out) note_held(mount, mount->root, out);
+}
 
 // What an entry stands for may be of another kind then, or gone: that shows when it is next looked for.
 void snapshot_after_switch(struct mount *mount, int err, struct bytes *out) {
     if (err) {
-        free_notes(out);
+        if (out) free_notes(out);
         return;
     }
     mount->tree_gen++;
     mount->record_dirs_gen++;
     // Files that were unlinked and held when a snapshot was taken are not of its tree.
     private_drop_orphans(mount);
-    note_root(mount, out);
+    if (out) note_root(mount, out);
 }
 
 int snapshot_restore(struct mount *mount, const char *name, struct bytes *out) {

@@ -24,7 +24,8 @@ struct stale_dentry {
 };
 
 // Makes the live tree that of a snapshot. Open files stay open where their path has a file still; unlinked ones are
-// gone. What the kernel has to forget goes to `out`, a list of `struct stale_dentry`, whose names the caller frees.
+// gone. What the kernel has to forget goes to `out`, a list of `struct stale_dentry`, whose names the caller frees; with
+// none nothing is noted, since the kernel is to forget all.
 int snapshot_restore(struct mount *mount, const char *name, struct bytes *out);
 // The two parts of that, before the tree becomes another one and behind it; with a fault it did not.
 void snapshot_before_switch(struct mount *mount, struct bytes *out);
