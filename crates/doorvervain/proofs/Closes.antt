@@ -11,7 +11,6 @@ use denote.Signature.{Signature}
 use denote.Struct.Owning.{row, shape}
 use denote.Triple.Clauses.{Clauses, closing}
 use denote.Triple.Spec.{Meets}
-use Rattle.std.specs.Prelude.{Option}
 use Rattle.doorvervain.specs.Held.{IsClosed, given_at}
 use Rattle.doorvervain.proofs.Handles.{Out, type_of, word_is, owns_made, at_is}
 
