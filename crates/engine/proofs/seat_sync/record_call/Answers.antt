@@ -2,7 +2,7 @@ use Rattle.std.proofs.Common.{List, ◌<◌, sym, ap, ◌∙◌, subst}
 use Rattle.volume.specs.Volumes.{PVolume}
 use Rattle.engine.specs.Histories.{FitsAfter, Entry}
 use Rattle.engine.specs.Rule.{Seated}
-use Rattle.engine.proofs.Moves.{meets, parts}
+use Rattle.engine.proofs.Moves.{meets_as, parts}
 use Rattle.engine.proofs.seat_sync.record_call.Goals as goal
 
 pub join_seat-requires : goal.join_seat-requires
@@ -12,7 +12,7 @@ join_seat-requires g c =
       r.client.0 ∙ sym r.words.0,
       ap (λ (m : Seated). m.1) r.client.1,
       subst (λ z. 0 < z.words) (sym r.words.0) r.words.1,
-      meets _ _ c.args.engine.now.me.0 _ c.args.client.me.0 (ap (λ (m : Seated). m.0.keeps) r.engine.1) (ap (λ (m : Seated). m.0.watches) r.client.1),
+      meets_as _ _ c.args.engine.now.me _ c.args.client.me _ _ _ _ _ _ _ _ _ _ r.engine.1 r.client.1,
     )
 
 pub split_seat-client-requires : goal.split_seat-client-requires
@@ -25,7 +25,8 @@ split_seat-client-requires g c =
       d.0 ∙ j.0 ∙ r.engine.0 ∙ sym r.words.0,
       subst (λ z. 0 < z.words) (sym r.words.0) r.words.1,
       parts _ _ _ (ap (λ v. v.keeps) now ∙ ap (λ v. v.keeps) joined ∙ ap (λ (m : Seated). m.0.keeps) r.engine.1)
-          (ap (λ v. v.watches) now ∙ ap (λ v. v.watches) joined ∙ ap (λ (m : Seated). m.0.watches) r.client.1),
+          (ap (λ v. v.watches) now ∙ ap (λ v. v.watches) joined ∙ ap (λ (m : Seated). m.0.watches) r.client.1)
+          (ap (λ v. v.hosts) now ∙ ap (λ v. v.hosts) joined ∙ ap (λ (m : Seated). m.0.hosts) r.client.1),
     )
 
 pub record-count-requires-clause-fits : goal.record-count-requires-clause-fits

@@ -1,6 +1,6 @@
 use Rattle.std.proofs.Common.{◌<◌, sym, ap, ◌∙◌, subst}
 use Rattle.engine.specs.Rule.{Seated}
-use Rattle.engine.proofs.Moves.{meets, parts}
+use Rattle.engine.proofs.Moves.{meets_flusher_as, parts_flusher}
 use Rattle.engine.proofs.seat_sync.sync_flusher.Goals as goal
 
 pub join_seat-requires : goal.join_seat-requires
@@ -10,7 +10,7 @@ join_seat-requires g c =
       r.flusher.0 ∙ sym r.words.0,
       ap (λ (m : Seated). m.1) r.flusher.1,
       subst (λ z. 0 < z.words) (sym r.words.0) r.words.1,
-      meets _ _ c.args.engine.now.me.0 _ c.args.flusher.me.0 (ap (λ (m : Seated). m.0.keeps) r.engine.1) (ap (λ (m : Seated). m.0.watches) r.flusher.1),
+      meets_flusher_as _ _ c.args.engine.now.me _ c.args.flusher.me _ _ _ _ _ _ _ _ r.engine.1 r.flusher.1,
     )
 
 pub split_seat-requires : goal.split_seat-requires
@@ -20,5 +20,5 @@ split_seat-requires g c =
     let now = ap (λ (m : Seated). m.0) j.2 in (
       j.0 ∙ r.engine.0 ∙ sym r.words.0,
       subst (λ z. 0 < z.words) (sym r.words.0) r.words.1,
-      parts _ _ _ (ap (λ v. v.keeps) now ∙ ap (λ (m : Seated). m.0.keeps) r.engine.1) (ap (λ v. v.watches) now ∙ ap (λ (m : Seated). m.0.watches) r.flusher.1),
+      parts_flusher _ _ _ (ap (λ v. v.keeps) now ∙ ap (λ (m : Seated). m.0.keeps) r.engine.1) (ap (λ v. v.watches) now ∙ ap (λ (m : Seated). m.0.watches) r.flusher.1) (ap (λ v. v.hosts) now ∙ ap (λ (m : Seated). m.0.hosts) r.flusher.1),
     )
