@@ -1,5 +1,5 @@
-//! Times threads that read at the same time: one frozen tree, a fork for each thread, one volume; and two maps of std, behind a
-//! `RwLock` and behind a `Mutex`. `bench/readers/run` builds and runs it.
+//! Times threads that read at the same time: one frozen tree; a fork for each thread, as it was made and after a change of its own; one
+//! volume; and two maps of std, behind a `RwLock` and behind a `Mutex`. `bench/readers/run` builds and runs it.
 //!
 //! Each row is a call, with what it reads from. For each number of threads it has thousand calls a second of all threads, and in ()
 //! microseconds of processor time a call, each the best of the runs; the last number is how many times the calls of one thread the most
@@ -133,6 +133,13 @@ fn fill_volume(steps: u32) -> Result<Volume, Errno> {
     Ok(volume)
 }
 
+/// A fork whose two trees have roots of their own.
+fn changed_fork(volume: &Volume) -> Result<Volume, Errno> {
+    let fork = volume.fork()?;
+    fork.write("/own", "changed")?;
+    Ok(fork)
+}
+
 fn fill_maps() -> Maps {
     let mut maps = Maps::default();
     for number in 0..DIRECTORIES {
@@ -227,7 +234,7 @@ fn row(what: &str, trees: &[&dyn Tree], paths: &[String], call: Call, count: usi
             sum = all[0].2;
         }
     }
-    println!("| {what:<36}{cells} | {:4.2} |", rates[rates.len() - 1] / rates[0]);
+    println!("| {what:<45}{cells} | {:4.2} |", rates[rates.len() - 1] / rates[0]);
     sum
 }
 
@@ -243,10 +250,15 @@ fn main() -> Result<(), Errno> {
     let (volume, most) = (fill_volume(1)?, THREADS[THREADS.len() - 1]);
     let tree = volume.freeze()?;
     let forks = (0..most).map(|_| volume.fork()).collect::<Result<Vec<_>, _>>()?;
+    let changed = (0..most).map(|_| changed_fork(&volume)).collect::<Result<Vec<_>, _>>()?;
     let (shared, locked) = (RwLock::new(fill_maps()), Mutex::new(fill_maps()));
-    let sides: [(&str, Vec<&dyn Tree>); 5] = [
+    let sides: [(&str, Vec<&dyn Tree>); 6] = [
         ("one frozen tree", vec![&tree; most]),
         ("a fork for each thread", forks.iter().map(|fork| fork as &dyn Tree).collect()),
+        (
+            "a changed fork for each thread",
+            changed.iter().map(|fork| fork as &dyn Tree).collect(),
+        ),
         ("one volume", vec![&volume; most]),
         ("two BTreeMaps in a RwLock", vec![&shared; most]),
         ("two BTreeMaps in a Mutex", vec![&locked; most]),
@@ -259,7 +271,7 @@ fn main() -> Result<(), Errno> {
         ("list 100 names", list, &directories, extent.listings),
     ];
     println!(
-        "| {:<36} | 1 thread           | 2 threads          | 4 threads          | 4:1  |",
+        "| {:<45} | 1 thread           | 2 threads          | 4 threads          | 4:1  |",
         "What"
     );
     println!("|---|---|---|---|---|");

@@ -1,4 +1,4 @@
-"""The module in C: volumes and frozen trees, and the lock that they share."""
+"""The module in C: volumes and frozen trees, and their locks."""
 import os
 from types import TracebackType
 from typing import Callable, List, Optional, Tuple, Type, Union, final

@@ -1,7 +1,7 @@
 """Volumes and frozen trees.
 
-A volume and the trees that were frozen from it share nodes, so each call into any of them holds one lock. The lock is
-reentrant: a method that makes two calls, as an append, holds it throughout. A fork has a lock of its own.
+A volume has a read-write lock, which its calls take by themselves. It is reentrant: a method that makes two calls, as an
+append, holds it alone throughout. A fork and a frozen tree have locks of their own.
 """
 from __future__ import annotations
 

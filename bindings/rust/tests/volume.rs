@@ -292,11 +292,12 @@ fn threads_share_a_frozen_tree() -> Outcome {
 /// Appends of several threads are all kept, and a file that is written is never seen in part.
 #[test]
 fn threads_share_a_volume() -> Outcome {
+    const LINES: usize = 3000;
     let volume = Volume::new()?;
     volume.write("/whole", "0".repeat(1000))?;
     let append = |letter: &str| {
         let mut lines = File::append(&volume, "/lines").expect("it is there");
-        for number in 1..=200_usize {
+        for number in 1..=LINES {
             lines.write_all(letter.as_bytes()).expect("it is written");
             volume
                 .write("/whole", letter.repeat(1000 + number))
@@ -304,7 +305,7 @@ fn threads_share_a_volume() -> Outcome {
         }
     };
     let look = || {
-        for _ in 0..200 {
+        for _ in 0..LINES {
             let whole = volume.read("/whole").expect("it is there");
             assert!(whole.len() >= 1000 && whole.iter().all(|&byte| byte == whole[0]));
         }
@@ -318,7 +319,7 @@ fn threads_share_a_volume() -> Outcome {
     });
     let lines = volume.read("/lines")?;
     for letter in b"abc" {
-        assert_eq!(lines.iter().filter(|&byte| byte == letter).count(), 200);
+        assert_eq!(lines.iter().filter(|&byte| byte == letter).count(), LINES);
     }
     Ok(())
 }
