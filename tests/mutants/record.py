@@ -126,6 +126,8 @@ class Repository:
 
     def __init__(self, top: Path):
         self.top, self.record = top, top / "tests/mutants/results"
+        # As long as it is there, edits may be yet to be tried.
+        self.untried = top / "tests/mutants/untried"
         lines = [it.split("#")[0].strip() for it in (top / "crates.txt").read_text(encoding="utf-8").split("\n")]
         self.crates: dict[str, Crate] = {}
         said = {head.split()[0]: (head.split()[1:], uses.split()) for head, _, uses in (it.partition(":") for it in lines if it)}
@@ -238,9 +240,11 @@ def read_record(file: Path) -> dict[str, Line]:
 
 
 def write_record(repository: Repository, lines: dict[str, Line]) -> None:
-    """Writes the lines of crates that are there, in the order of crates.txt."""
-    kept = [str(lines[it]) for it in repository.crates if it in lines]
+    """Writes the lines of crates that are there, in the order of crates.txt. Once no edit is yet to be tried none may be any more."""
+    kept = [lines[it] for it in repository.crates if it in lines]
     repository.record.write_text(HEADER + "".join(f"{it}\n" for it in kept), encoding="utf-8")
+    if not any(map(untried, kept)):
+        repository.untried.unlink(missing_ok=True)
 
 
 def wrong_with(repository: Repository, crate: Crate, line: Line | None) -> str | None:
@@ -250,11 +254,13 @@ def wrong_with(repository: Repository, crate: Crate, line: Line | None) -> str |
     if line.contracts != repository.contracts(crate):
         return "has a stale line in tests/mutants/results: what its contracts say or rest on, or its edits changed"
     names = {it.name for it in crate.edits()}
+    left = set() if repository.untried.exists() else set(untried(line))
     kept = {it for it in names if it in line.edits and line.edits[it].is_tried and not line.edits[it].is_refused}
     told = {
         "edits without a line": names - line.edits.keys(),
         "lines in tests/mutants/results of edits that are not there": line.edits.keys() - names,
         "edits that were not refused": kept,
+        "edits that are yet to be tried": left,
     }
     return next((f"has {len(which)} {what}: {some_of(which)}" for what, which in told.items() if which), None)
 

@@ -29,7 +29,7 @@ pub struct Draw {
     random: Random,
     client: u64,
     marks: u64,
-    /// What comes next by itself: a look at a snapshot that was kept, a scan of a tree that was restored.
+    /// What comes next by itself: a look at a snapshot that was kept, a scan of a tree that was restored, a look at what was changed.
     then: Option<Asked>,
 }
 
@@ -121,11 +121,16 @@ impl Draw {
         PathAsked::Rename(area.wrapping_add(from), area.wrapping_add(to))
     }
 
+    /// A write of a new mark to a file.
+    fn patch(&mut self, path: usize) -> PathAsked {
+        let offset = u64::from(self.random.below(OFFSETS)).wrapping_mul(OFFSETS_APART);
+        PathAsked::Write(path, FIRST_OFFSET.wrapping_add(offset), self.mark())
+    }
+
     /// A write of a new mark.
     fn write(&mut self) -> PathAsked {
         let path = self.leaf_path();
-        let offset = u64::from(self.random.below(OFFSETS)).wrapping_mul(OFFSETS_APART);
-        PathAsked::Write(path, FIRST_OFFSET.wrapping_add(offset), self.mark())
+        self.patch(path)
     }
 
     /// A truncate, in one of four to nothing.
@@ -151,13 +156,13 @@ impl Draw {
     /// A call on paths that changes something.
     fn change(&mut self) -> PathAsked {
         match self.random.below(100) {
-            0..=39 => self.write(),
-            40..=49 => self.truncate(),
-            50..=67 => PathAsked::Create(self.leaf_path()),
-            68..=84 => PathAsked::Mkdir(self.directory_path()),
-            85..=87 => PathAsked::Unlink(self.leaf_path()),
-            88..=89 => PathAsked::Rmdir(self.directory_path()),
-            90 => PathAsked::Rmtree(self.directory_path()),
+            0..=35 => self.write(),
+            36..=45 => self.truncate(),
+            46..=64 => PathAsked::Create(self.leaf_path()),
+            65..=82 => PathAsked::Mkdir(self.directory_path()),
+            83..=85 => PathAsked::Unlink(self.leaf_path()),
+            86..=90 => PathAsked::Rmdir(self.directory_path()),
+            91 => PathAsked::Rmtree(self.directory_path()),
             _ => self.rename(),
         }
     }
@@ -185,6 +190,39 @@ impl Draw {
         }
     }
 
+    /// What may come behind a write: another patch of the file, or a look at it.
+    fn behind_write(&mut self, path: usize) -> Option<Asked> {
+        match self.random.below(8) {
+            0..=1 => Some(Asked::Path(self.patch(path))),
+            2..=3 => Some(Asked::Path(PathAsked::Read(path))),
+            4 => Some(Asked::Path(PathAsked::Stat(path))),
+            _ => None,
+        }
+    }
+
+    /// What may come behind another change of a path: a look at it.
+    fn behind_change(&mut self, path: usize) -> Option<Asked> {
+        match self.random.below(4) {
+            0 => Some(Asked::Path(PathAsked::Stat(path))),
+            _ => None,
+        }
+    }
+
+    /// What comes behind a call on paths.
+    fn behind_path_call(&mut self, asked: PathAsked) -> Option<Asked> {
+        match asked {
+            PathAsked::Write(path, _, _) => self.behind_write(path),
+            PathAsked::Mkdir(path)
+            | PathAsked::Create(path)
+            | PathAsked::Truncate(path, _)
+            | PathAsked::Unlink(path)
+            | PathAsked::Rmdir(path)
+            | PathAsked::Rename(path, _)
+            | PathAsked::Rmtree(path) => self.behind_change(path),
+            PathAsked::Read(_) | PathAsked::Stat(_) | PathAsked::Readdir(_) => None,
+        }
+    }
+
     /// The next call. Behind one that keeps or restores all paths comes one that sees all of them.
     pub fn next(&mut self) -> Asked {
         let asked = match self.then {
@@ -194,6 +232,7 @@ impl Draw {
         self.then = match asked {
             Asked::Keep(name) => Some(Asked::Look(name)),
             Asked::Restore(_) => Some(Asked::Scan),
+            Asked::Path(asked) => self.behind_path_call(asked),
             _ => None,
         };
         asked
