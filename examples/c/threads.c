@@ -1,6 +1,6 @@
 // Calls forks and frozen trees of one volume from many threads without a lock, and a live volume beneath a read-write lock. Each call
-// is random, and its result is compared with that of a plain model (threads_model.h). It prints what it finds; examples/run compares
-// that with threads.expected, which was written by hand.
+// is random, and its result is compared with that of a plain model (threads_model.h). It prints what it finds, which
+// examples/run compares with threads.expected.
 //
 //     threads          tries what may run at the same time
 //     threads race     does what may not: two threads change one volume without a lock. Only a sanitizer of threads makes sense of it.

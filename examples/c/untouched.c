@@ -1,6 +1,7 @@
 // Shows what calls that only look write into memory that other threads may be reading: nothing, or counts of owners, which are atomic.
 // It makes all memory that was allocated before a call read-only, lets each write there trap, and looks at the instruction that makes
-// it: an atomic one has the prefix `lock`. examples/run compares what it prints with untouched.expected, which was written by hand.
+// it: an atomic one has the prefix `lock`. The last call changes the volume, and shows that a write is seen. examples/run compares what
+// it prints with untouched.expected.
 //
 // It is for Linux on x86-64, and takes the place of malloc, realloc and free: -Wl,--wrap=malloc -Wl,--wrap=realloc -Wl,--wrap=free.
 #define _GNU_SOURCE // REG_RIP, REG_EFL

@@ -242,9 +242,9 @@ fn main() -> Result<(), Errno> {
     let is_quick = std::env::args().any(|word| word == "--quick");
     let part = if is_quick { 50 } else { 1 };
     let extent = Extent {
-        stats: 1_000_000 / part,
-        reads: 400_000 / part,
-        listings: 20_000 / part,
+        stats: 500_000 / part,
+        reads: 100_000 / part,
+        listings: 10_000 / part,
         runs: if is_quick { 1 } else { 5 },
     };
     let (volume, most) = (fill_volume(1)?, THREADS[THREADS.len() - 1]);
