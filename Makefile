@@ -45,9 +45,10 @@ endif
 # malloc, realloc and free for the library: the toolchain has them.
 HEAP ?= $(dir $(shell rt doc 2> /dev/null))c/liblibc_c.a
 
-# The three parts that take minutes are built beside each other, if memory holds them: each takes up to 3 GB. A -j of the caller wins.
+# As many parts at once as there are processors: what is built of the crates without proofs takes 3 GB, a file in C or Rust far less. A -j of
+# the caller wins.
 ifeq ($(MAKELEVEL),0)
-MAKEFLAGS += -j$(shell awk -v most="$$(nproc)" '/^MemAvailable:/ { n = int($$2 / 3000000); print n < 1 ? 1 : n < most ? n : most }' /proc/meminfo)
+MAKEFLAGS += -j$(shell nproc)
 endif
 
 RELEASE := $(shell sed -n 's/^.define DOORVERVAIN_VERSION "\(.*\)"/\1/p' include/doorvervain.h)
@@ -86,20 +87,15 @@ libraries: $(LIBRARIES) $(MODULE)
 # ---- what takes minutes without proofs, and an hour with them
 
 ifeq ($(OUT),out/unproved)
-WITHOUT_PROOFS = @packaging/part '$(1)' 'builds without proofs, one to three minutes' tests/unproved $(2) $@
-$(OUT)/betr: $(shell packaging/sources betr) tests/unproved | toolchain
-	$(call WITHOUT_PROOFS,program betr,betr)
-
-$(OUT)/deltas: $(shell packaging/sources delta_tool) tests/unproved | toolchain
-	$(call WITHOUT_PROOFS,program deltas,delta_tool)
-
-$(OUT)/libdoorvervain.a: $(shell packaging/sources doorvervain) tests/unproved | toolchain
-	$(call WITHOUT_PROOFS,C library,doorvervain)
+# One pass over the crates gives all three. Before release 4.3 make would run it for each.
+$(if $(filter grouped-target,$(.FEATURES)),,$(error GNU make 4.3 or a later one is needed))
+$(OUT)/betr $(OUT)/deltas $(OUT)/libdoorvervain.a &: $(shell packaging/sources betr delta_tool doorvervain) tests/unproved tests/parts.py | toolchain
+	@packaging/part 'programs and C library' 'build without proofs, two to three minutes' tests/unproved --parts $(OUT)
 
 # The library whose accesses of memory a sanitizer of threads sees (examples/run).
 races: $(OUT)/races.a
-$(OUT)/races.a: $(shell packaging/sources doorvervain) tests/unproved | toolchain
-	$(call WITHOUT_PROOFS,C library for a sanitizer of threads,doorvervain) --races
+$(OUT)/races.a: $(shell packaging/sources doorvervain) tests/unproved tests/parts.py | toolchain
+	@packaging/part 'C library for a sanitizer of threads' 'builds without proofs, one to three minutes' tests/unproved doorvervain $@ --races
 else
 crates/betr/out/betr crates/delta_tool/out/delta_tool: | toolchain
 	@echo '$@ is not there: make prove proves and builds it, an hour at first; make UNPROVED=1 builds all without proofs' >&2
@@ -160,8 +156,12 @@ $(OUT)/rust.built: $(OUT)/lib/libdoorvervain.a $(wildcard bindings/rust/src/*) b
 	    $(CARGO) build --release --offline --quiet --manifest-path bindings/rust/Cargo.toml
 	@touch $@
 
-mount: $(ARCHIVE)
-	+@packaging/part mount compiles $(MAKE) -C mount $(TO_MOUNT)
+# Its files in C are compiled beside what takes minutes.
+mount: $(ARCHIVE) mount-objects
+	+@packaging/part mount links $(MAKE) -C mount $(TO_MOUNT)
+
+mount-objects: | toolchain $(if $(filter out/unproved,$(OUT)),,$(ARCHIVE))
+	+@packaging/part 'mount in C' compiles $(MAKE) -C mount $(TO_MOUNT) objects
 
 TO_MOUNT = OUT='$(OUT)' LIBRARY='$(abspath $(ARCHIVE))' PREFIX='$(PREFIX)' DESTDIR='$(DESTDIR)'
 
@@ -260,4 +260,4 @@ help:
 
 # A page that could not be made is none.
 .DELETE_ON_ERROR:
-.PHONY: all libraries races mount install uninstall missing dist test prove needs clean help toolchain always
+.PHONY: all libraries races mount mount-objects install uninstall missing dist test prove needs clean help toolchain always
