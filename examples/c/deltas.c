@@ -104,6 +104,8 @@ static void refusals(struct doorvervain *fs) {
     printf("no snapshot: %d, size %zu\n", number, size);
     printf("no name: %d", delta(fs, "", "a/b", CAPACITY, &size));
     printf(", size %zu\n", size);
+    printf("two bad names: %d", delta(fs, "a/b", "no", CAPACITY, &size));
+    printf(", %d\n", delta(fs, "no", "a/b", CAPACITY, &size));
     printf("no volume: %d, %d\n", delta(NULL, "", "", CAPACITY, &size), apply(NULL, "", &line));
     printf("a closed volume: %d, %d\n", delta(&closed, "", "", CAPACITY, &size), apply(&closed, "", &line));
     printf("a null name: %d, %d\n", doorvervain_delta(fs, NULL, 1, NULL, 0, text, CAPACITY, &size),
@@ -114,17 +116,7 @@ static void refusals(struct doorvervain *fs) {
 }
 
 #ifdef REFUSE
-// Which allocation from now on fails; none if it is 0.
-static long refused_request;
-
-void *__real_malloc(size_t size);
-void *__real_realloc(void *old, size_t size);
-
-static int refuses(void) { return refused_request > 0 && --refused_request == 0; }
-
-void *__wrap_malloc(size_t size) { return refuses() ? NULL : __real_malloc(size); }
-
-void *__wrap_realloc(void *old, size_t size) { return refuses() ? NULL : __real_realloc(old, size); }
+#include "refused_memory.h"
 
 static int has(struct doorvervain *fs, uint64_t length) {
     uint8_t kind;

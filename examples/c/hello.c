@@ -165,17 +165,7 @@ static void many(struct doorvervain *one) {
 }
 
 #ifdef REFUSE
-// Which allocation from now on fails; none if it is 0.
-static long refused_request;
-
-void *__real_malloc(size_t size);
-void *__real_realloc(void *old, size_t size);
-
-static int refuses(void) { return refused_request > 0 && --refused_request == 0; }
-
-void *__wrap_malloc(size_t size) { return refuses() ? NULL : __real_malloc(size); }
-
-void *__wrap_realloc(void *old, size_t size) { return refuses() ? NULL : __real_realloc(old, size); }
+#include "refused_memory.h"
 
 // Makes each allocation of a write fail in turn: it returns ENOMEM, and the volume is open and unchanged.
 static void refused_memory(struct doorvervain *one) {

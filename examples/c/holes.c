@@ -124,17 +124,7 @@ static void refusals(struct doorvervain *fs) {
 }
 
 #ifdef REFUSE
-// Which allocation from now on fails; none if it is 0.
-static long refused_request;
-
-void *__real_malloc(size_t size);
-void *__real_realloc(void *old, size_t size);
-
-static int refuses(void) { return refused_request > 0 && --refused_request == 0; }
-
-void *__wrap_malloc(size_t size) { return refuses() ? NULL : __real_malloc(size); }
-
-void *__wrap_realloc(void *old, size_t size) { return refuses() ? NULL : __real_realloc(old, size); }
+#include "refused_memory.h"
 
 // Makes each allocation of a punch and of the search for extents fail in turn: they return ENOMEM, and the file is unchanged.
 static void refused_memory(struct doorvervain *fs) {

@@ -170,17 +170,7 @@ static void say_refusals(void) {
 }
 
 #ifdef REFUSE
-// The toolchain's library asks for memory by malloc and realloc, which the linker wraps.
-static long left = -1; // how many requests are still granted; -1: all
-void *__real_malloc(size_t size);
-void *__real_realloc(void *old, size_t size);
-
-static int grants(void) {
-    if (left < 0) return 1;
-    return left-- > 0;
-}
-void *__wrap_malloc(size_t size) { return grants() ? __real_malloc(size) : NULL; }
-void *__wrap_realloc(void *old, size_t size) { return grants() ? __real_realloc(old, size) : NULL; }
+#include "refused_memory.h"
 
 // Applies the second body with each allocation failing in turn: it returns ENOMEM, and the changes before that are there.
 static int keeps_its_word(const struct log *log, long grant, uint8_t *number) {
@@ -189,9 +179,9 @@ static int keeps_its_word(const struct log *log, long grant, uint8_t *number) {
     uint8_t kind;
     uint64_t length, modified;
     if (new_volume(&fs)) return 0;
-    left = grant;
+    refused_request = grant + 1;
     *number = doorvervain_wal_replay(&fs, log->at, log->length, FIRST, &records, &done, &size);
-    left = -1;
+    refused_request = 0;
     uint8_t stands = doorvervain_stat(&fs, "/a/x", 4, &kind, &length, &modified);
     int has_file = records > 1 || (records == 1 && done > 0);
     doorvervain_close(&fs);

@@ -4,6 +4,7 @@
 // It calls the symbols of the archive where it can: the functions of the header set most results before they call. It is
 // linked with --wrap=malloc and --wrap=realloc, so that it can make allocations fail.
 #include "doorvervain.h"
+#include "refused_memory.h"
 #include <stdbool.h>
 #include <stdio.h>
 #include <string.h>
@@ -13,19 +14,9 @@ enum { CAPACITY = 64, SNAPSHOTS = 64, LONGEST_NAME = 255, OLD = 99, GUARD = 0xA5
 // The greatest length of a file.
 static const uint64_t GREATEST = (uint64_t)1 << 40;
 
-// Whether each allocation fails.
-static bool refused;
-
-void *__real_malloc(size_t size);
-void *__real_realloc(void *old, size_t size);
-
-void *__wrap_malloc(size_t size) { return refused ? NULL : __real_malloc(size); }
-
-void *__wrap_realloc(void *old, size_t size) { return refused ? NULL : __real_realloc(old, size); }
-
 // Lets allocations succeed again, and returns its argument.
 static uint8_t without_memory(uint8_t answer) {
-    refused = false;
+    refused_request = 0;
     return answer;
 }
 
@@ -118,7 +109,7 @@ static void read_numbers(struct doorvervain *fs) {
     READ_REFUSAL(ENAMETOOLONG, make_directory(fs, too_long()));
     READ_REFUSAL(EFBIG, cut(fs, "/d/f", GREATEST + 1));
     READ_REFUSAL(EBUSY, remove_directory(fs, "/"));
-    refused = true;
+    refused_request = ALL_REQUESTS;
     READ_REFUSAL(ENOMEM, without_memory(make_directory(fs, "/e")));
     READ_REFUSAL(ENOSPC, one_snapshot_more(fs));
     READ_REFUSAL(ERANGE, list_into_a_byte(fs));
@@ -169,7 +160,7 @@ static void look(struct doorvervain *fs, struct doorvervain_frozen *tree) {
     number = doorvervain_raw_frozen_readdir(tree, bytes_of("/d/f"), 4, buffer, CAPACITY, &count);
     say_count("frozen readdir of a file", number, count);
     count = OLD;
-    refused = true;
+    refused_request = ALL_REQUESTS;
     number = without_memory(doorvervain_raw_image(tree, buffer, CAPACITY, &count));
     say_count("image without memory", number, count);
 }
@@ -253,7 +244,7 @@ static const char *state_of(const void *at) { return at ? "open" : "closed"; }
 
 static void say_open(const char *what, uint16_t fanout, uint16_t pending, uint16_t leaf, bool no_memory) {
     struct doorvervain fs = {&fs};
-    refused = no_memory;
+    refused_request = no_memory ? ALL_REQUESTS : 0;
     uint8_t number = without_memory(doorvervain_raw_open(fanout, pending, leaf, &fs));
     printf("%s: %d, %s\n", what, number, state_of(fs.ptr));
     if (!number) doorvervain_close(&fs);
@@ -262,7 +253,7 @@ static void say_open(const char *what, uint16_t fanout, uint16_t pending, uint16
 static void say_load(const char *what, const char *text, uint16_t fanout, uint16_t pending, uint16_t leaf, bool no_memory) {
     struct doorvervain fs = {&fs};
     uint64_t line = OLD;
-    refused = no_memory;
+    refused_request = no_memory ? ALL_REQUESTS : 0;
     uint8_t number = without_memory(doorvervain_raw_load(fanout, pending, leaf, bytes_of(text), strlen(text), &line, &fs));
     printf("%s: %d at line %llu, %s\n", what, number, (unsigned long long)line, state_of(fs.ptr));
     if (!number) doorvervain_close(&fs);
@@ -290,7 +281,7 @@ static void make(void) {
 
 static void say_begin(const char *what, uint16_t fanout, uint16_t pending, uint16_t leaf, bool no_memory) {
     struct doorvervain_loader loading = {&loading};
-    refused = no_memory;
+    refused_request = no_memory ? ALL_REQUESTS : 0;
     uint8_t number = without_memory(doorvervain_raw_load_begin(fanout, pending, leaf, &loading));
     printf("%s: %d, %s\n", what, number, state_of(loading.ptr));
     if (!number) doorvervain_load_abort(&loading);
@@ -305,7 +296,7 @@ static void say_piece(const char *what, struct doorvervain_loader *loading, cons
 static void say_end(const char *what, struct doorvervain_loader loading, bool no_memory) {
     struct doorvervain fs = {&fs};
     uint64_t line = OLD;
-    refused = no_memory;
+    refused_request = no_memory ? ALL_REQUESTS : 0;
     uint8_t number = without_memory(doorvervain_raw_load_finish(loading, &line, &fs));
     printf("%s: %d at line %llu, %s\n", what, number, (unsigned long long)line, state_of(fs.ptr));
     if (!number) doorvervain_close(&fs);
@@ -336,7 +327,7 @@ static void print_pieces(struct doorvervain *fs) {
     uint8_t buffer[CAPACITY];
     size_t size = OLD;
     (void)doorvervain_freeze(fs, &tree);
-    refused = true;
+    refused_request = ALL_REQUESTS;
     uint8_t number = without_memory(doorvervain_raw_print_begin(tree, &printing));
     printf("begin of a print without memory: %d, %s\n", number, state_of(printing.ptr));
     (void)doorvervain_freeze(fs, &tree);
@@ -347,7 +338,7 @@ static void print_pieces(struct doorvervain *fs) {
     number = doorvervain_raw_print_next(&printing, buffer, CAPACITY, &size);
     printf("first piece: %d, begins as %.4s\n", number, (const char *)buffer);
     size = OLD;
-    refused = true;
+    refused_request = ALL_REQUESTS;
     number = without_memory(doorvervain_raw_print_next(&printing, buffer, CAPACITY, &size));
     say_count("piece without memory", number, size);
     number = doorvervain_raw_print_next(&printing, buffer, 3, &size);
@@ -360,7 +351,7 @@ static void freeze(struct doorvervain *fs) {
     uint8_t number = doorvervain_raw_open_snapshot(fs, bytes_of("none"), 4, &tree);
     printf("frozen of no snapshot: %d, %s\n", number, state_of(tree.ptr));
     tree.ptr = &tree;
-    refused = true;
+    refused_request = ALL_REQUESTS;
     number = without_memory(doorvervain_raw_freeze(fs, &tree));
     printf("freeze without memory: %d, %s\n", number, state_of(tree.ptr));
     number = doorvervain_raw_open_snapshot(fs, bytes_of("s0"), 2, &tree);

@@ -142,17 +142,7 @@ static void lacks(void) {
 }
 
 #ifdef REFUSE
-// Which allocation from now on fails; none if it is 0.
-static long refused_request;
-
-void *__real_malloc(size_t size);
-void *__real_realloc(void *old, size_t size);
-
-static int refuses(void) { return refused_request > 0 && --refused_request == 0; }
-
-void *__wrap_malloc(size_t size) { return refuses() ? NULL : __real_malloc(size); }
-
-void *__wrap_realloc(void *old, size_t size) { return refuses() ? NULL : __real_realloc(old, size); }
+#include "refused_memory.h"
 
 // Makes each allocation of a print fail in turn. A call that failed is repeated: the image is the same.
 static void print_without_memory(struct doorvervain *fs) {

@@ -4,25 +4,15 @@
 // It calls the symbols of the archive, with other numbers in their results. It is linked with --wrap=malloc and --wrap=realloc, so
 // that it can make allocations fail.
 #include "doorvervain.h"
-#include <stdbool.h>
+#include "refused_memory.h"
 #include <stdio.h>
 #include <string.h>
 
 enum { CAPACITY = 512, OLD = 99 };
 
-// Whether each allocation fails.
-static bool refused;
-
-void *__real_malloc(size_t size);
-void *__real_realloc(void *old, size_t size);
-
-void *__wrap_malloc(size_t size) { return refused ? NULL : __real_malloc(size); }
-
-void *__wrap_realloc(void *old, size_t size) { return refused ? NULL : __real_realloc(old, size); }
-
 // Lets allocations succeed again, and returns its argument.
 static uint8_t without_memory(uint8_t answer) {
-    refused = false;
+    refused_request = 0;
     return answer;
 }
 
@@ -76,7 +66,7 @@ static void say_without_memory(void) {
     uint8_t out[CAPACITY];
     size_t size = OLD;
     const char *path = long_path(200);
-    refused = true;
+    refused_request = ALL_REQUESTS;
     uint8_t number = without_memory(doorvervain_raw_attr_path(bytes_of(path), strlen(path), out, CAPACITY, &size));
     printf("without memory: %d, %zu bytes\n", number, size);
 }
