@@ -7,12 +7,13 @@ use Rattle.message.specs.Ranges.{reaches, within, earlier_end}
 use Rattle.message.proofs.KeyOrder.{both}
 use Rattle.node.specs.declared.node.Slot.{Slot}
 use Rattle.node.specs.See.{seen_slots}
-use Rattle.node.specs.Pure.{PNode, inner}
+use Rattle.node.specs.Pure.{PNode, inner, depth}
+use Rattle.node.specs.Searchable.{IsSearchable}
+use Rattle.node.proofs.Placing.{searchable_child, depth_child}
 use Rattle.node.specs.Meaning.{slot_number, value}
 use Rattle.node.specs.Site.{end_of}
 use Rattle.scan.specs.Pairs.{HasNone, IsFirst, AddsScan}
-use Rattle.message.specs.Stretches.{all_ends, IsStretch}
-use Rattle.message.specs.PointKeys.{IsClearStretch}
+use Rattle.message.specs.Stretches.{all_ends}
 use Rattle.scan.specs.Stretches.{slot_value}
 use Rattle.message.proofs.NextKey.{in_range}
 use Rattle.scan.proofs.Firsts.{none_start, none_join, first_join, first_along}
@@ -41,45 +42,39 @@ module _ {U V : Type 0} (means : U → Option V → Option V) where
     pub inside : (k : List ℕ) → is_below k stop ≡ true → is_below k (earlier_end hi (end_of None (seen_slots items) i)) ≡ true
     pub an_end : IfSome stop (λ d. (earlier_end hi (end_of None (seen_slots items) i) ≡ Some d) ⊎ Contains (all_ends s.pending.0) d)
 
-  -- the same in the words of the code: xs and ys are the slots, and `end` is where its stretches end
-  pub stands_at : (items xs ys : List (Slot U V)) (n : PNode U V) (hi : Option (List ℕ)) (from : List ℕ) (i : ℕ) (s : Slot U V) (end stop : Option (List ℕ)) → xs ≡ items → ys ≡ items → inner (seen_slots items) ≡ n → i < length xs → i ≡ slot_number (seen_slots xs) from → s ≡ get_or items i s → end ≡ earlier_end hi (end_of None (seen_slots ys) i) → IsStretch s.pending.0 from end stop → IsAt items n hi from i s stop
-  stands_at items xs ys n hi from i s end stop ex ey seen b number slot ee h =
-      let ends : Option (List ℕ) = earlier_end hi (end_of None (seen_slots items) i) in
-      let same : end ≡ ends = ee ∙ ap (λ (zs : List (Slot U V)). earlier_end hi (end_of None (seen_slots zs) i)) ey in
-      let stretch : IsStretch s.pending.0 from ends stop = subst (λ e. IsStretch s.pending.0 from e stop) same h in
+  -- the same in the words of the code: xs and ys are the slots, and `end` is where the slot ends, or the range
+  pub stands_at : {items xs ys : List (Slot U V)} {n : PNode U V} {hi : Option (List ℕ)} {from : List ℕ} {i : ℕ} {s : Slot U V} {end : Option (List ℕ)} (stop : Option (List ℕ))
+      → xs ≡ items → ys ≡ items → inner (seen_slots items) ≡ n → i < length xs → i ≡ slot_number (seen_slots xs) from → s ≡ get_or items i s → end ≡ earlier_end hi (end_of None (seen_slots ys) i)
+      → is_below from stop ≡ true → ((k : List ℕ) → is_below k stop ≡ true → is_below k end ≡ true) → IfSome stop (λ d. (end ≡ Some d) ⊎ Contains (all_ends s.pending.0) d) → IsAt items n hi from i s stop
+  stands_at {items} {xs} {ys} {n} {hi} {from} {i} {s} {end} stop ex ey seen b number slot ee after inside an_end =
+      let same : end ≡ earlier_end hi (end_of None (seen_slots items) i) = ee ∙ ap (λ (zs : List (Slot U V)). earlier_end hi (end_of None (seen_slots zs) i)) ey in
       record {
         seen = seen;
         bound = subst (λ (zs : List (Slot U V)). i < length zs) ex b;
         number = number ∙ ap (λ (zs : List (Slot U V)). slot_number (seen_slots zs) from) ex;
         slot = slot;
-        after = stretch.after;
-        inside = stretch.inside;
-        an_end = stretch.an_end;
-      }
-
-  -- likewise where the stretch is one of range-deletes
-  pub stands_clear : (items xs ys : List (Slot U V)) (n : PNode U V) (hi : Option (List ℕ)) (from : List ℕ) (i : ℕ) (s : Slot U V) (end stop : Option (List ℕ)) → xs ≡ items → ys ≡ items → inner (seen_slots items) ≡ n → i < length xs → i ≡ slot_number (seen_slots xs) from → s ≡ get_or items i s → end ≡ earlier_end hi (end_of None (seen_slots ys) i) → IsClearStretch s.pending.0 from end stop → IsAt items n hi from i s stop
-  stands_clear items xs ys n hi from i s end stop ex ey seen b number slot ee h =
-      let ends : Option (List ℕ) = earlier_end hi (end_of None (seen_slots items) i) in
-      let same : end ≡ ends = ee ∙ ap (λ (zs : List (Slot U V)). earlier_end hi (end_of None (seen_slots zs) i)) ey in
-      let stretch : IsClearStretch s.pending.0 from ends stop = subst (λ e. IsClearStretch s.pending.0 from e stop) same h in
-      record {
-        seen = seen;
-        bound = subst (λ (zs : List (Slot U V)). i < length zs) ex b;
-        number = number ∙ ap (λ (zs : List (Slot U V)). slot_number (seen_slots zs) from) ex;
-        slot = slot;
-        after = stretch.after;
-        inside = stretch.inside;
-        an_end = stretch.an_end;
+        after = after;
+        inside = subst (λ e. (k : List ℕ) → is_below k stop ≡ true → is_below k e ≡ true) same inside;
+        an_end = subst (λ e. IfSome stop (λ d. (e ≡ Some d) ⊎ Contains (all_ends s.pending.0) d)) same an_end;
       }
 
   -- a key below the end lies below the end of its slot
-  pub from_below : (items xs ys : List (Slot U V)) (hi : Option (List ℕ)) (from : List ℕ) (i : ℕ) (end : Option (List ℕ)) → xs ≡ items → ys ≡ items → i ≡ slot_number (seen_slots xs) from → is_below from hi ≡ true → end ≡ earlier_end hi (end_of None (seen_slots ys) i) → is_below from end ≡ true
-  from_below items xs ys hi from i end ex ey number h ee =
+  pub from_below : {items xs ys : List (Slot U V)} {hi : Option (List ℕ)} {from : List ℕ} {i : ℕ} {end : Option (List ℕ)} → xs ≡ items → ys ≡ items → i ≡ slot_number (seen_slots xs) from → is_below from hi ≡ true → end ≡ earlier_end hi (end_of None (seen_slots ys) i) → is_below from end ≡ true
+  from_below {items} {xs} {ys} {hi} {from} {i} {end} ex ey number h ee =
       let e : i ≡ slot_number (seen_slots items) from = number ∙ ap (λ (zs : List (Slot U V)). slot_number (seen_slots zs) from) ex in
       ap (is_below from) (ee ∙ ap (λ (zs : List (Slot U V)). earlier_end hi (end_of None (seen_slots zs) i)) ey) ∙ below_earlier hi (end_of None (seen_slots items) i) from h (subst (λ j. is_below from (end_of None (seen_slots items) j) ≡ true) (sym e) (number_inside (seen_slots items) from))
 
-  module _ (items : List (Slot U V)) (n : PNode U V) (hi : Option (List ℕ)) (from : List ℕ) (i : ℕ) (s : Slot U V) (stop : Option (List ℕ)) (x : IsAt items n hi from i s stop) where
+  module _ {items : List (Slot U V)} {n : PNode U V} {hi : Option (List ℕ)} {from : List ℕ} {i : ℕ} {s : Slot U V} {stop : Option (List ℕ)} (x : IsAt items n hi from i s stop) where
+    -- the child of the slot can be searched
+    pub child_searchable : IsSearchable n → IsSearchable s.child.value
+    child_searchable h =
+        let all : IsSearchable (inner (seen_slots items)) = subst (λ (m : PNode U V). IsSearchable m) (sym x.seen) h in
+        subst (λ (z : Slot U V). IsSearchable z.child.value) (sym x.slot) (searchable_child items i s x.bound all.1)
+
+    -- and lies lower than the node
+    pub child_lower : depth s.child.value < depth n
+    child_lower = subst (λ (m : PNode U V). depth s.child.value < depth m) x.seen (subst (λ (z : Slot U V). depth z.child.value < depth (inner (seen_slots items))) (sym x.slot) (depth_child items i s x.bound))
+
     pub below_ends : (k : List ℕ) → is_below k stop ≡ true → (is_below k hi ≡ true) × (is_below k (end_of None (seen_slots items) i) ≡ true)
     below_ends k h = below_both hi (end_of None (seen_slots items) i) k (x.inside k h)
 

@@ -1,5 +1,5 @@
 -- A pending list laid over pairs that were taken from below. f and child are any functions from keys to values.
-use Rattle.std.specs.Prelude.{◌≡◌, ℕ, ◌+◌, ◌<◌, ◌≤◌, ◌⊎◌, true, false, List, [], ◌∷◌, Option, Some, length}
+use Rattle.std.specs.Prelude.{◌≡◌, ℕ, ◌+◌, ◌<◌, ◌≤◌, ◌⊎◌, true, false, List, [], ◌∷◌, Option, Some, MatchOption, length}
 use Rattle.pathkey.specs.Keys.{is_below}
 use Rattle.message.specs.declared.msg.Msg.{Msg}
 use Rattle.message.specs.Effects.{effects}
@@ -25,6 +25,15 @@ module _ {V : Type 0} where
     pub left : length new < limit → (q : List ℕ) → stop ≡ Some q → reaches lo q ≡ true → AreAll f q hi rest
     pub all : length new < limit → stop ≡ hi → rest ≡ []
 
+  -- whatever range the pairs at hand are all of, if it reaches as far as `stop`: those before `stop` have moved
+  abbrev pub Moves : Option (List ℕ) → ℕ → List (List ℕ × V) → List (List ℕ × V) → List (List ℕ × V) → List (List ℕ × V) → Type 0
+  Moves stop limit old new rest left = (f : List ℕ → Option V) (lo : List ℕ) (hi : Option (List ℕ)) →
+      AreAll f lo hi rest → ((k : List ℕ) → is_below k stop ≡ true → is_below k hi ≡ true) → IsMoved f lo hi stop limit old new left
+
+  -- this holds of each function of which the pairs are all from a key on, and of the end of the range, which is past the key
+  abbrev pub OfAllFrom : List ℕ → List (List ℕ × V) → ((List ℕ → Option V) → Option (List ℕ) → Type 0) → Type 0
+  OfAllFrom key rest P = (child : List ℕ → Option V) (end : Option (List ℕ)) → AreAll child key end rest → is_below key end ≡ true → P child end
+
 module _ {U V : Type 0} where
   -- from `from` up to and without `end` stands a key with a message for it alone
   abbrev pub HasPoint : List (Msg U V) → List ℕ → Option (List ℕ) → Type 0
@@ -44,6 +53,11 @@ module _ {U V : Type 0} where
     pub added : AddsScan (applied means ms child) from end limit old new
     pub more : length new < limit → (length old + length below ≤ length new) ⊎ HasPoint ms from end
 
+  -- so they were over the pairs of each child that has just these, if they change no value in its gaps
+  abbrev pub Merges : (U → Option V → Option V) → List (Msg U V) → List ℕ → Option (List ℕ) → ℕ → List (List ℕ × V) → List (List ℕ × V) → List (List ℕ × V) → Type 0
+  Merges means ms from end limit below old new = (child : List ℕ → Option V) →
+      AreAll child from end below → LeavesGaps means ms child from end → IsMerged means ms child from end limit below old new
+
   -- a walk of a slot stands at `next`, past a key with a message for it alone, and wants more pairs
   pub record GoesOn (means : U → Option V → Option V) (s : Slot U V) (from : List ℕ) (stop : Option (List ℕ)) (limit : ℕ) (old new : List (List ℕ × V)) (next : List ℕ) : Type 0 where
     pub reached : reaches from next ≡ true
@@ -51,3 +65,8 @@ module _ {U V : Type 0} where
     pub added : AddsScan (slot_value means s) from (Some next) limit old new
     pub passed : HasPoint s.pending.0 from (Some next)
     pub room : length new < limit
+
+  -- a round ends the walk of a slot, or answers the key where it goes on
+  abbrev pub EndsOrGoesOn : (U → Option V → Option V) → Slot U V → List ℕ → Option (List ℕ) → ℕ → List (List ℕ × V) → List (List ℕ × V) → Option (List ℕ) → Type 0
+  EndsOrGoesOn means s from stop limit old new answer =
+      MatchOption answer (AddsScan (slot_value means s) from stop limit old new) (λ next. GoesOn means s from stop limit old new next)

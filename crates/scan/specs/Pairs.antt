@@ -1,5 +1,5 @@
 -- What the searches of a range of keys find. f is any function from keys to values, as what a tree means at each key.
-use Rattle.std.specs.Prelude.{◌≡◌, ℕ, ◌-◌, ◌<◌, ◌≤◌, ◌⊎◌, Bool, true, List, [], ◌∷◌, ◌++◌, Option, Some, None, length, drop, eqb, All, AllPairs, Contains}
+use Rattle.std.specs.Prelude.{◌≡◌, ℕ, ◌-◌, ◌<◌, ◌≤◌, ◌⊎◌, Bool, true, List, [], ◌∷◌, ◌++◌, Option, Some, None, MatchOption, length, drop, eqb, All, AllPairs, Contains}
 use Rattle.std.specs.List.{starts_with, prefix_len}
 use Rattle.std.specs.Option.{option_to_list}
 use Rattle.pathkey.specs.Keys.{next_key}
@@ -52,6 +52,14 @@ module _ {V : Type 0} where
   IsGiven f lo hi None all ps = HasNone f lo hi
   IsGiven f lo hi (Some p) all ps = IsFirst f lo hi (Some p) × AreFrom f (next_key p.0) hi all ps
 
+  -- this is that first pair; or there is none at hand, and any other stands from lo on, unless it is said that all are known
+  abbrev pub GivesFirst : (List ℕ → Option V) → List ℕ → Option (List ℕ) → Option (List ℕ × V) → Bool → List (List ℕ × V) → Type 0
+  GivesFirst f lo hi taken all ps = MatchOption taken (AreAhead f lo hi all []) (λ p. IsGiven f lo hi (Some p) all ps)
+
+  -- whatever the old pairs are a scan of, from lo on or before it: the first pair from lo on was taken out of them
+  abbrev pub TakesFrom : List ℕ → Bool → List (List ℕ × V) → Option (List ℕ × V) → Bool → List (List ℕ × V) → Type 0
+  TakesFrom lo all old taken all' new = (f : List ℕ → Option V) (hi : Option (List ℕ)) → AreAhead f lo hi all old → GivesFirst f lo hi taken all' new
+
   -- the pairs from the first on whose key does not pass the test
   abbrev pub from_unpassed : (List ℕ → Bool) → List (List ℕ × V) → List (List ℕ × V)
   from_unpassed test ps = drop (prefix_len (λ p. test p.0) ps) ps
@@ -63,3 +71,8 @@ module _ {V : Type 0} where
 -- from the key `front` on, the keys before the end are those that begin with it
 abbrev pub IsEndOf : List ℕ → List ℕ → Type 0
 IsEndOf end front = (k : List ℕ) → reaches front k ≡ true → before k end ≡ starts_with eqb k front
+
+-- whatever the old pairs are a scan of, behind `front`: the first was taken out of them that stands behind all that begin with it
+abbrev pub TakesPast : {V : Type 0} → List ℕ → Bool → List (List ℕ × V) → Option (List ℕ × V) → Bool → List (List ℕ × V) → Type 0
+TakesPast {V} front all old taken all' new = (f : List ℕ → Option V) (hi : Option (List ℕ)) (end : List ℕ) →
+    IsEndOf end front → AreFrom f (next_key front) hi all old → GivesFirst f end hi taken all' new

@@ -1,5 +1,5 @@
 -- How large the pieces of a range are, and when the tree is walked for one. Pairs are at hand; n is how many the next piece may have.
-use Rattle.std.specs.Prelude.{◌≡◌, ℕ, ◌+◌, ◌-◌, ◌^◌, ◌≤◌, min, max, Bool, false, not, cond, List, [], ◌∷◌, ◌++◌, Option, length}
+use Rattle.std.specs.Prelude.{◌≡◌, ℕ, ◌+◌, ◌-◌, ◌*◌, ◌^◌, ◌≤◌, min, max, Bool, false, not, cond, List, [], ◌∷◌, ◌++◌, Option, length}
 use Rattle.std.specs.Option.{option_to_list}
 use Rattle.message.specs.Ranges.{before}
 use Rattle.scan.specs.Pairs.{from_unpassed}
@@ -26,6 +26,10 @@ module _ {V : Type 0} where
   -- for how many pairs it is walked then
   abbrev pub walked_for : List ℕ → List (List ℕ × V) → ℕ → ℕ
   walked_for lo ps n = max (size_past (λ k. before k lo) ps n) 1
+
+  -- how many pairs the next piece may have once the first pair from lo on was asked for: twice as many as the last, and 256 at most
+  abbrev pub size_after : List ℕ → Bool → List (List ℕ × V) → ℕ → ℕ
+  size_after lo all ps n = cond (is_walked lo all ps) (min (2 * walked_for lo ps n) 256) (size_past (λ k. before k lo) ps n)
 
   -- a piece of n pairs, or of fewer where no other is left: the one that was given, and those at hand
   abbrev pub IsPiece : ℕ → Option (List ℕ × V) → Bool → List (List ℕ × V) → Type 0

@@ -1,14 +1,13 @@
 //! A pending list laid over the pairs of what is below it, in key order.
 //!
 //! Pairs that no message touches are moved as they are, up to the next key that has a message for it alone.
-ghost use Rattle.std.specs.Prelude.{◌≡◌, ◌<◌, ◌+◌, ◌++◌, ◌∷◌, List, ℕ, Option, Some, true, false, length, IfNone, IfSome, OnOk};
+ghost use Rattle.std.specs.Prelude.{◌≡◌, ◌<◌, ◌+◌, ◌++◌, ◌∷◌, List, ℕ, Some, true, false, length, IfNone, IfSome, OnOk};
 ghost use Rattle.std.specs.Option.{option_copied, option_map, option_to_list, is_some};
 ghost use Rattle.pathkey.specs.Keys.{is_below, next_key};
-ghost use Rattle.message.specs.Effects.{effects};
 ghost use Rattle.message.specs.PointKeys.{IsNextPoint};
 ghost use Rattle.pending.specs.Ahead.{IsMet, StandsAt, entries_left};
 ghost use Rattle.message.specs.Ranges.{before};
-ghost use Rattle.scan.specs.Merging.{AreAll, StartsFrom, IsMoved, LeavesGaps, IsMerged};
+ghost use Rattle.scan.specs.Merging.{AreAll, Merges, Moves, OfAllFrom, StartsFrom, applied};
 ghost use Rattle.scan.specs.Stretches.{pair_of};
 
 use message::Update;
@@ -29,7 +28,7 @@ pub fn apply_pass<'m, U: Update>(
     limit: usize,
     pairs: &mut Vec<(Key, U::Value)>,
 ) -> Result<(), NoMemory>
-    ensures { OnOk result ((child : List ℕ → Option U.Value) → AreAll child from.now (option_copied end.entry) below.items → LeavesGaps U.means list.now.0 child from.now (option_copied end.entry) → IsMerged U.means list.now.0 child from.now (option_copied end.entry) limit below.items pairs.old.items pairs.new.items) }
+    ensures { OnOk result (Merges U.means list.now.0 from.now (option_copied end.entry) limit below.items pairs.old.items pairs.new.items) }
 {
     let mut rest = VecDeque::from_vec(below);
     let mut at = from.copy(alloc)?;
@@ -77,7 +76,7 @@ fn push_before<V: Drop>(
     pairs: &mut Vec<(Key, V)>,
 ) -> Result<(), NoMemory>
     ensures count { OnOk result (length pairs.new.items + length rest.new.items ≡ length pairs.old.items + length rest.old.items) }
-    ensures moved { OnOk result ((f : List ℕ → Option V) (lo : List ℕ) (hi : Option (List ℕ)) → AreAll f lo hi rest.old.items → ((k : List ℕ) → is_below k (option_copied stop.entry) ≡ true → is_below k hi ≡ true) → IsMoved f lo hi (option_copied stop.entry) limit pairs.old.items pairs.new.items rest.new.items) }
+    ensures moved { OnOk result (Moves (option_copied stop.entry) limit pairs.old.items pairs.new.items rest.old.items rest.new.items) }
 {
     'moves: while pairs.len() < limit {
         let Some(pair) = pop_before(rest, stop) else {
@@ -97,8 +96,8 @@ fn push_at<U: Update>(
     pairs: &mut Vec<(Key, U::Value)>,
 ) -> Result<(), NoMemory>
     requires { IsMet ahead.now.0 met.now }
-    ensures pushed { OnOk result ((child : List ℕ → Option U.Value) (end : Option (List ℕ)) → AreAll child met.now.0 end rest.old.items → is_below met.now.0 end ≡ true → pairs.new.items ≡ pairs.old.items ++ option_to_list (pair_of met.now.0 (effects U.means ahead.now.0 met.now.0 (child met.now.0)))) }
-    ensures left { OnOk result ((child : List ℕ → Option U.Value) (end : Option (List ℕ)) → AreAll child met.now.0 end rest.old.items → is_below met.now.0 end ≡ true → AreAll child (next_key met.now.0) end rest.new.items) }
+    ensures pushed { OnOk result (OfAllFrom met.now.0 rest.old.items (λ child end. pairs.new.items ≡ pairs.old.items ++ option_to_list (pair_of met.now.0 (applied U.means ahead.now.0 child met.now.0)))) }
+    ensures left { OnOk result (OfAllFrom met.now.0 rest.old.items (λ child end. AreAll child (next_key met.now.0) end rest.new.items)) }
 {
     let key = met.key();
     let old = take_by(rest, key);

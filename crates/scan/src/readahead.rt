@@ -1,12 +1,11 @@
 //! The pairs of a range one after the other, taken from the tree piece by piece.
-ghost use Rattle.std.specs.Prelude.{◌≡◌, ◌+◌, ◌-◌, ◌*◌, ◌^◌, ℕ, [], List, Option, Some, Bool, true, false, cond, eqb, max, min, IfOk, IfNone, MatchOption};
+ghost use Rattle.std.specs.Prelude.{◌≡◌, ◌+◌, ◌-◌, ◌*◌, ◌^◌, ℕ, [], List, Bool, true, false, eqb, max, min, IfOk, IfNone};
 ghost use Rattle.std.specs.Fn.{ComputesKey};
 ghost use Rattle.std.specs.List.{starts_with};
 ghost use Rattle.message.specs.Ranges.{before};
 ghost use Rattle.node.specs.Meaning.{value as value_at};
-ghost use Rattle.pathkey.specs.Keys.{next_key};
-ghost use Rattle.scan.specs.Pairs.{AreAhead, AreFrom, IsEndOf, IsGiven, IsTaken};
-ghost use Rattle.scan.specs.Sizes.{IsPiece, is_walked, raised, size_past, walked_for};
+ghost use Rattle.scan.specs.Pairs.{AreAhead, IsGiven, IsTaken, TakesFrom, TakesPast};
+ghost use Rattle.scan.specs.Sizes.{IsPiece, is_walked, raised, size_after, size_past, walked_for};
 
 use crate::scan;
 use message::Update;
@@ -69,7 +68,7 @@ impl<U: Update> Readahead<U> {
         ensures piece { is_walked range.now.lo self.old.all self.old.pairs.items ≡ true → IfOk result (λ r. IsPiece (walked_for range.now.lo self.old.pairs.items self.old.most) r self.new.all self.new.pairs.items) }
         ensures walks { self.new.walks ≡ raised (is_walked range.now.lo self.old.all self.old.pairs.items) 1 self.old.walks }
         ensures asked { self.new.asked ≡ raised (is_walked range.now.lo self.old.all self.old.pairs.items) (walked_for range.now.lo self.old.pairs.items self.old.most) self.old.asked }
-        ensures most { self.new.most ≡ cond (is_walked range.now.lo self.old.all self.old.pairs.items) (min (2 * walked_for range.now.lo self.old.pairs.items self.old.most) 256) (size_past (λ k. before k range.now.lo) self.old.pairs.items self.old.most) }
+        ensures most { self.new.most ≡ size_after range.now.lo self.old.all self.old.pairs.items self.old.most }
     {
         if let Some(pair) = self.take_from(&range.lo) {
             return Ok(Some(pair));
@@ -115,7 +114,7 @@ impl<U: Update> Readahead<U> {
         ensures taken { IsTaken (λ k. starts_with eqb k front.now) self.old.pairs.items result self.new.pairs.items }
         ensures most { self.new.most ≡ size_past (λ k. starts_with eqb k front.now) self.old.pairs.items self.old.most }
         ensures counts { (self.new.walks ≡ self.old.walks) × (self.new.asked ≡ self.old.asked) }
-        ensures given { (f : List ℕ → Option U.Value) (hi : Option (List ℕ)) (end : List ℕ) → IsEndOf end front.now → AreFrom f (next_key front.now) hi self.old.all self.old.pairs.items → MatchOption result (AreAhead f end hi self.new.all []) (λ p. IsGiven f end hi (Some p) self.new.all self.new.pairs.items) }
+        ensures given { TakesPast front.now self.old.all self.old.pairs.items result self.new.all self.new.pairs.items }
     {
         self.take_unless(|key| key.as_bytes().starts_with(front.as_bytes()))
     }
@@ -126,7 +125,7 @@ impl<U: Update> Readahead<U> {
         ensures taken { IsTaken (λ k. before k lo.now) self.old.pairs.items result self.new.pairs.items }
         ensures most { self.new.most ≡ size_past (λ k. before k lo.now) self.old.pairs.items self.old.most }
         ensures counts { (self.new.walks ≡ self.old.walks) × (self.new.asked ≡ self.old.asked) }
-        ensures given { (f : List ℕ → Option U.Value) (hi : Option (List ℕ)) → AreAhead f lo.now hi self.old.all self.old.pairs.items → MatchOption result (AreAhead f lo.now hi self.new.all []) (λ p. IsGiven f lo.now hi (Some p) self.new.all self.new.pairs.items) }
+        ensures given { TakesFrom lo.now self.old.all self.old.pairs.items result self.new.all self.new.pairs.items }
     {
         self.take_unless(|key| key.cmp(lo).is_lt())
     }

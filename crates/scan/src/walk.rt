@@ -2,13 +2,13 @@
 //!
 //! The pairs that the messages leave as they are come from the child in one walk, and the keys with messages of their own are
 //! laid between them.
-ghost use Rattle.std.specs.Prelude.{◌≡◌, ◌<◌, List, ℕ, OnOk, IfOk, MatchOption, length, true, false};
+ghost use Rattle.std.specs.Prelude.{◌≡◌, ◌<◌, List, ℕ, OnOk, IfOk, length, true, false};
 ghost use Rattle.std.specs.Option.{option_copied};
 ghost use Rattle.message.specs.PointKeys.{is_cleared};
 ghost use Rattle.message.specs.Ranges.{within};
 ghost use Rattle.node.specs.Meaning.{value as value_at};
 ghost use Rattle.node.specs.Searchable.{IsSearchable};
-ghost use Rattle.scan.specs.Merging.{GoesOn};
+ghost use Rattle.scan.specs.Merging.{EndsOrGoesOn};
 ghost use Rattle.scan.specs.Pairs.{AddsScan};
 ghost use Rattle.scan.specs.Stretches.{slot_value};
 
@@ -130,7 +130,7 @@ fn round<U: Update>(
     requires searchable { IsSearchable slot.now.child.value }
     requires clear { (k : List ℕ) → within from.now (option_copied stop) k ≡ true → is_cleared slot.now.pending.0 k ≡ false }
     requires room { length pairs.old.items < limit }
-    ensures { IfOk result (λ r. MatchOption r (AddsScan (slot_value U.means slot.now) from.now (option_copied stop.entry) limit pairs.old.items pairs.new.items) (λ next. GoesOn U.means slot.now from.now (option_copied stop.entry) limit pairs.old.items pairs.new.items next)) }
+    ensures { IfOk result (λ r. EndsOrGoesOn U.means slot.now from.now (option_copied stop.entry) limit pairs.old.items pairs.new.items r) }
 {
     let wanted = limit - pairs.len();
     let mut below = Vec::new(alloc);

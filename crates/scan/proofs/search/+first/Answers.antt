@@ -1,12 +1,9 @@
 use Rattle.scan.proofs.search.+first.Goals.{first_of_slot-in-Untouched, first_of_slot-in_default-matches}
-use Rattle.std.proofs.Common.{true≢false, arith, ap, sym, subst, ◌∙◌, ◌≡◌, ◌<◌, ◌+◌, ◌*◌, length, true, Some, None}
+use Rattle.std.proofs.Common.{true≢false, arith, ap, sym, subst, ◌∙◌, ◌≡◌, ◌<◌, ◌+◌, ◌*◌, true, Some, None}
 use Rattle.std.specs.Option.{option_copied}
 use Rattle.node.specs.Meaning.{value}
-use Rattle.node.specs.Pure.{PNode, inner, depth}
-use Rattle.node.specs.Searchable.{IsSearchable}
-use Rattle.node.specs.See.{see, seen_slots}
-use Rattle.node.specs.declared.node.Slot.{Slot}
-use Rattle.node.proofs.Placing.{searchable_child, depth_child}
+use Rattle.node.specs.Pure.{depth}
+use Rattle.node.specs.See.{see}
 use Rattle.pathkey.specs.Keys.{is_below}
 use Rattle.message.specs.Stretches.{ActAlike}
 use Rattle.scan.specs.Stretches.{slot_value}
@@ -15,91 +12,46 @@ use Rattle.scan.proofs.OnStretches.{first_of_resolved, first_untouched, first_ch
 use Rattle.std.proofs.lemmas.Result.{IfOk-weaker}
 use Rattle.pathkey.proofs.KeyOrder.{reaches-refl}
 use Rattle.scan.proofs.Firsts.{none_past, as_called}
-use Rattle.scan.proofs.Searching.{at_start, from_below, stands_at, found, no_more, goes_on, fewer_ahead}
+use Rattle.scan.proofs.Searching.{at_start, child_lower, child_searchable, from_below, stands_at, found, no_more, goes_on, fewer_ahead}
 use Rattle.scan.proofs.search.+first.Goals as goal
 
 pub first-stretches-init : goal.first-stretches-init
 first-stretches-init g t c = at_start g.U.Update.means c.args.node.now c.args.lo.now c.in_ok-from.from c.in_ok-from.ensures (reaches-refl c.args.lo.now)
 
 pub first-segment_end-requires : goal.first-segment_end-requires
-first-segment_end-requires g t c = from_below g.U.Update.means c.in-Inner.slots.items c.as_slice-in-stretches.result.now c.as_slice-in-stretches-2.result.now (option_copied c.args.hi) c.stretches.from c.slot_of-i.result (option_copied c.slot_end-end.result) c.as_slice-in-stretches.ensures.value c.as_slice-in-stretches-2.ensures.value c.slot_of-i.ensures.number (sym c.is_before_end.ensures ∙ c.stretches-test.true) c.slot_end-end.ensures
+first-segment_end-requires g t c = from_below g.U.Update.means c.as_slice-in-stretches.ensures.value c.as_slice-in-stretches-2.ensures.value c.slot_of-i.ensures.number (sym c.is_before_end.ensures ∙ c.stretches-test.true) c.slot_end-end.ensures
 
 pub first-first_of_slot-requires : goal.first-first_of_slot-requires
 first-first_of_slot-requires g t c κs within =
-    let U = g.row.U.Denot in
-    let V = g.row.U-Value.Denot in
-    let xs = c.in-Inner.slots.items in
-    let i = c.slot_of-i.result in
+    let at = stands_at g.U.Update.means c.in_ok-stop.stop c.as_slice-in-stretches.ensures.value c.as_slice-in-stretches-2.ensures.value (ap see (sym c.in-Inner.is) ∙ c.body.ensures) c.slot_of-i.ensures.bound c.slot_of-i.ensures.number c.index-slot.ensures c.slot_end-end.ensures c.in_ok-stop.ensures.after c.in_ok-stop.ensures.inside c.in_ok-stop.ensures.an_end in
     let s = c.index-slot.result.now in
-    let b : i < length xs = omega (arith, c.slot_of-i.ensures.bound, ap length c.as_slice-in-stretches.ensures.value) in
-    let seen : inner (seen_slots xs) ≡ c.args.node.now = ap see (sym c.in-Inner.is) ∙ c.body.ensures in
-    let all = subst (λ (n : PNode U V). IsSearchable n) (sym seen) c.requires in
-    let child = subst (λ (x : Slot U V). IsSearchable x.child.value) (sym c.index-slot.ensures) (searchable_child xs i s b all.1) in
-    let low = subst (λ (x : Slot U V). depth x.child.value < depth (inner (seen_slots xs))) (sym c.index-slot.ensures) (depth_child xs i s b) in
-    let below : depth s.child.value < depth c.args.node.now = subst (λ (n : PNode U V). depth s.child.value < depth n) seen low in
+    let below : depth s.child.value < depth c.args.node.now = child_lower g.U.Update.means at in
     let falls : 2 * depth s.child.value + 1 < 2 * depth c.args.node.now = omega (arith, below) in
     let d : 2 * depth c.args.node.now ≡ t = c.decreases in
-    let stretch = c.in_ok-stop.ensures in
     let e = sym c.as_ref.ensures.value in
-    let some = subst (λ o. is_below c.stretches.from o ≡ true) e stretch.after in
-    let alike = subst (λ o. ActAlike s.pending.0 c.stretches.from o) e stretch.alike in
-    (subst (λ m. 2 * depth s.child.value + 1 < m) d falls, (within.0, (within.1, (child, (some, alike)))))
+    let some = subst (λ o. is_below c.stretches.from o ≡ true) e c.in_ok-stop.ensures.after in
+    let alike = subst (λ o. ActAlike s.pending.0 c.stretches.from o) e c.in_ok-stop.ensures.alike in
+    (subst (λ m. 2 * depth s.child.value + 1 < m) d falls, (within.0, (within.1, (child_searchable g.U.Update.means at c.requires, (some, alike)))))
 
 pub first-returns-in-Some : goal.first-returns-in-Some
 first-returns-in-Some g t c =
-    let means = g.U.Update.means in
-    let items = c.in-Inner.slots.items in
-    let n = c.args.node.now in
-    let lo = c.args.lo.now in
-    let hi = option_copied c.args.hi in
-    let from = c.stretches.from in
-    let i = c.slot_of-i.result in
-    let s = c.index-slot.result.now in
-    let stop = c.in_ok-stop.stop in
-    let at = stands_at means items c.as_slice-in-stretches.result.now c.as_slice-in-stretches-2.result.now n hi from i s (option_copied c.slot_end-end.result) stop c.as_slice-in-stretches.ensures.value c.as_slice-in-stretches-2.ensures.value (ap see (sym c.in-Inner.is) ∙ c.body.ensures) c.slot_of-i.ensures.bound c.slot_of-i.ensures.number c.index-slot.ensures c.slot_end-end.ensures c.in_ok-stop.ensures in
-    found means items n hi from i s stop at lo c.stretches.invariant c.in-Some.pair (as_called (slot_value means s) from (option_copied c.as_ref.result) stop c.in_ok-pair.field-0 (Some c.in-Some.pair) c.as_ref.ensures.value c.in-Some.is c.in_ok-pair.ensures)
+    let at = stands_at g.U.Update.means c.in_ok-stop.stop c.as_slice-in-stretches.ensures.value c.as_slice-in-stretches-2.ensures.value (ap see (sym c.in-Inner.is) ∙ c.body.ensures) c.slot_of-i.ensures.bound c.slot_of-i.ensures.number c.index-slot.ensures c.slot_end-end.ensures c.in_ok-stop.ensures.after c.in_ok-stop.ensures.inside c.in_ok-stop.ensures.an_end in
+    found g.U.Update.means at c.args.lo.now c.stretches.invariant c.in-Some.pair (as_called (slot_value g.U.Update.means c.index-slot.result.now) c.stretches.from (option_copied c.as_ref.result) c.in_ok-stop.stop c.in_ok-pair.field-0 (Some c.in-Some.pair) c.as_ref.ensures.value c.in-Some.is c.in_ok-pair.ensures)
 
 pub first-returns-in_default-stop : goal.first-returns-in_default-stop
 first-returns-in_default-stop g t c =
-    let means = g.U.Update.means in
-    let items = c.in-Inner.slots.items in
-    let n = c.args.node.now in
-    let lo = c.args.lo.now in
-    let hi = option_copied c.args.hi in
-    let from = c.stretches.from in
-    let i = c.slot_of-i.result in
-    let s = c.index-slot.result.now in
-    let stop = c.in_ok-stop.stop in
-    let at = stands_at means items c.as_slice-in-stretches.result.now c.as_slice-in-stretches-2.result.now n hi from i s (option_copied c.slot_end-end.result) stop c.as_slice-in-stretches.ensures.value c.as_slice-in-stretches-2.ensures.value (ap see (sym c.in-Inner.is) ∙ c.body.ensures) c.slot_of-i.ensures.bound c.slot_of-i.ensures.number c.index-slot.ensures c.slot_end-end.ensures c.in_ok-stop.ensures in
-    no_more means items n hi from i s stop at lo c.stretches.invariant c.in_default-stop.is (as_called (slot_value means s) from (option_copied c.as_ref.result) stop c.in_ok-pair.field-0 None c.as_ref.ensures.value c.in_default.is c.in_ok-pair.ensures)
+    let at = stands_at g.U.Update.means c.in_ok-stop.stop c.as_slice-in-stretches.ensures.value c.as_slice-in-stretches-2.ensures.value (ap see (sym c.in-Inner.is) ∙ c.body.ensures) c.slot_of-i.ensures.bound c.slot_of-i.ensures.number c.index-slot.ensures c.slot_end-end.ensures c.in_ok-stop.ensures.after c.in_ok-stop.ensures.inside c.in_ok-stop.ensures.an_end in
+    no_more g.U.Update.means at c.args.lo.now c.stretches.invariant c.in_default-stop.is (as_called (slot_value g.U.Update.means c.index-slot.result.now) c.stretches.from (option_copied c.as_ref.result) c.in_ok-stop.stop c.in_ok-pair.field-0 None c.as_ref.ensures.value c.in_default.is c.in_ok-pair.ensures)
 
 pub first-stretches-smaller : goal.first-stretches-smaller
 first-stretches-smaller g t c =
-    let means = g.U.Update.means in
-    let items = c.in-Inner.slots.items in
-    let n = c.args.node.now in
-    let lo = c.args.lo.now in
-    let hi = option_copied c.args.hi in
-    let from = c.stretches.from in
-    let i = c.slot_of-i.result in
-    let s = c.index-slot.result.now in
-    let stop = c.in_ok-stop.stop in
-    let at = stands_at means items c.as_slice-in-stretches.result.now c.as_slice-in-stretches-2.result.now n hi from i s (option_copied c.slot_end-end.result) stop c.as_slice-in-stretches.ensures.value c.as_slice-in-stretches-2.ensures.value (ap see (sym c.in-Inner.is) ∙ c.body.ensures) c.slot_of-i.ensures.bound c.slot_of-i.ensures.number c.index-slot.ensures c.slot_end-end.ensures c.in_ok-stop.ensures in
-    fewer_ahead means items n hi from i s stop at c.in-Some-stop.next c.in-Some-stop.is
+    let at = stands_at g.U.Update.means c.in_ok-stop.stop c.as_slice-in-stretches.ensures.value c.as_slice-in-stretches-2.ensures.value (ap see (sym c.in-Inner.is) ∙ c.body.ensures) c.slot_of-i.ensures.bound c.slot_of-i.ensures.number c.index-slot.ensures c.slot_end-end.ensures c.in_ok-stop.ensures.after c.in_ok-stop.ensures.inside c.in_ok-stop.ensures.an_end in
+    fewer_ahead g.U.Update.means at c.in-Some-stop.next c.in-Some-stop.is
 
 pub first-stretches-preserved : goal.first-stretches-preserved
 first-stretches-preserved g t c =
-    let means = g.U.Update.means in
-    let items = c.in-Inner.slots.items in
-    let n = c.args.node.now in
-    let lo = c.args.lo.now in
-    let hi = option_copied c.args.hi in
-    let from = c.stretches.from in
-    let i = c.slot_of-i.result in
-    let s = c.index-slot.result.now in
-    let stop = c.in_ok-stop.stop in
-    let at = stands_at means items c.as_slice-in-stretches.result.now c.as_slice-in-stretches-2.result.now n hi from i s (option_copied c.slot_end-end.result) stop c.as_slice-in-stretches.ensures.value c.as_slice-in-stretches-2.ensures.value (ap see (sym c.in-Inner.is) ∙ c.body.ensures) c.slot_of-i.ensures.bound c.slot_of-i.ensures.number c.index-slot.ensures c.slot_end-end.ensures c.in_ok-stop.ensures in
-    goes_on means items n hi from i s stop at lo c.stretches.invariant c.in-Some-stop.next c.in-Some-stop.is (as_called (slot_value means s) from (option_copied c.as_ref.result) stop c.in_ok-pair.field-0 None c.as_ref.ensures.value c.in_default.is c.in_ok-pair.ensures)
+    let at = stands_at g.U.Update.means c.in_ok-stop.stop c.as_slice-in-stretches.ensures.value c.as_slice-in-stretches-2.ensures.value (ap see (sym c.in-Inner.is) ∙ c.body.ensures) c.slot_of-i.ensures.bound c.slot_of-i.ensures.number c.index-slot.ensures c.slot_end-end.ensures c.in_ok-stop.ensures.after c.in_ok-stop.ensures.inside c.in_ok-stop.ensures.an_end in
+    goes_on g.U.Update.means at c.args.lo.now c.stretches.invariant c.in-Some-stop.next c.in-Some-stop.is (as_called (slot_value g.U.Update.means c.index-slot.result.now) c.stretches.from (option_copied c.as_ref.result) c.in_ok-stop.stop c.in_ok-pair.field-0 None c.as_ref.ensures.value c.in_default.is c.in_ok-pair.ensures)
 
 pub first-returns : goal.first-returns
 first-returns g t c = none_past (value g.U.Update.means c.args.node.now) c.args.lo.now c.stretches.from (option_copied c.args.hi) c.stretches.invariant.none (sym c.is_before_end.ensures ∙ c.stretches-test.false)

@@ -3,11 +3,8 @@ use Rattle.std.specs.Prelude.{OnOk}
 use Rattle.std.specs.Option.{option_copied}
 use Rattle.std.proofs.lemmas.Result.{on_ok_weaker}
 use Rattle.node.specs.Meaning.{value, lookup}
-use Rattle.node.specs.Pure.{PNode, inner, leaf, depth}
-use Rattle.node.specs.Searchable.{IsSearchable}
-use Rattle.node.specs.See.{see, seen_slots}
-use Rattle.node.specs.declared.node.Slot.{Slot}
-use Rattle.node.proofs.Placing.{searchable_child, depth_child}
+use Rattle.node.specs.Pure.{PNode, leaf, depth}
+use Rattle.node.specs.See.{see}
 use Rattle.pathkey.specs.Keys.{is_below}
 use Rattle.pathkey.proofs.KeyOrder.{le_le}
 use Rattle.message.specs.PointKeys.{is_cleared, IsNextPoint}
@@ -15,11 +12,11 @@ use Rattle.message.specs.Ranges.{reaches, before, within}
 use Rattle.message.proofs.KeyOrder.{both}
 use Rattle.message.proofs.NextKey.{in_range, reaches-next}
 use Rattle.scan.specs.Pairs.{AddsScan, IsScan}
-use Rattle.scan.specs.Merging.{AreAll, LeavesGaps, IsMerged, HasPoint, GoesOn}
+use Rattle.scan.specs.Merging.{Merges, HasPoint, GoesOn}
 use Rattle.scan.specs.Stretches.{slot_value}
 use Rattle.scan.proofs.Joins.{walk_start, walk_on, walk_end, walk_full, walk_past, scan_added}
 use Rattle.scan.proofs.Merging.{adds_cleared, adds_pointless, adds_enough, all_fewer, gaps_clear, round_is, point_falls, copied_none}
-use Rattle.scan.proofs.Searching.{from_below, stands_clear, walked_on, walked_out, fewer_ahead}
+use Rattle.scan.proofs.Searching.{child_lower, child_searchable, from_below, stands_at, walked_on, walked_out, fewer_ahead}
 use Rattle.scan.proofs.walk.+walk.Goals as goal
 
 pub walk-returns-in-Leaf : goal.walk-returns-in-Leaf
@@ -40,72 +37,35 @@ pub walk-returns-then-len-limit : goal.walk-returns-then-len-limit
 walk-returns-then-len-limit g t c = walk_full (value g.U.Update.means c.args.node.now) c.args.lo.now (option_copied c.args.hi) c.args.limit c.stretches.from c.args.pairs.now.items c.stretches.pairs.items c.stretches.invariant (omega (arith, c.len.ensures, c.stretches.pairs.ok.0, c.if-len-limit.true))
 
 pub walk-range_deleted_until-requires : goal.walk-range_deleted_until-requires
-walk-range_deleted_until-requires g t c = from_below g.U.Update.means c.in-Inner.slots.items c.as_slice-in-stretches.result.now c.as_slice-in-stretches-2.result.now (option_copied c.args.hi) c.stretches.from c.slot_of-i.result (option_copied c.slot_end-end.result) c.as_slice-in-stretches.ensures.value c.as_slice-in-stretches-2.ensures.value c.slot_of-i.ensures.number (sym c.is_before_end.ensures ∙ c.stretches-test.true) c.slot_end-end.ensures
+walk-range_deleted_until-requires g t c = from_below g.U.Update.means c.as_slice-in-stretches.ensures.value c.as_slice-in-stretches-2.ensures.value c.slot_of-i.ensures.number (sym c.is_before_end.ensures ∙ c.stretches-test.true) c.slot_end-end.ensures
 
 pub walk-walk_slot-requires : goal.walk-walk_slot-requires
 walk-walk_slot-requires g t c κs live =
-    let U = g.row.U.Denot in
-    let V = g.row.U-Value.Denot in
-    let xs = c.in-Inner.slots.items in
-    let i = c.slot_of-i.result in
+    let at = stands_at g.U.Update.means c.in_ok-stop.stop c.as_slice-in-stretches.ensures.value c.as_slice-in-stretches-2.ensures.value (ap see (sym c.in-Inner.is) ∙ c.body.ensures) c.slot_of-i.ensures.bound c.slot_of-i.ensures.number c.index-slot.ensures c.slot_end-end.ensures c.in_ok-stop.ensures.after c.in_ok-stop.ensures.inside c.in_ok-stop.ensures.an_end in
     let s = c.index-slot.result.now in
-    let b : i < length xs = omega (arith, c.slot_of-i.ensures.bound, ap length c.as_slice-in-stretches.ensures.value) in
-    let seen : inner (seen_slots xs) ≡ c.args.node.now = ap see (sym c.in-Inner.is) ∙ c.body.ensures in
-    let all = subst (λ (n : PNode U V). IsSearchable n) (sym seen) c.requires in
-    let child = subst (λ (x : Slot U V). IsSearchable x.child.value) (sym c.index-slot.ensures) (searchable_child xs i s b all.1) in
-    let low = subst (λ (x : Slot U V). depth x.child.value < depth (inner (seen_slots xs))) (sym c.index-slot.ensures) (depth_child xs i s b) in
-    let below : depth s.child.value < depth c.args.node.now = subst (λ (n : PNode U V). depth s.child.value < depth n) seen low in
+    let below : depth s.child.value < depth c.args.node.now = child_lower g.U.Update.means at in
     let falls : 4 * depth s.child.value + 3 < 4 * depth c.args.node.now = omega (arith, below) in
     let d : 4 * depth c.args.node.now ≡ t = c.decreases in
-    let stretch = c.in_ok-stop.ensures in
-    let e = sym c.as_ref.ensures.value in
-    let alike = subst (λ o. (k : List ℕ) → within c.stretches.from o k ≡ true → is_cleared s.pending.0 k ≡ is_cleared s.pending.0 c.stretches.from) e stretch.alike in
+    let alike = subst (λ o. (k : List ℕ) → within c.stretches.from o k ≡ true → is_cleared s.pending.0 k ≡ is_cleared s.pending.0 c.stretches.from) (sym c.as_ref.ensures.value) c.in_ok-stop.ensures.alike in
     let room : length c.stretches.pairs.items < c.args.limit = omega (arith, c.len.ensures, c.stretches.pairs.ok.0, c.if-len-limit.false) in
-    (subst (λ m. 4 * depth s.child.value + 3 < m) d falls, (live.0, (live.1, (child, (alike, room)))))
+    (subst (λ m. 4 * depth s.child.value + 3 < m) d falls, (live.0, (live.1, (child_searchable g.U.Update.means at c.requires, (alike, room)))))
 
 pub walk-returns-in_default : goal.walk-returns-in_default
 walk-returns-in_default g t c =
-    let means = g.U.Update.means in
-    let items = c.in-Inner.slots.items in
-    let n = c.args.node.now in
-    let lo = c.args.lo.now in
-    let hi = option_copied c.args.hi in
-    let from = c.stretches.from in
-    let i = c.slot_of-i.result in
-    let s = c.index-slot.result.now in
-    let stop = c.in_ok-stop.stop in
-    let at = stands_clear means items c.as_slice-in-stretches.result.now c.as_slice-in-stretches-2.result.now n hi from i s (option_copied c.slot_end-end.result) stop c.as_slice-in-stretches.ensures.value c.as_slice-in-stretches-2.ensures.value (ap see (sym c.in-Inner.is) ∙ c.body.ensures) c.slot_of-i.ensures.bound c.slot_of-i.ensures.number c.index-slot.ensures c.slot_end-end.ensures c.in_ok-stop.ensures in
-    let adds = subst (λ o. AddsScan (slot_value means s) from o c.args.limit c.stretches.pairs.items c.walk_slot.new.pairs.items) c.as_ref.ensures.value c.in_ok-walk_slot.ensures in
-    walked_out means items n hi from i s stop at lo c.args.limit c.args.pairs.now.items c.stretches.pairs.items c.walk_slot.new.pairs.items c.stretches.invariant adds c.in_default.is
+    let at = stands_at g.U.Update.means c.in_ok-stop.stop c.as_slice-in-stretches.ensures.value c.as_slice-in-stretches-2.ensures.value (ap see (sym c.in-Inner.is) ∙ c.body.ensures) c.slot_of-i.ensures.bound c.slot_of-i.ensures.number c.index-slot.ensures c.slot_end-end.ensures c.in_ok-stop.ensures.after c.in_ok-stop.ensures.inside c.in_ok-stop.ensures.an_end in
+    let adds = subst (λ o. AddsScan (slot_value g.U.Update.means c.index-slot.result.now) c.stretches.from o c.args.limit c.stretches.pairs.items c.walk_slot.new.pairs.items) c.as_ref.ensures.value c.in_ok-walk_slot.ensures in
+    walked_out g.U.Update.means at c.args.lo.now c.args.limit c.args.pairs.now.items c.stretches.pairs.items c.walk_slot.new.pairs.items c.stretches.invariant adds c.in_default.is
 
 pub walk-stretches-smaller : goal.walk-stretches-smaller
 walk-stretches-smaller g t c =
-    let means = g.U.Update.means in
-    let items = c.in-Inner.slots.items in
-    let n = c.args.node.now in
-    let lo = c.args.lo.now in
-    let hi = option_copied c.args.hi in
-    let from = c.stretches.from in
-    let i = c.slot_of-i.result in
-    let s = c.index-slot.result.now in
-    let stop = c.in_ok-stop.stop in
-    let at = stands_clear means items c.as_slice-in-stretches.result.now c.as_slice-in-stretches-2.result.now n hi from i s (option_copied c.slot_end-end.result) stop c.as_slice-in-stretches.ensures.value c.as_slice-in-stretches-2.ensures.value (ap see (sym c.in-Inner.is) ∙ c.body.ensures) c.slot_of-i.ensures.bound c.slot_of-i.ensures.number c.index-slot.ensures c.slot_end-end.ensures c.in_ok-stop.ensures in
-    fewer_ahead means items n hi from i s stop at c.in-Some.next c.in-Some.is
+    let at = stands_at g.U.Update.means c.in_ok-stop.stop c.as_slice-in-stretches.ensures.value c.as_slice-in-stretches-2.ensures.value (ap see (sym c.in-Inner.is) ∙ c.body.ensures) c.slot_of-i.ensures.bound c.slot_of-i.ensures.number c.index-slot.ensures c.slot_end-end.ensures c.in_ok-stop.ensures.after c.in_ok-stop.ensures.inside c.in_ok-stop.ensures.an_end in
+    fewer_ahead g.U.Update.means at c.in-Some.next c.in-Some.is
 
 pub walk-stretches-preserved : goal.walk-stretches-preserved
 walk-stretches-preserved g t c =
-    let means = g.U.Update.means in
-    let items = c.in-Inner.slots.items in
-    let n = c.args.node.now in
-    let lo = c.args.lo.now in
-    let hi = option_copied c.args.hi in
-    let from = c.stretches.from in
-    let i = c.slot_of-i.result in
-    let s = c.index-slot.result.now in
-    let stop = c.in_ok-stop.stop in
-    let at = stands_clear means items c.as_slice-in-stretches.result.now c.as_slice-in-stretches-2.result.now n hi from i s (option_copied c.slot_end-end.result) stop c.as_slice-in-stretches.ensures.value c.as_slice-in-stretches-2.ensures.value (ap see (sym c.in-Inner.is) ∙ c.body.ensures) c.slot_of-i.ensures.bound c.slot_of-i.ensures.number c.index-slot.ensures c.slot_end-end.ensures c.in_ok-stop.ensures in
-    let adds = subst (λ o. AddsScan (slot_value means s) from o c.args.limit c.stretches.pairs.items c.walk_slot.new.pairs.items) c.as_ref.ensures.value c.in_ok-walk_slot.ensures in
-    walked_on means items n hi from i s stop at lo c.args.limit c.args.pairs.now.items c.stretches.pairs.items c.walk_slot.new.pairs.items c.stretches.invariant adds c.in-Some.next c.in-Some.is
+    let at = stands_at g.U.Update.means c.in_ok-stop.stop c.as_slice-in-stretches.ensures.value c.as_slice-in-stretches-2.ensures.value (ap see (sym c.in-Inner.is) ∙ c.body.ensures) c.slot_of-i.ensures.bound c.slot_of-i.ensures.number c.index-slot.ensures c.slot_end-end.ensures c.in_ok-stop.ensures.after c.in_ok-stop.ensures.inside c.in_ok-stop.ensures.an_end in
+    let adds = subst (λ o. AddsScan (slot_value g.U.Update.means c.index-slot.result.now) c.stretches.from o c.args.limit c.stretches.pairs.items c.walk_slot.new.pairs.items) c.as_ref.ensures.value c.in_ok-walk_slot.ensures in
+    walked_on g.U.Update.means at c.args.lo.now c.args.limit c.args.pairs.now.items c.stretches.pairs.items c.walk_slot.new.pairs.items c.stretches.invariant adds c.in-Some.next c.in-Some.is
 
 pub walk-returns : goal.walk-returns
 walk-returns g t c = walk_past (value g.U.Update.means c.args.node.now) c.args.lo.now (option_copied c.args.hi) c.args.limit c.stretches.from c.args.pairs.now.items c.stretches.pairs.items c.stretches.invariant (sym c.is_before_end.ensures ∙ c.stretches-test.false)
@@ -116,7 +76,7 @@ walk_slot-returns-then-is_range_deleted g t c =
     let s = c.args.slot.now in
     let from = c.args.from.now in
     let stop = option_copied c.args.stop in
-    on_ok_weaker c.apply_pass.result (λ h. adds_cleared means s.pending.0 (value means s.child.value) from stop c.args.limit c.args.pairs.now.items c.apply_pass.new.pairs.items c.requires.alike (sym c.is_range_deleted.ensures ∙ c.if-is_range_deleted.true) (subst (λ (ps : List (List ℕ × g.row.U-Value.Denot)). (f : List ℕ → Option g.row.U-Value.Denot) → AreAll f from stop ps → LeavesGaps means s.pending.0 f from stop → IsMerged means s.pending.0 f from stop c.args.limit ps c.args.pairs.now.items c.apply_pass.new.pairs.items) c.new-none.ensures.items h)) c.apply_pass.ensures
+    on_ok_weaker c.apply_pass.result (λ h. adds_cleared means s.pending.0 (value means s.child.value) from stop c.args.limit c.args.pairs.now.items c.apply_pass.new.pairs.items c.requires.alike (sym c.is_range_deleted.ensures ∙ c.if-is_range_deleted.true) (subst (λ (ps : List (List ℕ × g.row.U-Value.Denot)). Merges means s.pending.0 from stop c.args.limit ps c.args.pairs.now.items c.apply_pass.new.pairs.items) c.new-none.ensures.items h)) c.apply_pass.ensures
 
 pub walk_slot-returns-then-is_none : goal.walk_slot-returns-then-is_none
 walk_slot-returns-then-is_none g t c =
