@@ -154,6 +154,7 @@ uint8_t doorvervain_raw_truncate(
     struct doorvervain *fs, const uint8_t *path, size_t length, uint64_t size, uint64_t at);
 uint8_t doorvervain_raw_write(struct doorvervain *fs, const uint8_t *path, size_t length, uint64_t offset,
     const uint8_t *bytes, size_t count, uint64_t at);
+uint8_t doorvervain_raw_set_mtime(struct doorvervain *fs, const uint8_t *path, size_t length, uint64_t at);
 uint8_t doorvervain_raw_read(struct doorvervain *fs, const uint8_t *path, size_t length, uint64_t offset,
     uint8_t *out, size_t capacity, size_t *got);
 uint8_t doorvervain_raw_stat(
@@ -228,6 +229,8 @@ uint8_t doorvervain_raw_wal_write(const uint8_t *path, size_t length, uint64_t o
     size_t count, uint64_t at, uint8_t *out, size_t capacity, size_t *size);
 uint8_t doorvervain_raw_wal_punch(const uint8_t *path, size_t length, uint64_t offset, uint64_t count, uint64_t at,
     uint8_t *out, size_t capacity, size_t *size);
+uint8_t doorvervain_raw_wal_set_mtime(
+    const uint8_t *path, size_t length, uint64_t at, uint8_t *out, size_t capacity, size_t *size);
 uint8_t doorvervain_raw_wal_snapshot(const uint8_t *name, size_t length, uint8_t *out, size_t capacity, size_t *size);
 uint8_t doorvervain_raw_wal_drop(const uint8_t *name, size_t length, uint8_t *out, size_t capacity, size_t *size);
 uint8_t doorvervain_raw_wal_restore(const uint8_t *name, size_t length, uint8_t *out, size_t capacity, size_t *size);
@@ -387,6 +390,13 @@ static inline uint8_t doorvervain_truncate(
     struct doorvervain *fs, const char *path, size_t length, uint64_t size, uint64_t at) {
     uint8_t err = doorvervain_bad_args(fs, path, length);
     return err ? err : doorvervain_raw_truncate(fs, doorvervain_in(path), length, size, at);
+}
+
+// Sets the mtime of a file or directory, or of the root, to `at`, and changes nothing else (POSIX.1-2017, utimensat). Fails with ENOENT
+// or ENOTDIR if the path does not exist.
+static inline uint8_t doorvervain_set_mtime(struct doorvervain *fs, const char *path, size_t length, uint64_t at) {
+    uint8_t err = doorvervain_bad_args(fs, path, length);
+    return err ? err : doorvervain_raw_set_mtime(fs, doorvervain_in(path), length, at);
 }
 
 // Writes `count` bytes to a file from `offset` on, and extends the file with zeros to `offset` first if it is shorter. The write is
@@ -1025,6 +1035,14 @@ static inline uint8_t doorvervain_wal_punch(const char *path, size_t length, uin
     return err ? err
                  : doorvervain_raw_wal_punch(
                        doorvervain_in(path), length, offset, count, at, doorvervain_out(out), capacity, size);
+}
+
+// Encodes the entry of an mtime that is set, as doorvervain_set_mtime does. Fails as doorvervain_wal_mkdir does.
+static inline uint8_t doorvervain_wal_set_mtime(
+    const char *path, size_t length, uint64_t at, void *out, size_t capacity, size_t *size) {
+    uint8_t err = doorvervain_wal_bad_args(path, length, out, capacity, size);
+    return err ? err
+                 : doorvervain_raw_wal_set_mtime(doorvervain_in(path), length, at, doorvervain_out(out), capacity, size);
 }
 
 // Encodes the entry of a snapshot that is taken. Fails with EINVAL if the text is not a name, and with ENOMEM.

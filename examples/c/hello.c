@@ -144,6 +144,20 @@ static void moments(struct doorvervain *one, struct doorvervain *other) {
     doorvervain_frozen_close(&live);
 }
 
+// The mtime of a file, of a directory and of the root is set, and nothing else changes. A path that does not exist is refused.
+static void mtimes(struct doorvervain *fs) {
+    static const char *const paths[] = {"/long", "/d", "/"};
+    say("mkdir /d", doorvervain_mkdir(fs, "/d", 2, 0));
+    for (uint64_t i = 0; i < sizeof paths / sizeof *paths; i++) {
+        say(paths[i], doorvervain_set_mtime(fs, paths[i], strlen(paths[i]), 70 + i));
+        say_stat("stat", fs, paths[i]);
+    }
+    say("no entry", doorvervain_set_mtime(fs, "/none", 5, 70));
+    say("below a file", doorvervain_set_mtime(fs, "/long/x", 7, 70));
+    say("no path", doorvervain_set_mtime(fs, "long", 4, 70));
+    say_entries("entries", fs, "/", CAPACITY);
+}
+
 // Many files, so that trees grow and are freed; steps of compaction between the calls change no result.
 static void many(struct doorvervain *one) {
     char path[16];
@@ -167,6 +181,23 @@ static void many(struct doorvervain *one) {
 #ifdef REFUSE
 #include "refused_memory.h"
 
+// Makes each allocation of a call that sets an mtime fail in turn: it returns ENOMEM, and the file keeps its mtime.
+static void refused_mtime(struct doorvervain *one) {
+    int refusals = 0, changed = 0;
+    uint8_t number = DOORVERVAIN_ENOMEM, kind;
+    uint64_t size, before = 0, after = 0;
+    changed += doorvervain_stat(one, "/long", 5, &kind, &size, &before) != 0;
+    for (long request = 1; number == DOORVERVAIN_ENOMEM; request++) {
+        refused_request = request;
+        number = doorvervain_set_mtime(one, "/long", 5, before + 1);
+        refused_request = 0;
+        changed += doorvervain_stat(one, "/long", 5, &kind, &size, &after) != 0;
+        if (number == DOORVERVAIN_ENOMEM) refusals++, changed += after != before;
+    }
+    printf("an mtime without memory: %s, %d changed, then %d and %s\n", refusals ? "refused" : "not refused", changed, number,
+        after == before + 1 ? "set" : "not set");
+}
+
 // Makes each allocation of a write fail in turn: it returns ENOMEM, and the volume is open and unchanged.
 static void refused_memory(struct doorvervain *one) {
     int refusals = 0, changed = 0;
@@ -183,11 +214,13 @@ static void refused_memory(struct doorvervain *one) {
     printf(
         "a write without memory: %s, %d changed, then %d\n", refusals ? "refused" : "not refused", changed, number);
     say_read("read", one, "/long", 0, 14);
+    refused_mtime(one);
 }
 #else
 static void refused_memory(struct doorvervain *one) {
     printf("a write without memory: not tried\n");
     say_read("read", one, "/long", 0, 14);
+    printf("an mtime without memory: not tried\n");
 }
 #endif
 
@@ -222,6 +255,7 @@ int main(void) {
     buffers(&one, &other);
     refusals(&one);
     moments(&one, &other);
+    mtimes(&one);
     refused_memory(&one);
     images();
     many(&other);

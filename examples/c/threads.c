@@ -90,7 +90,7 @@ static void change(struct run *run, struct doorvervain *fs, struct model *model)
     struct place it = draw_place(run);
     size_t size = path_of(it, path);
     uint64_t at = drawn(run, 1000), length = drawn(run, MOST);
-    switch (drawn(run, 16)) {
+    switch (drawn(run, 17)) {
     case 0: check(run, doorvervain_unlink(fs, path, size, at), model_unlink(model, it, at)); break;
     case 1: check(run, doorvervain_rmdir(fs, path, size, at), model_rmdir(model, it, at)); break;
     case 2:
@@ -109,6 +109,7 @@ static void change(struct run *run, struct doorvervain *fs, struct model *model)
     case 10:
     case 11:
     case 12: check(run, doorvervain_create(fs, path, size, at), model_create(model, it, DOORVERVAIN_FILE, at)); break;
+    case 13: check(run, doorvervain_set_mtime(fs, path, size, at), model_set_mtime(model, it, at)); break;
     default: do_write(run, fs, model, it, at);
     }
 }

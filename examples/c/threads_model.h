@@ -190,6 +190,12 @@ static uint8_t model_punch(struct model *model, struct place it, uint64_t offset
     return DOORVERVAIN_DONE;
 }
 
+static uint8_t model_set_mtime(struct model *model, struct place it, uint64_t at) {
+    uint8_t fault = path_fault(model, it);
+    if (!fault) entry_of(model, it)->modified = at;
+    return fault;
+}
+
 // The bytes of a file, MOST of them with zeros after its end.
 static void bytes_of(const struct entry *file, uint8_t *out) {
     memset(out, 0, MOST);

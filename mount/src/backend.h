@@ -16,8 +16,8 @@ enum {
     LONGEST_SNAPSHOT = 64,
 };
 
-// Calls that have a path alone, and are done or refused: in the order of PathCall in the library.
-enum path_call { CALL_MKDIR, CALL_CREATE, CALL_UNLINK, CALL_RMDIR, CALL_RMTREE };
+// Calls that have a path and a timestamp alone, and are done or refused.
+enum path_call { CALL_MKDIR, CALL_CREATE, CALL_UNLINK, CALL_RMDIR, CALL_RMTREE, CALL_SET_MTIME };
 
 // What becomes of the snapshot of a name.
 enum snapshot_call { TAKE_SNAPSHOT, DROP_SNAPSHOT, RESTORE_SNAPSHOT };

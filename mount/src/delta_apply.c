@@ -165,20 +165,6 @@ static int note_folders(struct delta_applier *applier) {
     return err;
 }
 
-// An entry comes into a folder and goes: a name of one byte that none in it has.
-static int set_mtime(struct delta_applier *applier, const char *folder, uint64_t mtime_ns) {
-    char path[LONGEST_PATH + 3];
-    int err = EEXIST;
-    size_t length = strcmp(folder, "/") ? strlen(folder) : 0;
-    memcpy(path, folder, length);
-    text_copy(path + length, sizeof path - length, "/?");
-    for (int byte = 1; byte < 256 && (err == EEXIST || err == EINVAL); byte++) {
-        path[length + 1] = (char)byte;
-        err = byte == '/' || byte == '.' ? EEXIST : change(applier, CALL_CREATE, path, mtime_ns);
-    }
-    return err ? err : change(applier, CALL_UNLINK, path, mtime_ns);
-}
-
 static int set_dir_mtime(struct delta_applier *applier, const struct dir_mtime *dir) {
     const struct backend *backend = applier->backend;
     const char *path = path_at(applier->delta, dir->path);
@@ -186,7 +172,7 @@ static int set_dir_mtime(struct delta_applier *applier, const struct dir_mtime *
     int err = backend_stat(backend, (struct path_ref){NULL, path}, &node_stat);
     if (err) return err == ENOENT || err == ENOTDIR ? 0 : err;
     if (!node_stat.is_directory || node_stat.mtime_ns == dir->mtime_ns) return 0;
-    return set_mtime(applier, path, dir->mtime_ns);
+    return change(applier, CALL_SET_MTIME, path, dir->mtime_ns);
 }
 
 static int set_dir_mtimes(struct delta_applier *applier) {

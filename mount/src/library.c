@@ -46,7 +46,7 @@ static int done(struct library *library, uint8_t number) { return done_many(libr
 static int library_change(void *self, enum path_call what, const char *path, uint64_t at) {
     static uint8_t (*const calls[])(struct doorvervain *, const char *, size_t, uint64_t) = {
         [CALL_MKDIR] = doorvervain_mkdir, [CALL_CREATE] = doorvervain_create, [CALL_UNLINK] = doorvervain_unlink,
-        [CALL_RMDIR] = doorvervain_rmdir, [CALL_RMTREE] = doorvervain_rmtree,
+        [CALL_RMDIR] = doorvervain_rmdir, [CALL_RMTREE] = doorvervain_rmtree, [CALL_SET_MTIME] = doorvervain_set_mtime,
     };
     struct library *library = self;
     return done(library, calls[what](&library->volume, path, strlen(path), at));

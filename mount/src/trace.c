@@ -127,8 +127,47 @@ static void trace_timestamp(struct trace *trace, uint64_t at) {
     trace_done(trace, 0);
 }
 
+static void trace_line(struct trace *trace, enum path_call what, const char *path) {
+    script_change(fresh_line(trace), what, path);
+    trace_done(trace, 0);
+}
+
+// A path in a directory at which there is no entry: a name of one byte. False if there is none.
+static bool find_free_path(struct trace *trace, const char *directory, char *path, size_t capacity) {
+    size_t length = strcmp(directory, "/") ? strlen(directory) : 0;
+    struct node_stat node_stat;
+    if (length + 3 > capacity) return false;
+    memcpy(path, directory, length);
+    memcpy(path + length, "/?", 3);
+    for (int byte = '0'; byte < 256; byte++) {
+        path[length + 1] = (char)byte;
+        if (backend_stat(&trace->inner, (struct path_ref){NULL, path}, &node_stat) == ENOENT) return true;
+    }
+    return false;
+}
+
+// No line of a script sets an mtime. The lines of one that was set truncate a file to the length that it has, or create
+// an entry in a directory and remove it.
+static int trace_set_mtime(struct trace *trace, const char *path, uint64_t at) {
+    char entry[LONGEST_PATH + 1];
+    struct node_stat node_stat = {0};
+    int err = trace->inner.ops->change(trace->inner.self, CALL_SET_MTIME, path, at);
+    if (!err) err = backend_stat(&trace->inner, (struct path_ref){NULL, path}, &node_stat);
+    if (err) return err;
+    trace_timestamp(trace, at);
+    if (!node_stat.is_directory) {
+        script_truncate(fresh_line(trace), path, node_stat.length);
+        trace_done(trace, 0);
+    } else if (find_free_path(trace, path, entry, sizeof entry)) {
+        trace_line(trace, CALL_CREATE, entry);
+        trace_line(trace, CALL_UNLINK, entry);
+    } else put_note(trace, "# an mtime was set\n");
+    return 0;
+}
+
 static int trace_change(void *self, enum path_call what, const char *path, uint64_t at) {
     struct trace *trace = self;
+    if (what == CALL_SET_MTIME) return trace_set_mtime(trace, path, at);
     trace_timestamp(trace, at);
     script_change(fresh_line(trace), what, path);
     return trace_done(trace, trace->inner.ops->change(trace->inner.self, what, path, at));

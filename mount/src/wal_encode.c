@@ -26,7 +26,7 @@ int wal_encode_change(struct bytes *out, enum path_call what, const char *path, 
     static uint8_t (*const calls[])(const char *, size_t, uint64_t, void *, size_t, size_t *) = {
         [CALL_MKDIR] = doorvervain_wal_mkdir,   [CALL_CREATE] = doorvervain_wal_create,
         [CALL_UNLINK] = doorvervain_wal_unlink, [CALL_RMDIR] = doorvervain_wal_rmdir,
-        [CALL_RMTREE] = doorvervain_wal_rmtree,
+        [CALL_RMTREE] = doorvervain_wal_rmtree, [CALL_SET_MTIME] = doorvervain_wal_set_mtime,
     };
     size_t length = strlen(path), size = 0;
     if (reserve(out, length)) return ENOMEM;

@@ -132,6 +132,10 @@ static PyObject *volume_rmtree(PyObject *self, PyObject *const *words, Py_ssize_
     return path_call(self, words, count, named, "rmtree", doorvervain_rmtree);
 }
 
+static PyObject *volume_utime(PyObject *self, PyObject *const *words, Py_ssize_t count, PyObject *named) {
+    return path_call(self, words, count, named, "utime", doorvervain_set_mtime);
+}
+
 // Creates an empty file, or truncates the one that exists.
 static uint8_t emptied(struct doorvervain *fs, const char *path, size_t length, uint64_t at) {
     uint8_t number = doorvervain_create(fs, path, length, at);
@@ -509,6 +513,14 @@ static PyMethodDef volume_methods[] = {
         "rename($self, /, old, new, *, at=None)\n--\n\n"
         "Moves the entry at the first path, with everything below it, to the second. A file replaces a file there, and a\n"
         "directory an empty directory."},
+    {"utime", FAST(volume_utime),
+        "utime($self, /, path, *, at=None)\n--\n\n"
+        "Sets the mtime of a file or directory, and changes nothing else.\n\n"
+        ">>> volume = Volume()\n"
+        ">>> volume.mkdir(\"/a\")\n"
+        ">>> volume.utime(\"/a\", at=7)\n"
+        ">>> volume.stat(\"/a\").modified\n"
+        "7"},
     {"truncate", FAST(volume_truncate),
         "truncate($self, /, path, size, *, at=None)\n--\n\n"
         "Truncates a file to `size` bytes, or extends it to them with zeros."},

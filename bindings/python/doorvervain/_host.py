@@ -110,18 +110,15 @@ def import_tree(volume: "Volume", host_path: HostPath, path: StrPath, skip_speci
     times = []
     for folder in _folders(top):
         at = below(start, folder.inside.lstrip("/")) if folder.inside else start
-        mtime, is_new = _mtime(os.fstat(folder.opened)), not volume.is_dir(at)
-        if is_new:
-            volume.mkdir(at, at=mtime)
-        # (an empty one may have a path so long that nothing can be created in it)
-        if folder.entries or not is_new:
-            times.append((at, mtime))
+        if not volume.is_dir(at):
+            volume.mkdir(at)
+        times.append((at, _mtime(os.fstat(folder.opened))))
         for name, state in folder.entries:
             if stat.S_ISREG(state.st_mode):
                 _import_one(volume, below(at, text_of(name)), folder, name)
     # Later, since each entry that is created changes its directory.
     for at, mtime in times:
-        volume._stamp(at, mtime)
+        volume.utime(at, at=mtime)
     return skipped
 
 

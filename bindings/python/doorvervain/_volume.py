@@ -258,21 +258,7 @@ class Volume(Tree, _core.Volume):
             except FileExistsError:
                 if not exist_ok:
                     raise
-                self._stamp(text_of(path), at)
-
-    def _stamp(self, path: str, at: Optional[int]) -> None:
-        """Gives an entry a timestamp: a file by truncating it to its size, a directory by a file that is created in it and
-        removed."""
-        with self._lock:
-            stat = self.stat(path)
-            if stat.is_file:
-                self.truncate(path, stat.size, at=at)
-                return
-            beside = below(path, "~")
-            while self.exists(beside):
-                beside += "~"
-            self.create(beside, at=at)
-            self.unlink(beside, at=at)
+                self.utime(path, at=at)
 
     def copy(self, old: StrPath, new: StrPath, *, at: Optional[int] = None) -> None:
         """Copies a file, which replaces a file at the new path; or a directory with everything below it to a new path that

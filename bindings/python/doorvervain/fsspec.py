@@ -221,7 +221,7 @@ class DoorvervainFileSystem(AbstractFileSystem):
         if truncate or not self.volume.exists(path):
             self._made(path, self.volume._empty)
         else:
-            self.volume.truncate(path, self.volume.stat(path).size)
+            self.volume.utime(path)
 
     def created(self, path: str) -> datetime:
         """The mtime: a time of creation is not stored."""

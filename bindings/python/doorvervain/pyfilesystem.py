@@ -281,14 +281,15 @@ class DoorvervainFS(FS):
         super().movedir(src_path, dst_path, create=create, preserve_time=preserve_time)
 
     def setinfo(self, path: str, info: Mapping[str, Mapping[str, object]]) -> None:
-        """Sets the mtime of a file. Nothing else can be set."""
+        """Sets the mtime of a file or directory. Nothing else can be set."""
         at = self.validatepath(path)
         modified: Any = info.get("details", {}).get("modified")
         with self.volume._lock:
             try:
-                stat = self.volume.stat(at)
-                if modified is not None and stat.is_file:
-                    self.volume.truncate(at, stat.size, at=_timestamp_of(modified))
+                if modified is None:
+                    self.volume.stat(at)
+                else:
+                    self.volume.utime(at, at=_timestamp_of(modified))
             except OSError as error:
                 raise _fs_error(error, path) from None
 

@@ -55,6 +55,8 @@ class Refusals(unittest.TestCase):
             (OSError, errno.EINVAL, volume.mkdir, "/a\0b"),
             (OSError, errno.ENAMETOOLONG, volume.mkdir, "/" + 256 * "n"),
             (OSError, errno.EFBIG, volume.truncate, "/d/f", (1 << 40) + 1),
+            (FileNotFoundError, errno.ENOENT, volume.utime, "/x"),
+            (NotADirectoryError, errno.ENOTDIR, volume.utime, "/d/f/x"),
             (OSError, errno.EBUSY, volume.rmdir, "/"),
             (OSError, errno.EBUSY, volume.rmtree, "/"),
             (FileNotFoundError, errno.ENOENT, volume.restore, "none"),
@@ -156,7 +158,7 @@ class Refusals(unittest.TestCase):
         volume = self.volume
         for call, *words in [
             (volume.mkdir, "/e"), (volume.create, "/e"), (volume.unlink, "/d/f"), (volume.rmdir, "/d"),
-            (volume.rmtree, "/d"), (volume.rename, "/d", "/e"), (volume.truncate, "/d/f", 1),
+            (volume.rmtree, "/d"), (volume.rename, "/d", "/e"), (volume.truncate, "/d/f", 1), (volume.utime, "/d"),
             (volume.write, "/d/f", b"x"), (volume.write_bytes, "/d/f", b"x"), (volume.read, "/d/f"),
             (volume.stat, "/d"), (volume.listdir, "/"), (volume.snapshot, "t"), (volume.drop_snapshot, "s"),
             (volume.restore, "s"), (volume.restore, tree), (volume.freeze,), (volume.fork,), (volume.open_snapshot, "s"), (volume.image,),
@@ -235,6 +237,13 @@ class Files(unittest.TestCase):
         self.assertEqual(volume.stat("/d/f").modified, 101)
         volume.truncate("/d/f", 2, at=(1 << 64) - 1)
         self.assertEqual(volume.stat("/d/f").modified, (1 << 64) - 1)
+        before = volume.read("/d/f"), volume.listdir("/d")
+        for path, at in [("/d/f", 0), ("/d", 7), ("/", (1 << 64) - 1)]:
+            volume.utime(path, at=at)
+            self.assertEqual(volume.stat(path).modified, at)
+        volume.utime("/d")
+        self.assertEqual([volume.stat(path).modified for path in ["/d/f", "/d", "/"]], [0, 102, (1 << 64) - 1])
+        self.assertEqual((volume.read("/d/f"), volume.listdir("/d")), before)
 
     def test_a_long_listing(self):
         names = sorted(f"name-{i:05}" + "x" * (i % 90) for i in range(5_000))

@@ -49,6 +49,7 @@ extern "C" {
         fs: *mut RawHandle, from: *const u8, from_length: usize, to: *const u8, to_length: usize, at: u64,
     ) -> u8;
     fn doorvervain_raw_truncate(fs: *mut RawHandle, path: *const u8, length: usize, size: u64, at: u64) -> u8;
+    fn doorvervain_raw_set_mtime(fs: *mut RawHandle, path: *const u8, length: usize, at: u64) -> u8;
     fn doorvervain_raw_write(
         fs: *mut RawHandle, path: *const u8, length: usize, offset: u64, bytes: *const u8, count: usize, at: u64,
     ) -> u8;
@@ -345,6 +346,10 @@ impl VolumeHandle {
     pub(crate) fn rename(&self, from: &[u8], to: &[u8], at: u64) -> Result<(), Errno> {
         let (from_at, to_at) = (from.as_ptr(), to.as_ptr());
         self.change(|raw| done(unsafe { doorvervain_raw_rename(raw, from_at, from.len(), to_at, to.len(), at) }))
+    }
+
+    pub(crate) fn set_mtime(&self, path: &[u8], at: u64) -> Result<(), Errno> {
+        self.change(|raw| done(unsafe { doorvervain_raw_set_mtime(raw, path.as_ptr(), path.len(), at) }))
     }
 
     pub(crate) fn truncate(&self, path: &[u8], size: u64, at: u64) -> Result<(), Errno> {

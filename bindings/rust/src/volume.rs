@@ -289,6 +289,14 @@ macro_rules! changing_calls {
                 self.volume().handle.truncate(path, size, self.timestamp())
             }
 
+            /// Sets the mtime of a file or directory, or of the root, and changes nothing else.
+            ///
+            /// # Errors
+            /// `ENOENT`, `ENOTDIR`: the path does not exist; `ENOMEM`.
+            pub fn set_modified<P: AsRef<Path>>(&self, path: P, modified: u64) -> Result<(), Errno> {
+                self.volume().handle.set_mtime(bytes_of(path.as_ref()), modified)
+            }
+
             /// Makes a file of these bytes: creates it, or replaces all that it has.
             ///
             /// # Errors

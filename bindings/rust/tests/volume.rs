@@ -34,6 +34,11 @@ fn the_calls() -> Outcome {
     volume.at(7).truncate("/y", 5)?;
     assert_eq!(volume.read("/y")?, b"hello");
     assert_eq!(names(&volume, "/")?, ["d d", "f y"]);
+    for (path, modified) in [("/y", 21), ("/d", 22), ("/", 23)] {
+        volume.set_modified(path, modified)?;
+        assert_eq!(volume.stat(path)?.modified, modified);
+    }
+    assert_eq!(volume.read("/y")?, b"hello");
     volume.at(8).unlink("/y")?;
     volume.at(9).rmdir("/d")?;
     assert!(volume.readdir("/")?.is_empty());
@@ -61,6 +66,8 @@ fn the_refusals() -> Outcome {
     assert_eq!(volume.truncate("/d/f", (1 << 40) + 1), Err(Errno::EFBIG));
     assert_eq!(volume.write_at("/d/f", u64::MAX, b"x"), Err(Errno::EFBIG));
     assert_eq!(volume.rmtree("/"), Err(Errno::EBUSY));
+    assert_eq!(volume.set_modified("/x", 1), Err(Errno::ENOENT));
+    assert_eq!(volume.set_modified("/d/f/x", 1), Err(Errno::ENOTDIR));
     assert_eq!(volume.read("/d"), Err(Errno::EISDIR));
     assert_eq!(volume.readdir("/d/f").err(), Some(Errno::ENOTDIR));
     assert_eq!(volume.exists("/d/f/x"), Ok(false));

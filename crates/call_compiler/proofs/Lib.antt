@@ -13,3 +13,4 @@ pub mod BlockOrder
 pub mod Zeroing
 pub mod HoleBlocks
 pub mod OnHoles
+pub mod Mtimes

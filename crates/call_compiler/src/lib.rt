@@ -18,6 +18,7 @@ pub mod file_length;
 mod files;
 pub mod indexes;
 pub mod laws;
+pub mod mtime;
 pub mod punch;
 pub mod read;
 pub mod remove;

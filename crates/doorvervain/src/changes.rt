@@ -1,8 +1,10 @@
 //! Exports of the calls that change a volume, each at a moment.
 ghost use Rattle.pathkey.specs.SnapNames.{snap_parsed};
+ghost use Rattle.pathkey.specs.Texts.{parsed};
 ghost use Rattle.reference.specs.declared.call.Call.TheVariants as ask;
 ghost use Rattle.reference.specs.Worlds.{DropSnapshot, RestoreSnapshot, TakeSnapshot};
 ghost use Rattle.volume.specs.Changes.{Dropped, KeptAs, Restored};
+ghost use Rattle.ffi_calls.specs.Mtimes.{SetsMtimeAt};
 ghost use Rattle.ffi_calls.specs.Snapshots.{SettlesNamed};
 ghost use Rattle.doorvervain.specs.Changes.{AsksAt, Moves};
 ghost use Rattle.doorvervain.specs.Numbers.{IsNumber, reported};
@@ -125,6 +127,20 @@ pub extern "C" fn doorvervain_raw_write(
     ensures number { IsNumber result }
 {
     number(ffi_calls::write(alloc, fs.volume(), path, offset, bytes, at))
+}
+
+/// Sets the mtime of the file or directory at the path, or of the root.
+#[unsafe(no_mangle)]
+pub extern "C" fn doorvervain_raw_set_mtime(
+    alloc: Global,
+    fs: &mut VolumeHandle,
+    path: &[u8],
+    at: u64,
+) -> u8
+    ensures mtime { SetsMtimeAt (parsed path.now) at (reported result) fs.old.volume fs.new.volume }
+    ensures number { IsNumber result }
+{
+    number(ffi_calls::set_mtime(alloc, fs.volume(), path, at))
 }
 
 /// Keeps the live tree under a name.

@@ -19,7 +19,7 @@ use crate::numbers::{count, number, sized};
 use pathkey::Errno;
 use std::alloc::Global;
 use wal::encode::{
-    encode_frame, encode_path_call, encode_punch, encode_rename, encode_snapshot_call,
+    encode_frame, encode_mtime, encode_path_call, encode_punch, encode_rename, encode_snapshot_call,
     encode_truncate, encode_write,
 };
 use wal::{PathCall, ReplayError, SnapshotCall, next_record, replay, replay_body, wal_dump_into};
@@ -198,6 +198,25 @@ pub extern "C" fn doorvervain_raw_wal_punch(
     ensures refused { IfErr (sized_by result size.new) (λ _. size.new ≡ 0) }
 {
     let laid = encode_punch(alloc, path, offset, count, at, out);
+    sized(laid, out.len(), size)
+}
+
+/// The entry of an mtime that is set. How many bytes it has goes to `size`; they are written where the buffer has
+/// room for all of them.
+#[unsafe(no_mangle)]
+pub extern "C" fn doorvervain_raw_wal_set_mtime(
+    alloc: Global,
+    path: &[u8],
+    at: u64,
+    out: &mut [u8],
+    size: &mut usize,
+) -> u8
+    ensures change { Encodes (asked (λ p. change.SetMtime p at) (parsed path.now)) (sized_by result size.new) out.old out.new }
+    ensures short { (result ≡ short) ↔ IsShort size.new out.old }
+    ensures number { IsSizeNumber result }
+    ensures refused { IfErr (sized_by result size.new) (λ _. size.new ≡ 0) }
+{
+    let laid = encode_mtime(alloc, path, at, out);
     sized(laid, out.len(), size)
 }
 

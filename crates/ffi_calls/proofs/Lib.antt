@@ -4,4 +4,5 @@ pub mod Fronts
 pub mod Laying
 pub mod OfFiles
 pub mod Punching
+pub mod MtimeTexts
 pub mod Differing

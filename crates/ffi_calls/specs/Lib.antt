@@ -4,6 +4,7 @@ pub mod Differences
 pub mod Filling
 pub mod Holes
 pub mod Images
+pub mod Mtimes
 pub mod Reads
 pub mod Snapshots
 pub mod Upkeep

@@ -210,7 +210,7 @@ impl Frozen {
 }
 
 // The answer that tells a reply of which only a refusal counts.
-fn done_or_errno(reply: Reply) -> Result<(), Errno>
+pub(crate) fn done_or_errno(reply: Reply) -> Result<(), Errno>
     requires { IsSettled reply }
     ensures { replied (λ _. Reply.Done) result ≡ reply }
 {

@@ -10,11 +10,12 @@ ghost use Rattle.volume.specs.Changes.{Called, Settles, KeptAs, Dropped, Restore
 ghost use Rattle.volume.specs.Forks.{IsForkOf, RestoresTree};
 ghost use Rattle.volume.specs.Plants.{Plants};
 ghost use Rattle.volume.specs.Holes.{Compiles as HoleCompiles, Punches};
+ghost use Rattle.volume.specs.Mtimes.{Asks as AsksMtime, SetsMtime};
 ghost use Rattle.volume.specs.FsRoot.{reply_to};
 ghost use Rattle.volume.specs.Jobs.{AnswersInstalling, AnswersTaking, DoneFits};
 ghost use Rattle.volume.specs.Marked.{KeepsMarks, no_marks, without_mark};
 ghost use Rattle.volume.specs.Volumes.{AreNames, IsNew, IsVolume, MeanRooted, MeanSome, Means, live_of, names_in};
-ghost use Rattle.volume.specs.Typed.{Asks, Compiles, IsCount, IsOfKind};
+ghost use Rattle.volume.specs.Typed.{Asks, Compiles, IsCount, IsOfKind, IsSettled};
 ghost use Rattle.volume.specs.HistoryOf.{Finds, HeaviestIn, busier, pending_in, report_in};
 
 use crate::event::{CompactStep, Index, Step, in_tree};
@@ -145,6 +146,28 @@ impl Volume {
         let punched = self.live.append(alloc, batch);
         self.live.assert_invariant();
         reply_to(punched, reply)
+    }
+
+    /// Sets an mtime, as was compiled; it is also the root's if the path is the root.
+    pub(crate) fn send_mtime(
+        &mut self,
+        alloc: Global,
+        compiled: Result<(Reply, Batch), NoMemory>,
+        at: u64,
+        is_root: bool,
+    ) -> Reply
+        requires { (p : Names) × AsksMtime self.old.live.indexes p at compiled is_root }
+        ensures sets { (p : Names) → AsksMtime self.old.live.indexes p at compiled is_root → SetsMtime p at result self.old self.new }
+        ensures settled { IsSettled result }
+    {
+        let Ok((reply, batch)) = compiled else {
+            return Reply::Fault(Errno::ENOMEM);
+        };
+        let appended = self.live.append(alloc, batch);
+        self.live.assert_invariant();
+        let reply = reply_to(appended, reply);
+        self.modified = after_call(&reply, is_root, at, self.modified);
+        reply
     }
 
     /// Plants an entry with its moment, as an image that is loaded tells it: an empty directory, or a file of so many zeros. A directory

@@ -8,7 +8,7 @@ use Rattle.pathkey.proofs.TextFacts.{read_back}
 use Rattle.pathkey.specs.declared.errno.Errno.{Errno}
 use Rattle.pathkey.specs.declared.errno.Errno.TheVariants.{EINVAL, ENOMEM}
 use Rattle.wal.specs.declared.wal_entry.WalEntry.{WalEntry}
-use Rattle.wal.specs.declared.wal_entry.WalEntry.TheVariants.{OnPath, Rename, Truncate, Write, Punch, Keep}
+use Rattle.wal.specs.declared.wal_entry.WalEntry.TheVariants.{OnPath, Rename, Truncate, Write, Punch, SetMtime, Keep}
 use Rattle.wal.specs.declared.wal_entry.SnapshotCall.{SnapshotCall}
 use Rattle.wal.specs.declared.wal_entry.SnapshotCall.TheVariants.{Snapshot, Remove, Restore}
 use Rattle.reference.specs.declared.path_call.PathCall.{PathCall}
@@ -138,6 +138,11 @@ late_kinds Snapshot = omega arith
 late_kinds Remove = omega arith
 late_kinds Restore = omega arith
 
+last_kinds : (a : SnapshotCall) → keeping_kind a ≤ 12
+last_kinds Snapshot = omega arith
+last_kinds Remove = omega arith
+last_kinds Restore = omega arith
+
 text_once : (p q : Path) → IsPath p → IsPath q → text_of p ≡ text_of q → p ≡ q
 text_once p q hp hq e = let same : ◌≡◌ {A = Result Path Errno} (Ok p) (Ok q) = sym (read_back p hp) ∙ ap parsed e ∙ read_back q hq in cc
 
@@ -147,36 +152,49 @@ same_change (OnPath a p at) (Rename u v t) hc hd eh ef es = absurd (omega (arith
 same_change (OnPath a p at) (Truncate q m t) hc hd eh ef es = absurd (omega (arith, ap (λ (h : EntryHeader). h.kind) eh, few_kinds a))
 same_change (OnPath a p at) (Write q g x t) hc hd eh ef es = absurd (omega (arith, ap (λ (h : EntryHeader). h.kind) eh, few_kinds a))
 same_change (OnPath a p at) (Punch q g m t) hc hd eh ef es = absurd (omega (arith, ap (λ (h : EntryHeader). h.kind) eh, few_kinds a))
+same_change (OnPath a p at) (SetMtime q t) hc hd eh ef es = absurd (omega (arith, ap (λ (h : EntryHeader). h.kind) eh, few_kinds a))
 same_change (OnPath a p at) (Keep b r) hc hd eh ef es = absurd (omega (arith, ap (λ (h : EntryHeader). h.kind) eh, few_kinds a, late_kinds b))
 same_change (Rename o n at) (OnPath b q t) hc hd eh ef es = absurd (omega (arith, ap (λ (h : EntryHeader). h.kind) eh, few_kinds b))
 same_change (Rename o n at) (Rename u v t) hc hd eh ef es = let et = ap (λ (h : EntryHeader). h.at) eh in let eo = text_once o u hc.0 hd.0 ef in let en = text_once n v hc.1 hd.1 es in cc
 same_change (Rename o n at) (Truncate q m t) hc hd eh ef es = absurd (omega (arith, ap (λ (h : EntryHeader). h.kind) eh))
 same_change (Rename o n at) (Write q g x t) hc hd eh ef es = absurd (omega (arith, ap (λ (h : EntryHeader). h.kind) eh))
 same_change (Rename o n at) (Punch q g m t) hc hd eh ef es = absurd (omega (arith, ap (λ (h : EntryHeader). h.kind) eh))
+same_change (Rename o n at) (SetMtime q t) hc hd eh ef es = absurd (omega (arith, ap (λ (h : EntryHeader). h.kind) eh))
 same_change (Rename o n at) (Keep b r) hc hd eh ef es = absurd (omega (arith, ap (λ (h : EntryHeader). h.kind) eh, late_kinds b))
 same_change (Truncate p len at) (OnPath b q t) hc hd eh ef es = absurd (omega (arith, ap (λ (h : EntryHeader). h.kind) eh, few_kinds b))
 same_change (Truncate p len at) (Rename u v t) hc hd eh ef es = absurd (omega (arith, ap (λ (h : EntryHeader). h.kind) eh))
 same_change (Truncate p len at) (Truncate q m t) hc hd eh ef es = let et = ap (λ (h : EntryHeader). h.at) eh in let el = ap (λ (h : EntryHeader). h.offset) eh in let ep = text_once p q hc.0 hd.0 ef in cc
 same_change (Truncate p len at) (Write q g x t) hc hd eh ef es = absurd (omega (arith, ap (λ (h : EntryHeader). h.kind) eh))
 same_change (Truncate p len at) (Punch q g m t) hc hd eh ef es = absurd (omega (arith, ap (λ (h : EntryHeader). h.kind) eh))
+same_change (Truncate p len at) (SetMtime q t) hc hd eh ef es = absurd (omega (arith, ap (λ (h : EntryHeader). h.kind) eh))
 same_change (Truncate p len at) (Keep b r) hc hd eh ef es = absurd (omega (arith, ap (λ (h : EntryHeader). h.kind) eh, late_kinds b))
 same_change (Write p off w at) (OnPath b q t) hc hd eh ef es = absurd (omega (arith, ap (λ (h : EntryHeader). h.kind) eh, few_kinds b))
 same_change (Write p off w at) (Rename u v t) hc hd eh ef es = absurd (omega (arith, ap (λ (h : EntryHeader). h.kind) eh))
 same_change (Write p off w at) (Truncate q m t) hc hd eh ef es = absurd (omega (arith, ap (λ (h : EntryHeader). h.kind) eh))
 same_change (Write p off w at) (Write q g x t) hc hd eh ef es = let et = ap (λ (h : EntryHeader). h.at) eh in let eo = ap (λ (h : EntryHeader). h.offset) eh in let ep = text_once p q hc.0 hd.0 ef in cc
 same_change (Write p off w at) (Punch q g m t) hc hd eh ef es = absurd (omega (arith, ap (λ (h : EntryHeader). h.kind) eh))
+same_change (Write p off w at) (SetMtime q t) hc hd eh ef es = absurd (omega (arith, ap (λ (h : EntryHeader). h.kind) eh))
 same_change (Write p off w at) (Keep b r) hc hd eh ef es = absurd (omega (arith, ap (λ (h : EntryHeader). h.kind) eh, late_kinds b))
 same_change (Punch p off n at) (OnPath b q t) hc hd eh ef es = absurd (omega (arith, ap (λ (h : EntryHeader). h.kind) eh, few_kinds b))
 same_change (Punch p off n at) (Rename u v t) hc hd eh ef es = absurd (omega (arith, ap (λ (h : EntryHeader). h.kind) eh))
 same_change (Punch p off n at) (Truncate q m t) hc hd eh ef es = absurd (omega (arith, ap (λ (h : EntryHeader). h.kind) eh))
 same_change (Punch p off n at) (Write q g x t) hc hd eh ef es = absurd (omega (arith, ap (λ (h : EntryHeader). h.kind) eh))
 same_change (Punch p off n at) (Punch q g m t) hc hd eh ef es = let et = ap (λ (h : EntryHeader). h.at) eh in let eo = ap (λ (h : EntryHeader). h.offset) eh in let en = ap (λ (h : EntryHeader). h.count) eh in let ep = text_once p q hc.0 hd.0 ef in cc
+same_change (Punch p off n at) (SetMtime q t) hc hd eh ef es = absurd (omega (arith, ap (λ (h : EntryHeader). h.kind) eh))
 same_change (Punch p off n at) (Keep b r) hc hd eh ef es = absurd (omega (arith, ap (λ (h : EntryHeader). h.kind) eh, late_kinds b))
+same_change (SetMtime p at) (OnPath b q u) hc hd eh ef es = absurd (omega (arith, ap (λ (h : EntryHeader). h.kind) eh, few_kinds b))
+same_change (SetMtime p at) (Rename u v t) hc hd eh ef es = absurd (omega (arith, ap (λ (h : EntryHeader). h.kind) eh))
+same_change (SetMtime p at) (Truncate q m t) hc hd eh ef es = absurd (omega (arith, ap (λ (h : EntryHeader). h.kind) eh))
+same_change (SetMtime p at) (Write q g x t) hc hd eh ef es = absurd (omega (arith, ap (λ (h : EntryHeader). h.kind) eh))
+same_change (SetMtime p at) (Punch q g m t) hc hd eh ef es = absurd (omega (arith, ap (λ (h : EntryHeader). h.kind) eh))
+same_change (SetMtime p at) (SetMtime q t) hc hd eh ef es = let et = ap (λ (h : EntryHeader). h.at) eh in let ep = text_once p q hc.0 hd.0 ef in cc
+same_change (SetMtime p at) (Keep b r) hc hd eh ef es = absurd (omega (arith, ap (λ (h : EntryHeader). h.kind) eh, last_kinds b))
 same_change (Keep a s) (OnPath b q t) hc hd eh ef es = absurd (omega (arith, ap (λ (h : EntryHeader). h.kind) eh, late_kinds a, few_kinds b))
 same_change (Keep a s) (Rename u v t) hc hd eh ef es = absurd (omega (arith, ap (λ (h : EntryHeader). h.kind) eh, late_kinds a))
 same_change (Keep a s) (Truncate q m t) hc hd eh ef es = absurd (omega (arith, ap (λ (h : EntryHeader). h.kind) eh, late_kinds a))
 same_change (Keep a s) (Write q g x t) hc hd eh ef es = absurd (omega (arith, ap (λ (h : EntryHeader). h.kind) eh, late_kinds a))
 same_change (Keep a s) (Punch q g m t) hc hd eh ef es = absurd (omega (arith, ap (λ (h : EntryHeader). h.kind) eh, late_kinds a))
+same_change (Keep a s) (SetMtime q t) hc hd eh ef es = absurd (omega (arith, ap (λ (h : EntryHeader). h.kind) eh, last_kinds a))
 same_change (Keep a s) (Keep b r) hc hd eh ef es = let ek = keeping_kind_once a b (ap (λ (h : EntryHeader). h.kind) eh) in cc
 
 pub one_body : (cs ds : List WalEntry) → AllByRecursion IsChange cs → AllByRecursion IsChange ds → body_of cs ≡ body_of ds → cs ≡ ds

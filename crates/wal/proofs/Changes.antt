@@ -13,7 +13,7 @@ use Rattle.pathkey.specs.declared.errno.Errno.{Errno}
 use Rattle.pathkey.specs.declared.errno.Errno.TheVariants.{ENOMEM}
 use Rattle.pathkey.proofs.TextFacts.{only_texts, read_back}
 use Rattle.wal.specs.declared.wal_entry.WalEntry.{WalEntry}
-use Rattle.wal.specs.declared.wal_entry.WalEntry.TheVariants.{OnPath, Rename, Truncate, Write, Punch, Keep}
+use Rattle.wal.specs.declared.wal_entry.WalEntry.TheVariants.{OnPath, Rename, Truncate, Write, Punch, SetMtime, Keep}
 use Rattle.wal.specs.declared.wal_entry.SnapshotCall.TheVariants.{Snapshot, Remove, Restore}
 use Rattle.reference.specs.declared.path_call.PathCall.TheVariants.{Mkdir, Create, Unlink, Rmdir, Rmtree}
 use Rattle.wal.specs.Entries.{IsChange, IsHead, IsNoText, IsWord, first_of, head_of, second_of}
@@ -75,6 +75,7 @@ fit (Rename o n at) h = record { head = record { kind = omega arith; at = h.2; o
 fit (Truncate p len at) h = record { head = record { kind = omega arith; at = h.2; offset = h.1; count = omega arith }; first_fits = short_text p h.0; second_fits = omega arith }
 fit (Write p off w at) h = record { head = record { kind = omega arith; at = h.3; offset = h.1; count = omega arith }; first_fits = short_text p h.0; second_fits = h.2 }
 fit (Punch p off n at) h = record { head = record { kind = omega arith; at = h.3; offset = h.1; count = h.2 }; first_fits = short_text p h.0; second_fits = omega arith }
+fit (SetMtime p at) h = record { head = record { kind = omega arith; at = h.1; offset = omega arith; count = omega arith }; first_fits = short_text p h.0; second_fits = omega arith }
 fit (Keep Snapshot s) h = record { head = record { kind = omega arith; at = omega arith; offset = omega arith; count = omega arith }; first_fits = short_name s h; second_fits = omega arith }
 fit (Keep Remove s) h = record { head = record { kind = omega arith; at = omega arith; offset = omega arith; count = omega arith }; first_fits = short_name s h; second_fits = omega arith }
 fit (Keep Restore s) h = record { head = record { kind = omega arith; at = omega arith; offset = omega arith; count = omega arith }; first_fits = short_name s h; second_fits = omega arith }

@@ -16,7 +16,7 @@ use Rattle.textio.specs.Values.{number_of, path_of}
 use Rattle.textio.proofs.WordFacts.{more_words, one_word}
 use Rattle.textio.proofs.Written.{all_visible, bytes_reported, hex_text_visible, number_reported, path_read, root_read}
 use Rattle.wal.specs.Entries.{IsWord}
-use Rattle.wal.specs.declared.wal_entry.WalEntry.TheVariants.{OnPath, Rename, Truncate, Write, Punch, Keep}
+use Rattle.wal.specs.declared.wal_entry.WalEntry.TheVariants.{OnPath, Rename, Truncate, Write, Punch, SetMtime, Keep}
 use Rattle.wal.specs.declared.wal_entry.SnapshotCall.{SnapshotCall}
 use Rattle.wal.specs.declared.wal_entry.SnapshotCall.TheVariants.{Snapshot, Remove, Restore}
 use Rattle.reference.specs.declared.path_call.PathCall.{PathCall}
@@ -134,6 +134,14 @@ is_read (Makes (Punch p off n at)) h = (
   number_read off h.1,
   number_read n h.2,
 )
+is_read (Makes (SetMtime p at)) h = (
+  path_word p,
+  decimal at,
+  more_words (spelled (Makes (SetMtime p at))) (codes "#") (codes "mtime " ++ (path_word p ++ 32 ∷ decimal at)) refl (no_space (codes "#") (seen (codes "#") refl))
+      ∙ ap (λ ws. codes "#" ∷ ws) (three_words (codes "mtime") (path_word p) (decimal at) (seen (codes "mtime") refl) (path_word_visible p) (decimal_visible at h.1)),
+  path_word_read p h.0,
+  number_read at h.1,
+)
 is_read (Makes (Keep what s)) h = two_words (keeping_word what) s (keeping_visible what) (snap_visible s (and_parts _ _ h).1)
 
 -- it fits a script
@@ -187,6 +195,11 @@ is_short (Makes (Punch p off n at)) h =
     let d = decimal_short off h.1 in
     let e = decimal_short n h.2 in
     omega (arith, l, k, a, d, e)
+is_short (Makes (SetMtime p at)) h =
+    let l = spaced_length (path_word p) (decimal at) in
+    let a = path_word_short p h.0 in
+    let d = decimal_short at h.1 in
+    omega (arith, l, a, d)
 is_short (Makes (Keep what s)) h =
     let l = spaced_length (keeping_word what) s in
     let w = keeping_short what in
@@ -225,6 +238,10 @@ all_unbroken (Makes (Punch p off n at)) h =
     spaced (codes "#") (codes "punch " ++ (path_word p ++ 32 ∷ (decimal off ++ 32 ∷ decimal n))) (unbroken (codes "#") (seen (codes "#") refl))
     (spaced (codes "punch") (path_word p ++ 32 ∷ (decimal off ++ 32 ∷ decimal n)) (unbroken (codes "punch") (seen (codes "punch") refl))
     (spaced (path_word p) (decimal off ++ 32 ∷ decimal n) (path_unbroken p) (spaced (decimal off) (decimal n) (decimal_unbroken off h.1) (decimal_unbroken n h.2))))
+all_unbroken (Makes (SetMtime p at)) h =
+    spaced (codes "#") (codes "mtime " ++ (path_word p ++ 32 ∷ decimal at)) (unbroken (codes "#") (seen (codes "#") refl))
+    (spaced (codes "mtime") (path_word p ++ 32 ∷ decimal at) (unbroken (codes "mtime") (seen (codes "mtime") refl))
+    (spaced (path_word p) (decimal at) (path_unbroken p) (decimal_unbroken at h.1)))
 all_unbroken (Makes (Keep what s)) h = spaced (keeping_word what) s (unbroken (keeping_word what) (keeping_visible what)) (unbroken s (snap_visible s (and_parts _ _ h).1))
 
 pub is_one : (t : DumpLine) → Fits t → All (λ b. b ≢ 10) (spelled t)

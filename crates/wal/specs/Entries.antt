@@ -8,7 +8,7 @@ use Rattle.pathkey.specs.Texts.{text_of}
 use Rattle.pathkey.specs.declared.errno.Errno.{Errno}
 use Rattle.pathkey.specs.declared.errno.Errno.TheVariants.{EINVAL, ENOMEM}
 use Rattle.wal.specs.declared.wal_entry.WalEntry.{WalEntry}
-use Rattle.wal.specs.declared.wal_entry.WalEntry.TheVariants.{OnPath, Rename, Truncate, Write, Punch, Keep}
+use Rattle.wal.specs.declared.wal_entry.WalEntry.TheVariants.{OnPath, Rename, Truncate, Write, Punch, SetMtime, Keep}
 use Rattle.wal.specs.declared.wal_entry.SnapshotCall.{SnapshotCall}
 use Rattle.wal.specs.declared.wal_entry.SnapshotCall.TheVariants.{Snapshot, Remove, Restore}
 use Rattle.reference.specs.declared.path_call.PathCall.{PathCall}
@@ -52,6 +52,7 @@ head_of (Rename o n at) = record { kind = 6; at = at; offset = 0; count = 0 }
 head_of (Truncate p len at) = record { kind = 7; at = at; offset = len; count = 0 }
 head_of (Write p off w at) = record { kind = 8; at = at; offset = off; count = 0 }
 head_of (Punch p off n at) = record { kind = 9; at = at; offset = off; count = n }
+head_of (SetMtime p at) = record { kind = 13; at = at; offset = 0; count = 0 }
 head_of (Keep what s) = record { kind = keeping_kind what; at = 0; offset = 0; count = 0 }
 
 -- the text of its path, or the name of the snapshot
@@ -61,6 +62,7 @@ first_of (Rename o n at) = text_of o
 first_of (Truncate p len at) = text_of p
 first_of (Write p off w at) = text_of p
 first_of (Punch p off n at) = text_of p
+first_of (SetMtime p at) = text_of p
 first_of (Keep what s) = s
 
 -- the text of the path to which it moves something, or the bytes that it writes
@@ -94,6 +96,7 @@ IsChange (Rename o n at) = IsPath o × IsPath n × IsWord at
 IsChange (Truncate p len at) = IsPath p × IsWord len × IsWord at
 IsChange (Write p off w at) = IsPath p × IsWord off × IsWord (length w) × IsWord at
 IsChange (Punch p off n at) = IsPath p × IsWord off × IsWord n × IsWord at
+IsChange (SetMtime p at) = IsPath p × IsWord at
 IsChange (Keep what s) = is_snap_name s ≡ true
 
 -- ---- what bytes are read as

@@ -4,7 +4,7 @@ use Rattle.pathkey.specs.Names.{Path}
 use Rattle.reference.specs.Image.{Text, path_text}
 use Rattle.textio.specs.Texts.{hex_text}
 use Rattle.wal.specs.declared.wal_entry.WalEntry.{WalEntry}
-use Rattle.wal.specs.declared.wal_entry.WalEntry.TheVariants.{OnPath, Rename, Truncate, Write, Punch, Keep}
+use Rattle.wal.specs.declared.wal_entry.WalEntry.TheVariants.{OnPath, Rename, Truncate, Write, Punch, SetMtime, Keep}
 use Rattle.wal.specs.declared.wal_entry.SnapshotCall.{SnapshotCall}
 use Rattle.wal.specs.declared.wal_entry.SnapshotCall.TheVariants.{Snapshot, Remove, Restore}
 use Rattle.reference.specs.declared.path_call.PathCall.{PathCall}
@@ -41,6 +41,7 @@ spelled (Makes (Rename o n at)) = codes "rename " ++ (path_word o ++ 32 ∷ path
 spelled (Makes (Truncate p len at)) = codes "truncate " ++ (path_word p ++ 32 ∷ decimal len)
 spelled (Makes (Write p off w at)) = codes "write " ++ (path_word p ++ 32 ∷ (decimal off ++ 32 ∷ hex_text w))
 spelled (Makes (Punch p off n at)) = codes "# punch " ++ (path_word p ++ 32 ∷ (decimal off ++ 32 ∷ decimal n))
+spelled (Makes (SetMtime p at)) = codes "# mtime " ++ (path_word p ++ 32 ∷ decimal at)
 spelled (Makes (Keep what s)) = keeping_word what ++ 32 ∷ s
 
 abbrev pub line : DumpLine → Text

@@ -25,6 +25,7 @@ pub(crate) fn apply_entry(
         WalEntry::Punch(path, offset, count, at) => {
             settled(volume.punch(alloc, path, *offset, *count, *at))
         }
+        WalEntry::SetMtime(path, at) => volume.set_mtime(alloc, path, *at),
         WalEntry::Keep(what, name) => keep(alloc, volume, *what, name),
     }
 }

@@ -60,6 +60,7 @@ fn read_entry(
         10 => decode_snapshot_call(alloc, SnapshotCall::Snapshot, head, first, second),
         11 => decode_snapshot_call(alloc, SnapshotCall::Remove, head, first, second),
         12 => decode_snapshot_call(alloc, SnapshotCall::Restore, head, first, second),
+        13 => read_mtime(alloc, head, first, second),
         _ => Err(Errno::EINVAL),
     }
 }
@@ -159,6 +160,23 @@ fn read_punch(
     }
     let path = read_path(alloc, first)?;
     Ok(WalEntry::Punch(path, head.offset, head.count, head.at))
+}
+
+// An mtime that is set.
+fn read_mtime(
+    alloc: Global,
+    head: EntryHeader,
+    first: &[u8],
+    second: &[u8],
+) -> Result<WalEntry, Errno>
+    requires { 13 ≡ head.kind }
+    ensures { ReadsEntry head first.now second.now result }
+{
+    if !has_no_numbers(head) || !second.is_empty() {
+        return Err(Errno::EINVAL);
+    }
+    let path = read_path(alloc, first)?;
+    Ok(WalEntry::SetMtime(path, head.at))
 }
 
 // What becomes of a snapshot.

@@ -12,8 +12,8 @@ use std::alloc::Global;
 
 /// The lines of a script that ask for the changes of a log's body, in their order and each at its moment, and of nothing else.
 ///
-/// A write is told by as many lines as it needs. A hole has no line: what it does hangs on the length of the file, so it is told by a
-/// note, which a script passes by. `EINVAL`: the bytes are no body. `EFBIG`: a write reaches past 2^64. `ENOMEM`.
+/// A write is told by as many lines as it needs. A hole has no line, since what it does depends on the length of the file, nor has an
+/// mtime that is set, since no call of a script sets one: each is told by a note, a comment of the script. `EINVAL`: the bytes are no body. `EFBIG`: a write reaches past 2^64. `ENOMEM`.
 pub fn wal_dump(alloc: Global, body: &[u8]) -> Result<Vec<u8>, Errno>
     ensures { MatchResult result (λ text. IsScriptOf body.now text.items) (λ e. RefusesLines body.now e) }
 {

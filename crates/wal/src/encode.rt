@@ -119,6 +119,25 @@ pub fn encode_punch(
     encode(alloc, head, path, &[], out)
 }
 
+/// An mtime that is set.
+pub fn encode_mtime(
+    alloc: Global,
+    path: &[u8],
+    at: u64,
+    out: &mut [u8],
+) -> Result<usize, Errno>
+    ensures { Encodes (asked (λ p. WalEntry.SetMtime p at) (parsed path.now)) result out.old out.new }
+{
+    check_path(alloc, path)?;
+    let head = EntryHeader {
+        kind: 13,
+        at,
+        offset: 0,
+        count: 0,
+    };
+    encode(alloc, head, path, &[], out)
+}
+
 /// What becomes of the snapshot of a name.
 pub fn encode_snapshot_call(
     alloc: Global,

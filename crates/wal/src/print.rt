@@ -1,7 +1,7 @@
 //! One line of a script.
 ghost use Rattle.std.specs.Prelude.{◌≡◌, ◌≤◌, ◌++◌, ℕ, OnOk, length};
 ghost use Rattle.wal.specs.declared.wal_entry.WalEntry.{WalEntry};
-ghost use Rattle.wal.specs.declared.wal_entry.WalEntry.TheVariants.{OnPath, Rename, Truncate, Write, Punch, Keep};
+ghost use Rattle.wal.specs.declared.wal_entry.WalEntry.TheVariants.{OnPath, Rename, Truncate, Write, Punch, SetMtime, Keep};
 ghost use Rattle.wal.specs.Added.{AddsLine};
 ghost use Rattle.wal.specs.Lines.{At, Makes, call_word, keeping_word, path_word};
 ghost use Rattle.pathkey.specs.Names.{IsPath};
@@ -89,6 +89,17 @@ pub(crate) fn put_hole(
     put_number(text, offset)?;
     put(text, b" ")?;
     put_number(text, count)?;
+    put(text, b"\n")
+}
+
+// Adds the note of an mtime that is set.
+pub(crate) fn put_mtime(text: &mut Vec<u8>, path: &Path, at: u64) -> Result<(), WriteFailed>
+    ensures { OnOk result (AddsLine (Makes (SetMtime path.now at)) text.old.items text.new.items) }
+{
+    put(text, b"# mtime ")?;
+    put_path_word(text, path)?;
+    put(text, b" ")?;
+    put_number(text, at)?;
     put(text, b"\n")
 }
 

@@ -28,6 +28,8 @@ pub enum WalEntry {
     Write(Path, u64, Bytes, u64),
     /// Makes zeros of so many bytes from the offset on, as far as the file reaches.
     Punch(Path, u64, u64, u64),
+    /// Sets the mtime of what is at a path.
+    SetMtime(Path, u64),
     /// Keeps, removes or restores the snapshot of a name.
     Keep(SnapshotCall, SnapName),
 }

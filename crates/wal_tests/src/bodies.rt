@@ -4,7 +4,7 @@ use pathkey::Errno;
 use std::alloc::Global;
 use std::test::Fail;
 use wal::encode::{
-    encode_path_call, encode_punch, encode_rename, encode_snapshot_call, encode_truncate,
+    encode_mtime, encode_path_call, encode_punch, encode_rename, encode_snapshot_call, encode_truncate,
     encode_write,
 };
 use wal::{PathCall, SnapshotCall, WalEntry, decode_entries};
@@ -76,6 +76,7 @@ fn reported_of_one(change: &WalEntry) -> u64 {
         WalEntry::Rename(_, _, at) => numbered(400, *at),
         WalEntry::Truncate(_, 12, at) => numbered(500, *at),
         WalEntry::Punch(_, 4096, 8192, at) => numbered(600, *at),
+        WalEntry::SetMtime(_, at) => numbered(900, *at),
         WalEntry::Keep(keeping, _) => reported_of_keeping(*keeping),
         _ => 1,
     }
@@ -104,6 +105,8 @@ fn read_as_they_were_laid(rt: HostRuntime) -> Result<(), Fail> {
     assert_eq!(rt; reported(rt.alloc(), laid, &room), 505);
     let laid = encode_punch(rt.alloc(), b"/a", 4096, 8192, 6, &mut room);
     assert_eq!(rt; reported(rt.alloc(), laid, &room), 606);
+    let laid = encode_mtime(rt.alloc(), b"/a", 7, &mut room);
+    assert_eq!(rt; reported(rt.alloc(), laid, &room), 907);
     let laid = encode_snapshot_call(rt.alloc(), SnapshotCall::Remove, b"s", &mut room);
     assert_eq!(rt; reported(rt.alloc(), laid, &room), 700);
     let laid = encode_snapshot_call(rt.alloc(), SnapshotCall::Restore, b"s", &mut room);

@@ -4,7 +4,7 @@ use pathkey::Errno;
 use std::alloc::Global;
 use std::test::Fail;
 use wal::encode::{
-    encode_path_call, encode_punch, encode_rename, encode_snapshot_call, encode_truncate,
+    encode_mtime, encode_path_call, encode_punch, encode_rename, encode_snapshot_call, encode_truncate,
     encode_write,
 };
 use wal::{PathCall, SnapshotCall, wal_dump};
@@ -77,6 +77,8 @@ fn each_change_reported(rt: HostRuntime) -> Result<(), Fail> {
     assert_eq!(rt; fault_of_laid(rt.alloc(), laid, &room), Some(Errno::EFBIG));
     let laid = encode_punch(rt.alloc(), b"/a", 4096, 8192, 6, &mut room);
     assert!(rt; is_laid_reported(rt.alloc(), laid, &room, b"# punch /a 4096 8192\n"));
+    let laid = encode_mtime(rt.alloc(), b"/a b", 6, &mut room);
+    assert!(rt; is_laid_reported(rt.alloc(), laid, &room, b"# mtime /a%20b 6\n"));
     let laid = encode_snapshot_call(rt.alloc(), SnapshotCall::Remove, b"s", &mut room);
     assert!(rt; is_laid_reported(rt.alloc(), laid, &room, b"drop s\n"));
     let laid = encode_snapshot_call(rt.alloc(), SnapshotCall::Restore, b"s", &mut room);

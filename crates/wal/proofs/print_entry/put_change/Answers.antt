@@ -1,7 +1,7 @@
 use Rattle.std.proofs.Common.{ℕ, List, refl, sym, subst, OnOk}
 use Rattle.std.proofs.lemmas.Result.{on_ok_weaker}
 use Rattle.wal.specs.declared.wal_entry.WalEntry.{WalEntry}
-use Rattle.wal.specs.declared.wal_entry.WalEntry.TheVariants.{OnPath, Rename, Truncate, Punch, Keep}
+use Rattle.wal.specs.declared.wal_entry.WalEntry.TheVariants.{OnPath, Rename, Truncate, Punch, SetMtime, Keep}
 use Rattle.wal.specs.Added.{Adds, AddsParts}
 use Rattle.wal.proofs.Adding.{adds_one, adds_two, adds_write}
 use Rattle.wal.proofs.print_entry.put_change.Goals as goal
@@ -45,6 +45,11 @@ returns-in-Punch c =
     let this : WalEntry = Punch c.in-Punch.path c.in-Punch.offset c.in-Punch.count c.in-Punch.field-3 in
     subst (λ (x : WalEntry). OnOk c.put_hole.result (Adds x c.args.text.now.items c.put_hole.new.text.items)) (sym c.in-Punch.is)
     (on_ok_weaker c.put_hole.result (λ h. adds_one this c.args.text.now.items c.put_hole.new.text.items refl (h c.in-Punch.field-3)) c.put_hole.ensures)
+
+pub returns-in-SetMtime : goal.returns-in-SetMtime
+returns-in-SetMtime c =
+    subst (λ (x : WalEntry). OnOk c.put_mtime.result (Adds x c.args.text.now.items c.put_mtime.new.text.items)) (sym c.in-SetMtime.is)
+    (on_ok_weaker c.put_mtime.result (λ h. adds_one (SetMtime c.in-SetMtime.path c.in-SetMtime.at) c.args.text.now.items c.put_mtime.new.text.items refl h) c.put_mtime.ensures)
 
 pub returns-in-Keep : goal.returns-in-Keep
 returns-in-Keep c =
