@@ -14,7 +14,7 @@ use Rattle.shell.specs.declared.request.ReadCall.{ReadCall}
 use Rattle.shell.specs.declared.request.Request.TheVariants.{Moment, Wanted, Past}
 use Rattle.shell.specs.Requests.{request_of, IsReadAs}
 use Rattle.shell.specs.Replies.{reply_text}
-use Rattle.shell.specs.Script.{Cut, IsHalt, Line, Lines, State, Taken, in_world, Answers, Does, Script, Settles, Tells, settled_reply}
+use Rattle.shell.specs.Script.{Cut, IsHalt, Line, Lines, State, Answered, in_world, Answers, Does, Script, Settles, Tells, settled_reply}
 use Rattle.shell.specs.Runs.{Halts, Leads, Left, Meant, States, Worlds}
 use Rattle.shell.specs.Verdicts.{Judges, fails, is_fault}
 use Rattle.shell.specs.declared.verdict.Halt.TheVariants as halt
@@ -96,9 +96,9 @@ left_at_end means means' at step Wrote f first m =
 -- ---- what a watch makes of a line
 
 -- it lets the run go on: where that is strict the reply is no fault
-pub line_taken : (means means' : States) (old new : Option (List ℕ)) (line : List ℕ) (strict go : Bool) (v : Verdict) → go ≡ not (strict && fails v) → go ≡ true
-    → Leads means means' (λ first. Does first line) (Judges v old new) → Leads means means' (λ first. Taken strict first line) (Appends old new)
-line_taken means means' old new line strict go v rule goes f first m =
+pub line_answered : (means means' : States) (old new : Option (List ℕ)) (line : List ℕ) (strict go : Bool) (v : Verdict) → go ≡ not (strict && fails v) → go ≡ true
+    → Leads means means' (λ first. Does first line) (Judges v old new) → Leads means means' (λ first. Answered strict first line) (Appends old new)
+line_answered means means' old new line strict go v rule goes f first m =
     let (out, after, does, m', (wrote, judged)) = f first m in
     (out, after, (does, λ is. sym judged ∙ passes is), m', wrote)
   where
@@ -148,11 +148,11 @@ none_done D means Wrote (x ∷ line) none wrote first m = absurd (omega (arith, 
 
 -- and the writer failed behind it
 pub flush_ends : (means means' : States) (old kept new : Option (List ℕ)) (lines : List (List ℕ)) (strict : Bool)
-    → Leads means means' (λ first. Lines (Taken strict) first lines) (Appends old kept) → Keeps kept new
+    → Leads means means' (λ first. Lines (Answered strict) first lines) (Appends old kept) → Keeps kept new
     → Leads means means' (Halts (IsHalt strict halt.Write) lines) (Appends old new)
 flush_ends means means' old kept new lines strict f keeps first m =
     let (out, after, did, m', wrote) = f first m in
-    let all : Script first lines out after = lines_weaker (Taken strict) Does (λ a line reply b taken. taken.0) lines first after out did in
+    let all : Script first lines out after = lines_weaker (Answered strict) Does (λ a line reply b answered. answered.0) lines first after out did in
     let whole : Script first lines (out ++ []) after = subst (λ (o : List ℕ). Script first lines o after) (sym (append-nil out)) all in
     (out, after, ([], whole, tt), m', Appends-kept _ _ _ _ wrote keeps)
 

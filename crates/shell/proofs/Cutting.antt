@@ -5,10 +5,10 @@ use Rattle.std.specs.Prelude.{Bool, Option}
 use Rattle.std.specs.Io.KnownBytes.{Appends}
 use Rattle.std.proofs.KnownBytes.{Appends-nil, Appends-trans}
 use Rattle.shell.specs.Runs.{Halts, Leads, States}
-use Rattle.shell.specs.Script.{Cut, Does, Line, Taken}
+use Rattle.shell.specs.Script.{Cut, Does, Line, Answered}
 use Rattle.shell.specs.Progress.{FailedIn, Went}
 use Rattle.textio.specs.Held.{Holds}
-use Rattle.shell.proofs.Progress.{does_held, failed_line, failed_then, script_of_one, taken_held, went_line, went_nothing, went_on, went_then}
+use Rattle.shell.proofs.Progress.{does_held, failed_line, failed_then, script_of_one, answered_held, went_line, went_nothing, went_on, went_then}
 use Rattle.textio.proofs.HeldFacts.{hold_more, holds_nothing, line_cut}
 
 -- the lines that end in a piece were done, and what follows them is held
@@ -78,8 +78,8 @@ takes_rest D means means' old new piece rest items between items' (front, is, f)
 
 -- the line was done
 pub does_line : (strict : Bool) (means means' : States) (old new : Option (List ℕ)) (end items line now : List ℕ)
-    → ((held : List ℕ) → Holds held items → Holds (held ++ end) line) → now ≡ [] → Leads means means' (λ first. Taken strict first line) (Appends old new)
-    → TakesIn (Taken strict) means means' old new (end ++ 10 ∷ []) items now
+    → ((held : List ℕ) → Holds held items → Holds (held ++ end) line) → now ≡ [] → Leads means means' (λ first. Answered strict first line) (Appends old new)
+    → TakesIn (Answered strict) means means' old new (end ++ 10 ∷ []) items now
 does_line strict means means' old new end items line now whole none f held holds first m =
     let (reply, after, does, m', wrote) = f first m in
     let is : Holds (held ++ end) line = whole held holds in (
@@ -88,7 +88,7 @@ does_line strict means means' old new end items line now whole none f held holds
       (
         [],
         rw none holds_nothing,
-        went_line (Taken strict) held end first after reply is.free (taken_held strict (held ++ end) line first after reply is does),
+        went_line (Answered strict) held end first after reply is.free (answered_held strict (held ++ end) line first after reply is does),
       ),
       m',
       wrote,

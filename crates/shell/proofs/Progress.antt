@@ -7,7 +7,7 @@ use Rattle.shell.specs.declared.request.Request.{Request}
 use Rattle.shell.specs.declared.request.Request.TheVariants.{Overlong, Refused}
 use Rattle.textio.specs.Lines.{lines_of, kept_before, whole}
 use Rattle.shell.specs.Requests.{request_of, IsAsked}
-use Rattle.shell.specs.Script.{Answers, Cut, Does, IsCut, Line, Lines, Script, State, Stopped, Taken}
+use Rattle.shell.specs.Script.{Answers, Cut, Does, IsCut, Line, Lines, Script, State, Stopped, Answered}
 use Rattle.shell.specs.Progress.{AreFree, FailedIn, Went, last_line, text_of_lines}
 use Rattle.textio.specs.Held.{Holds, IsFree}
 
@@ -137,8 +137,8 @@ does_held held items a b reply holds does = go (cases_lt 65536 (length held))
     go (inr short) = subst (λ (l : List ℕ). Does a l reply b) (holds.short short) does
 
 -- and where no answer may be a fault
-pub taken_held : (strict : Bool) (held items : List ℕ) (a b : State) (reply : List ℕ) → Holds held items → Taken strict a items reply b → Taken strict a held reply b
-taken_held strict held items a b reply holds (does, passes) = (does_held held items a b reply holds does, passes)
+pub answered_held : (strict : Bool) (held items : List ℕ) (a b : State) (reply : List ℕ) → Holds held items → Answered strict a items reply b → Answered strict a held reply b
+answered_held strict held items a b reply holds (does, passes) = (does_held held items a b reply holds does, passes)
 
 -- bytes of the line
 went_bytes : (D : Line) (held piece bytes : List ℕ) (first after : State) (out left : List ℕ) → Went D held piece first out left after → Went D held (piece ++ bytes) first out (left ++ bytes) after

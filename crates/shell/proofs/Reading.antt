@@ -3,14 +3,14 @@ use Rattle.std.proofs.Common.{Bool, ◌≡◌, ◌++◌, ℕ, List, [], subst}
 use Rattle.std.specs.Prelude.{Option}
 use Rattle.std.specs.Io.KnownBytes.{Appends, Consumes, IsAtEnd, Keeps}
 use Rattle.std.proofs.KnownBytes.{Appends-kept, Appends-trans, Consumes-kept, Consumes-trans}
-use Rattle.shell.specs.Script.{Cut, Does, IsCut, IsHalt, Line, Lines, State, Taken}
+use Rattle.shell.specs.Script.{Cut, Does, IsCut, IsHalt, Line, Lines, State, Answered}
 use Rattle.shell.specs.Runs.{DoesAll, DoesGiven, DoesUntil, Halts, Leads, States}
 use Rattle.shell.specs.declared.verdict.Halt.{Halt}
 use Rattle.shell.specs.declared.verdict.Halt.TheVariants as halt
 use Rattle.shell.specs.Progress.{FailedIn, Went, last_line}
 use Rattle.textio.specs.Held.{Holds}
 use Rattle.textio.proofs.Known.{gave_all, known_text, known_whole}
-use Rattle.shell.proofs.Progress.{Carries, does_held, lines_weaker, script_at_end, script_held, script_of_whole, stopped_at_end, stopped_between, stopped_in, stopped_weaker, taken_held, went_then}
+use Rattle.shell.proofs.Progress.{Carries, does_held, lines_weaker, script_at_end, script_held, script_of_whole, stopped_at_end, stopped_between, stopped_in, stopped_weaker, answered_held, went_then}
 
 -- at the head of the loop: what the reader gave was done, up to the line so far
 abbrev pub Reads : Line → Option (List ℕ) → Option (List ℕ) → List ℕ → State → List ℕ → State → Type 0
@@ -124,28 +124,28 @@ halts_at_end D strict h meant means had old kept new is so keeps first m =
 -- ---- what less is said of each line
 
 module _ (strict : Bool) where
-  does_taken : (a : State) (line reply : List ℕ) (b : State) → Taken strict a line reply b → Does a line reply b
-  does_taken a line reply b taken = taken.0
+  answered_does : (a : State) (line reply : List ℕ) (b : State) → Answered strict a line reply b → Does a line reply b
+  answered_does a line reply b answered = answered.0
 
-  pub all_done : (meant means : States) (had has old new : Option (List ℕ)) → Leads meant means (DoesAll (Taken strict) had has) (Appends old new)
+  pub all_done : (meant means : States) (had has old new : Option (List ℕ)) → Leads meant means (DoesAll (Answered strict) had has) (Appends old new)
       → Leads meant means (DoesAll Does had has) (Appends old new)
   all_done meant means had has old new so first m =
       let (out, after, (text, read, ended, did), m', wrote) = so first m in
-      (out, after, (text, read, ended, lines_weaker (Taken strict) Does does_taken _ first after out did), m', wrote)
+      (out, after, (text, read, ended, lines_weaker (Answered strict) Does answered_does _ first after out did), m', wrote)
 
-  pub given_done : (meant means : States) (had has old new : Option (List ℕ)) → Leads meant means (DoesGiven (Taken strict) had has) (Appends old new)
+  pub given_done : (meant means : States) (had has old new : Option (List ℕ)) → Leads meant means (DoesGiven (Answered strict) had has) (Appends old new)
       → Leads meant means (DoesGiven Does had has) (Appends old new)
   given_done meant means had has old new so first m =
       let (out, after, (text, read, did), m', wrote) = so first m in
-      (out, after, (text, read, lines_weaker (Taken strict) Does does_taken _ first after out did), m', wrote)
+      (out, after, (text, read, lines_weaker (Answered strict) Does answered_does _ first after out did), m', wrote)
 
-  pub until_done : (H : Cut) (meant means : States) (had old new : Option (List ℕ)) → Leads meant means (DoesUntil (Taken strict) H had) (Appends old new)
+  pub until_done : (H : Cut) (meant means : States) (had old new : Option (List ℕ)) → Leads meant means (DoesUntil (Answered strict) H had) (Appends old new)
       → Leads meant means (DoesUntil Does IsCut had) (Appends old new)
   until_done H meant means had old new so first m =
       let (out, after, (text, is, stopped), m', wrote) = so first m in (
         out,
         after,
-        (text, is, stopped_weaker (Taken strict) Does H IsCut does_taken (λ part rest how. tt) first text out after stopped),
+        (text, is, stopped_weaker (Answered strict) Does H IsCut answered_does (λ part rest how. tt) first text out after stopped),
         m',
         wrote,
       )

@@ -75,8 +75,8 @@ abbrev pub Line : Type 1
 Line = State → List ℕ → List ℕ → State → Type 0
 
 -- a line is answered; where a run is strict, by no fault and no error
-abbrev pub Taken : Bool → Line
-Taken strict s line text s' = Does s line text s' × (strict ≡ true → is_fault text ≡ false)
+abbrev pub Answered : Bool → Line
+Answered strict s line text s' = Does s line text s' × (strict ≡ true → is_fault text ≡ false)
 
 -- the lines, one after the other, with their answers joined
 abbrev pub Lines : Line → State → List (List ℕ) → List ℕ → State → Type 0

@@ -4,7 +4,7 @@ ghost use Rattle.std.specs.Io.KnownBytes.{Appends, Keeps};
 ghost use Rattle.textio.specs.Parts.{AppendsPart};
 ghost use Rattle.reference.specs.declared.reply.Reply.TheVariants.{Fault};
 ghost use Rattle.shell.specs.Replies.{reply_text};
-ghost use Rattle.shell.specs.Script.{Answers, Does, IsCut, IsHalt, Lines, Script, Taken, settled_reply};
+ghost use Rattle.shell.specs.Script.{Answers, Does, IsCut, IsHalt, Lines, Script, Answered, settled_reply};
 ghost use Rattle.reference.specs.Worlds.{World};
 ghost use Rattle.volume.specs.Volumes.{Means};
 ghost use Rattle.shell.specs.Runs.{DoesAll, DoesGiven, DoesUntil, Halts, Leads, Left, Meant};
@@ -99,14 +99,14 @@ pub(crate) fn run_lines<S: Session, R: Read, W: Write, P: Pace, V: Watch>(
 ) -> Result<(), Ending>
     ensures memory { result ≡ Err (Ending.Failed ScriptFault.Memory) → (session.new ≡ session.old) × (at.new ≡ at.old) × (reader.new ≡ reader.old)
         × (writer.new ≡ writer.old) }
-    ensures done { OnOk result (Leads (Meant (S.means session.old) at.old) (Meant (S.means session.new) at.new) (DoesAll (Taken (V.is_strict watch.old)) (R.remaining reader.old) (R.remaining reader.new))
+    ensures done { OnOk result (Leads (Meant (S.means session.old) at.old) (Meant (S.means session.new) at.new) (DoesAll (Answered (V.is_strict watch.old)) (R.remaining reader.old) (R.remaining reader.new))
         (Appends (W.contents writer.old) (W.contents writer.new))) }
     ensures read { result ≡ Err (Ending.Failed ScriptFault.Read) → Leads (Meant (S.means session.old) at.old) (Meant (S.means session.new) at.new)
-        (DoesGiven (Taken (V.is_strict watch.old)) (R.remaining reader.old) (R.remaining reader.new)) (Appends (W.contents writer.old) (W.contents writer.new)) }
+        (DoesGiven (Answered (V.is_strict watch.old)) (R.remaining reader.old) (R.remaining reader.new)) (Appends (W.contents writer.old) (W.contents writer.new)) }
     ensures write { result ≡ Err (Ending.Failed ScriptFault.Write) → Leads (Meant (S.means session.old) at.old) (Meant (S.means session.new) at.new)
-        (DoesUntil (Taken (V.is_strict watch.old)) IsCut (R.remaining reader.old)) (Appends (W.contents writer.old) (W.contents writer.new)) }
+        (DoesUntil (Answered (V.is_strict watch.old)) IsCut (R.remaining reader.old)) (Appends (W.contents writer.old) (W.contents writer.new)) }
     ensures fault { (n : ℕ) → result ≡ Err (Ending.Fault n) → Leads (Meant (S.means session.old) at.old) (Meant (S.means session.new) at.new)
-        (DoesUntil (Taken (V.is_strict watch.old)) (IsHalt (V.is_strict watch.old) Halt.Fault) (R.remaining reader.old)) (Appends (W.contents writer.old) (W.contents writer.new)) }
+        (DoesUntil (Answered (V.is_strict watch.old)) (IsHalt (V.is_strict watch.old) Halt.Fault) (R.remaining reader.old)) (Appends (W.contents writer.old) (W.contents writer.new)) }
 {
     let Ok(mut piece) = Vec::from_elem(alloc, 0u8, READ_SIZE) else {
         return Err(Ending::Failed(ScriptFault::Memory));
@@ -143,14 +143,14 @@ fn run_over<S: Session, R: Read, W: Write, P: Pace, V: Watch>(
     requires room { 65536 < vec_capacity line.old }
     requires empty { line.old.items ≡ [] }
     ensures kinds { result ≢ Err (Ending.Failed ScriptFault.Memory) }
-    ensures done { OnOk result (Leads (Meant (S.means session.old) at.old) (Meant (S.means session.new) at.new) (DoesAll (Taken (V.is_strict watch.old)) (R.remaining reader.old) (R.remaining reader.new))
+    ensures done { OnOk result (Leads (Meant (S.means session.old) at.old) (Meant (S.means session.new) at.new) (DoesAll (Answered (V.is_strict watch.old)) (R.remaining reader.old) (R.remaining reader.new))
         (Appends (W.contents writer.old) (W.contents writer.new))) }
     ensures read { result ≡ Err (Ending.Failed ScriptFault.Read) → Leads (Meant (S.means session.old) at.old) (Meant (S.means session.new) at.new)
-        (DoesGiven (Taken (V.is_strict watch.old)) (R.remaining reader.old) (R.remaining reader.new)) (Appends (W.contents writer.old) (W.contents writer.new)) }
+        (DoesGiven (Answered (V.is_strict watch.old)) (R.remaining reader.old) (R.remaining reader.new)) (Appends (W.contents writer.old) (W.contents writer.new)) }
     ensures write { result ≡ Err (Ending.Failed ScriptFault.Write) → Leads (Meant (S.means session.old) at.old) (Meant (S.means session.new) at.new)
-        (DoesUntil (Taken (V.is_strict watch.old)) IsCut (R.remaining reader.old)) (Appends (W.contents writer.old) (W.contents writer.new)) }
+        (DoesUntil (Answered (V.is_strict watch.old)) IsCut (R.remaining reader.old)) (Appends (W.contents writer.old) (W.contents writer.new)) }
     ensures fault { (n : ℕ) → result ≡ Err (Ending.Fault n) → Leads (Meant (S.means session.old) at.old) (Meant (S.means session.new) at.new)
-        (DoesUntil (Taken (V.is_strict watch.old)) (IsHalt (V.is_strict watch.old) Halt.Fault) (R.remaining reader.old)) (Appends (W.contents writer.old) (W.contents writer.new)) }
+        (DoesUntil (Answered (V.is_strict watch.old)) (IsHalt (V.is_strict watch.old) Halt.Fault) (R.remaining reader.old)) (Appends (W.contents writer.old) (W.contents writer.new)) }
 {
     // No input has more pieces.
     for _ in 0..u64::MAX {
@@ -202,10 +202,10 @@ fn take_piece<S: Session, W: Write, P: Pace, V: Watch>(
     ensures room { 65536 < vec_capacity line.new }
     ensures same { V.is_strict watch.new ≡ V.is_strict watch.old }
     ensures ok { OnOk result ((held : List ℕ) → Holds held line.old.items → Leads (Meant (S.means session.old) at.old) (Meant (S.means session.new) at.new)
-        (λ first out after. (left : List ℕ) × Holds left line.new.items × Went (Taken (V.is_strict watch.old)) held piece.now first out left after)
+        (λ first out after. (left : List ℕ) × Holds left line.new.items × Went (Answered (V.is_strict watch.old)) held piece.now first out left after)
         (Appends (W.contents writer.old) (W.contents writer.new))) }
     ensures err { IfErr result (λ h. (held : List ℕ) → Holds held line.old.items → Leads (Meant (S.means session.old) at.old) (Meant (S.means session.new) at.new)
-        (FailedIn (Taken (V.is_strict watch.old)) (IsHalt (V.is_strict watch.old) h) held piece.now) (Appends (W.contents writer.old) (W.contents writer.new))) }
+        (FailedIn (Answered (V.is_strict watch.old)) (IsHalt (V.is_strict watch.old) h) held piece.now) (Appends (W.contents writer.old) (W.contents writer.new))) }
 {
     let mut rest = piece;
     while let Some((end, after)) = split_line(rest) {
@@ -232,7 +232,7 @@ fn finish<S: Session, W: Write, P: Pace, V: Watch>(
     pace: &mut P,
     watch: &mut V,
 ) -> Result<(), Halt>
-    ensures ok { OnOk result (Leads (Meant (S.means session.old) at.old) (Meant (S.means session.new) at.new) (λ first. Lines (Taken (V.is_strict watch.old)) first (last_line line.now))
+    ensures ok { OnOk result (Leads (Meant (S.means session.old) at.old) (Meant (S.means session.new) at.new) (λ first. Lines (Answered (V.is_strict watch.old)) first (last_line line.now))
         (Appends (W.contents writer.old) (W.contents writer.new))) }
     ensures err { IfErr result (λ h. Leads (Meant (S.means session.old) at.old) (Meant (S.means session.new) at.new) (Halts (IsHalt (V.is_strict watch.old) h) (last_line line.now))
         (Appends (W.contents writer.old) (W.contents writer.new))) }
@@ -266,7 +266,7 @@ fn do_line<S: Session, W: Write, P: Pace, V: Watch>(
     watch: &mut V,
 ) -> Result<(), Halt>
     ensures same { V.is_strict watch.new ≡ V.is_strict watch.old }
-    ensures ok { OnOk result (Leads (Meant (S.means session.old) at.old) (Meant (S.means session.new) at.new) (λ first. Taken (V.is_strict watch.old) first line.now)
+    ensures ok { OnOk result (Leads (Meant (S.means session.old) at.old) (Meant (S.means session.new) at.new) (λ first. Answered (V.is_strict watch.old) first line.now)
         (Appends (W.contents writer.old) (W.contents writer.new))) }
     ensures err { IfErr result (λ h. Leads (Meant (S.means session.old) at.old) (Meant (S.means session.new) at.new) (Halts (IsHalt (V.is_strict watch.old) h) (line.now ∷ []))
         (Appends (W.contents writer.old) (W.contents writer.new))) }

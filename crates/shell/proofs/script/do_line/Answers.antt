@@ -1,5 +1,5 @@
 use Rattle.std.proofs.Common.{rules}
-use Rattle.shell.proofs.Answering.{line_cut, line_ends, line_taken, then_kept}
+use Rattle.shell.proofs.Answering.{line_cut, line_ends, line_answered, then_kept}
 use Rattle.shell.proofs.script.do_line.Goals as goal
 
 pub returns-in_default-clause-err : goal.returns-in_default-clause-err
@@ -10,4 +10,4 @@ returns-then-not-see-clause-err g c = line_ends _ _ _ _ c.args.line.now _ _ _ c.
 
 pub returns-clause-ok : goal.returns-clause-ok
 returns-clause-ok g c =
-    then_kept _ _ _ _ _ _ (line_taken _ _ _ _ c.args.line.now _ _ _ c.see.ensures.goes (search rules) c.in-Ok.ensures.ok) c.run_steps.ensures
+    then_kept _ _ _ _ _ _ (line_answered _ _ _ _ c.args.line.now _ _ _ c.see.ensures.goes (search rules) c.in-Ok.ensures.ok) c.run_steps.ensures

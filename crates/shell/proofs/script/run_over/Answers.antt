@@ -1,7 +1,7 @@
 use Rattle.std.proofs.Common.{◌≡◌, ◌∙◌, [], arith, refl, rules}
 use Rattle.std.proofs.KnownBytes.{Appends-nil, Consumes-nil, Keeps-refl}
 use Rattle.textio.proofs.HeldFacts.{holds_nothing}
-use Rattle.shell.proofs.Progress.{taken_held, went_nothing}
+use Rattle.shell.proofs.Progress.{answered_held, went_nothing}
 use Rattle.shell.proofs.Reading.{cut_at_end, ends, end_fails, flush_fails, halts_at_end, piece_fails, read_fails, reads_more}
 use Rattle.shell.proofs.script.run_over.Goals as goal
 
@@ -24,7 +24,7 @@ returns-in-Ok-finish-clause-done g c =
     let n : c.in-Ok.n ≡ 0 = c.if-n-eq0.true in
     let end = c.in-Ok.ensures.end n (omega (arith, c.loop.invariant.size, c.requires.piece)) in
     let last = rw c.loop.invariant.same at c.in-Ok-finish.ensures.ok in
-    ends _ (taken_held _) _ _ _ _ _ _ _ _ _ _ _ _ c.loop.invariant.went c.in-Ok.ensures.ok (rw n refl) end c.flush.ensures (rw c.as_slice.ensures.value at last)
+    ends _ (answered_held _) _ _ _ _ _ _ _ _ _ _ _ _ c.loop.invariant.went c.in-Ok.ensures.ok (rw n refl) end c.flush.ensures (rw c.as_slice.ensures.value at last)
 
 pub returns-in-Err-finish-clause-write : goal.returns-in-Err-finish-clause-write
 returns-in-Err-finish-clause-write g c =

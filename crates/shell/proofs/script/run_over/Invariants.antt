@@ -1,7 +1,7 @@
 use Rattle.std.proofs.Common.{◌≡◌, ◌<◌, length, vec_capacity}
 use Rattle.std.specs.Io.KnownBytes.{Appends}
 use Rattle.shell.specs.Runs.{Leads, Meant}
-use Rattle.shell.specs.Script.{Taken}
+use Rattle.shell.specs.Script.{Answered}
 use Rattle.shell.proofs.Reading.{Reads}
 use Rattle.shell.proofs.script.run_over.Given as goal
 
@@ -11,6 +11,6 @@ invariant-loop g l = record {
   same : g.V.Watch.is_strict l.watch ≡ g.V.Watch.is_strict l.initial.watch;
   size : length l.piece ≡ length l.initial.piece;
   went : Leads (Meant (g.S.Session.means l.initial.session) l.initial.at) (Meant (g.S.Session.means l.session) l.at)
-      (Reads (Taken (g.V.Watch.is_strict l.initial.watch)) (g.R.Read.remaining l.initial.reader) (g.R.Read.remaining l.reader) l.line.items)
+      (Reads (Answered (g.V.Watch.is_strict l.initial.watch)) (g.R.Read.remaining l.initial.reader) (g.R.Read.remaining l.reader) l.line.items)
       (Appends (g.W.Write.contents l.initial.writer) (g.W.Write.contents l.writer));
 }
