@@ -231,13 +231,8 @@ uint8_t doorvervain_raw_wal_punch(const uint8_t *path, size_t length, uint64_t o
 uint8_t doorvervain_raw_wal_snapshot(const uint8_t *name, size_t length, uint8_t *out, size_t capacity, size_t *size);
 uint8_t doorvervain_raw_wal_drop(const uint8_t *name, size_t length, uint8_t *out, size_t capacity, size_t *size);
 uint8_t doorvervain_raw_wal_restore(const uint8_t *name, size_t length, uint8_t *out, size_t capacity, size_t *size);
-uint8_t doorvervain_raw_wal_frame(
-    uint64_t number, const uint8_t *body, size_t length, uint8_t *out, size_t capacity, size_t *size);
-uint8_t doorvervain_raw_wal_next(const uint8_t *log, size_t length, uint64_t number, size_t *size);
 uint8_t doorvervain_raw_wal_dump(const uint8_t *body, size_t length, uint8_t *out, size_t capacity, size_t *size);
 uint8_t doorvervain_raw_wal_apply(struct doorvervain *fs, const uint8_t *body, size_t length, size_t *done);
-uint8_t doorvervain_raw_wal_replay(struct doorvervain *fs, const uint8_t *log, size_t length, uint64_t number,
-    size_t *records, size_t *done, size_t *size);
 uint8_t doorvervain_raw_wal_salted_frame(const uint8_t *salt, size_t salt_length, uint64_t number, const uint8_t *body,
     size_t length, uint8_t *out, size_t capacity, size_t *size);
 uint8_t doorvervain_raw_wal_salted_next(
@@ -1054,14 +1049,15 @@ static inline uint8_t doorvervain_wal_frame(
     uint64_t number, const void *body, size_t length, void *out, size_t capacity, size_t *size) {
     uint8_t err = doorvervain_wal_bad_args(body, length, out, capacity, size);
     return err ? err
-                 : doorvervain_raw_wal_frame(number, doorvervain_in(body), length, doorvervain_out(out), capacity, size);
+                 : doorvervain_raw_wal_salted_frame(
+                       doorvervain_in(NULL), 0, number, doorvervain_in(body), length, doorvervain_out(out), capacity, size);
 }
 
 // Returns the length of the body of a log's first record, which must have the given number. Fails with ENOENT if the log does not begin
 // with such a record; if it has bytes then, its first record is truncated or corrupt.
 static inline uint8_t doorvervain_wal_next(const void *log, size_t length, uint64_t number, size_t *size) {
     uint8_t err = doorvervain_wal_bad_args(log, length, NULL, 0, size);
-    return err ? err : doorvervain_raw_wal_next(doorvervain_in(log), length, number, size);
+    return err ? err : doorvervain_raw_wal_salted_next(doorvervain_in(log), length, doorvervain_in(NULL), 0, number, size);
 }
 
 // Dumps a body as the lines of a script that makes its changes, in their order and each with its timestamp. A punch is a comment without
@@ -1095,7 +1091,9 @@ static inline uint8_t doorvervain_wal_replay(struct doorvervain *fs, const void 
     if (size) *size = 0;
     if (!records || !done || !size) return DOORVERVAIN_NULL;
     uint8_t err = doorvervain_bad_args(fs, log, length);
-    return err ? err : doorvervain_raw_wal_replay(fs, doorvervain_in(log), length, number, records, done, size);
+    return err ? err
+                 : doorvervain_raw_wal_salted_replay(
+                       fs, doorvervain_in(log), length, doorvervain_in(NULL), 0, number, records, done, size);
 }
 
 // A log of version 2 has a salt: bytes of its own, which the digest of each record includes, so that a record of another log is not valid

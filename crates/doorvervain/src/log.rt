@@ -1,28 +1,25 @@
-//! Exports of logs: the changes and records of a log take no volume, and a log is run on one. A refusal gives 0 as each other result,
+//! Exports of the entries of a log, which take no volume, and of bodies, which are run on one. A refusal gives 0 as each other result,
 //! where nothing else is said.
-ghost use Rattle.std.specs.Prelude.{◌≡◌, ◌↔◌, ◌++◌, IfErr, IfOk, [], length};
+ghost use Rattle.std.specs.Prelude.{◌≡◌, ◌↔◌, IfErr, IfOk};
 ghost use Rattle.pathkey.specs.SnapNames.{snap_parsed};
 ghost use Rattle.pathkey.specs.Texts.{parsed};
-ghost use Rattle.pathkey.specs.declared.errno.Errno.TheVariants.{ENOMEM};
-ghost use Rattle.wal.specs.Encode.{Encodes, EncodesBytes, asked, moved};
-ghost use Rattle.wal.specs.Records.{digest, front};
+ghost use Rattle.wal.specs.Encode.{Encodes, asked, moved};
 ghost use Rattle.wal.specs.declared.wal_entry.WalEntry.TheVariants as change;
 ghost use Rattle.wal.specs.declared.wal_entry.SnapshotCall.TheVariants as keeping;
 ghost use Rattle.reference.specs.declared.path_call.PathCall.TheVariants as on;
 ghost use Rattle.wal.specs.Dump.{EncodesLines};
 ghost use Rattle.wal.specs.Runs.{RunsBody};
-ghost use Rattle.doorvervain.specs.Log.{FindsRecord, ReplaysReported, stopped_of, stopped_reported};
-ghost use Rattle.doorvervain.specs.Numbers.{IsNumber, IsShort, IsSizeNumber, short, sized_by, reported, reported_by};
+ghost use Rattle.doorvervain.specs.Log.{stopped_of, stopped_reported};
+ghost use Rattle.doorvervain.specs.Numbers.{IsNumber, IsShort, IsSizeNumber, short, sized_by, reported};
 
 use crate::handle::VolumeHandle;
-use crate::numbers::{count, number, sized};
-use pathkey::Errno;
+use crate::numbers::{number, sized};
 use std::alloc::Global;
 use wal::encode::{
-    encode_frame, encode_path_call, encode_punch, encode_rename, encode_snapshot_call,
-    encode_truncate, encode_write,
+    encode_path_call, encode_punch, encode_rename, encode_snapshot_call, encode_truncate,
+    encode_write,
 };
-use wal::{PathCall, ReplayError, SnapshotCall, next_record, replay, replay_body, wal_dump_into};
+use wal::{PathCall, ReplayError, SnapshotCall, replay_body, wal_dump_into};
 
 /// The entry of a directory that is made. How many bytes it has goes to `size`; they are written where the buffer has
 /// room for all of them.
@@ -255,41 +252,6 @@ pub extern "C" fn doorvervain_raw_wal_restore(
     sized(laid, out.len(), size)
 }
 
-/// What stands round the body of a record of this number: 24 bytes before it, and 32 behind it. How many bytes these are goes to `size`;
-/// they are written where the buffer has room for all of them.
-#[unsafe(no_mangle)]
-pub extern "C" fn doorvervain_raw_wal_frame(
-    alloc: Global,
-    number: u64,
-    body: &[u8],
-    out: &mut [u8],
-    size: &mut usize,
-) -> u8
-    ensures ends { EncodesBytes (front [] number (length body.now) ++ digest [] number body.now) (sized_by result size.new) out.old out.new }
-    ensures memory { IfErr (sized_by result size.new) (λ e. e ≡ ENOMEM) }
-    ensures short { (result ≡ short) ↔ IsShort size.new out.old }
-    ensures number { IsSizeNumber result }
-    ensures refused { IfErr (sized_by result size.new) (λ _. size.new ≡ 0) }
-{
-    let laid = encode_frame(alloc, &[], number, body, out);
-    sized(laid, out.len(), size)
-}
-
-/// How many bytes the body has of the record of this number with which a log begins. They stand 24 bytes behind the log's beginning, and the
-/// next record 32 bytes behind them. ENOENT where the log begins with no such record.
-#[unsafe(no_mangle)]
-pub extern "C" fn doorvervain_raw_wal_next(log: &[u8], number: u64, size: &mut usize) -> u8
-    ensures record { FindsRecord [] number log.now (reported_by result size.new) }
-    ensures number { IsNumber result }
-    ensures refused { IfErr (reported_by result size.new) (λ _. size.new ≡ 0) }
-{
-    let found = match next_record(log, &[], number) {
-        Some((body, _)) => Ok(body.len()),
-        None => Err(Errno::ENOENT),
-    };
-    count(found, size)
-}
-
 /// The lines of a script that ask for the changes of a body. How many bytes they have goes to `size`; they are written where the buffer has
 /// room for all of them. EINVAL: the bytes are no body. EFBIG: a write reaches past 2^64. ENOMEM.
 #[unsafe(no_mangle)]
@@ -325,35 +287,6 @@ pub extern "C" fn doorvervain_raw_wal_apply(
         Ok(()) => tell(None, done),
         Err(stopped) => tell(Some(stopped), done),
     }
-}
-
-/// Does the changes of a log's records, of which the first has this number, as far as they count: `records` tells how many were done, and `size`
-/// how many bytes they take. Where a change was refused, `done` tells how many of its record were done, and else it is 0. EINVAL, with
-/// nothing done and each of these 0, where the number is so great that the log's would pass 2^64.
-#[unsafe(no_mangle)]
-pub extern "C" fn doorvervain_raw_wal_replay(
-    alloc: Global,
-    fs: &mut VolumeHandle,
-    log: &[u8],
-    number: u64,
-    records: &mut usize,
-    done: &mut usize,
-    size: &mut usize,
-) -> u8
-    ensures replayed { ReplaysReported [] number log.now result records.new done.new size.new fs.old.volume fs.new.volume }
-    ensures all { IfOk (reported result) (λ _. done.new ≡ 0) }
-    ensures number { IsNumber result }
-{
-    if number > u64::MAX - log.len() as u64 {
-        *records = 0;
-        *done = 0;
-        *size = 0;
-        return Errno::EINVAL.number();
-    }
-    let reported = replay(alloc, fs.volume(), log, &[], number);
-    *records = reported.records;
-    *size = reported.size;
-    tell(reported.stopped, done)
 }
 
 // The number of a run, and how many changes were done before the one that was refused.

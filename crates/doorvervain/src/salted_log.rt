@@ -1,4 +1,4 @@
-//! Exports of logs of version 2, whose records are keyed by the log's salt.
+//! Exports of the records of a log, which are keyed by its salt. A log of version 1 has none: the empty salt.
 ghost use Rattle.std.specs.Prelude.{◌≡◌, ◌↔◌, ◌++◌, IfErr, IfOk, length};
 ghost use Rattle.pathkey.specs.declared.errno.Errno.TheVariants.{ENOMEM};
 ghost use Rattle.wal.specs.Encode.{EncodesBytes};
