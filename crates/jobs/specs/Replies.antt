@@ -1,6 +1,7 @@
 -- What the replies of taking and installing say.
-use Rattle.std.specs.Prelude.{◌≡◌, ◌^◌, ◌⊎◌, ℕ, ◌+◌, ◌≤◌, ◌<◌, ◌&&◌, ◌==◌, Bool, false, List, [], ◌∷◌, ◌++◌, Option, length, take, ⊤}
+use Rattle.std.specs.Prelude.{◌≡◌, ◌^◌, ◌⊎◌, ℕ, ◌+◌, ◌≤◌, ◌<◌, ◌&&◌, ◌==◌, Bool, true, false, List, [], ◌∷◌, ◌++◌, Option, length, min, take, ⊤}
 use Rattle.message.specs.declared.msg.Msg.{Msg}
+use Rattle.flush.specs.Sunk.{free_pieces}
 use Rattle.node.specs.Grafts.{AtRootSlot, Grafted}
 use Rattle.node.specs.Pure.{PNode, leaf, inner, PSlots, PTree}
 use Rattle.node.specs.StepRows.{can_flush_inner, IsFullBelow}
@@ -36,6 +37,16 @@ module _ {U V : Type 0} where
   abbrev pub can_take_at : ℕ → List Mark → PNode U V → Bool
   can_take_at i ms (leaf es) = false
   can_take_at i ms (inner ss) = can_take_first ms (slots_from i ss)
+
+  -- of the slot's messages so many have room in its child, where a node may hold `most`
+  abbrev pub Movable : ℕ → ℕ → List ℕ → Option (List ℕ) → List (Msg U V) → PNode U V → Type 0
+  Movable most n lo hi msgs child = n ≡ min (length msgs) (free_pieces most child)
+
+  -- a job can be taken of the root's slot number i, and it would move at most n messages, where a node may hold `most`
+  pub record IsBacklog (i n most : ℕ) (ms : List Mark) (root : PNode U V) : Type 0 where
+    pub there : can_take_at i ms root ≡ true
+    pub some : 0 < n
+    pub waiting : AtRootSlot (Movable most n) i root
 
   -- the pieces of the slot's first message have no room below it
   abbrev pub IsSlotFull : ℕ → ℕ → PNode U V → Type 0

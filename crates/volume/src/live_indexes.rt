@@ -3,7 +3,7 @@ ghost use Rattle.std.specs.Prelude.{◌≡◌, ◌↔◌, ℕ, [], None, IfOk, I
 ghost use Rattle.call_compiler.specs.Compiled.{messages};
 ghost use Rattle.call_compiler.specs.Laws.{HaveTaken};
 ghost use Rattle.volume.specs.Changes.{StepsLive};
-ghost use Rattle.volume.specs.Jobs.{AnswersTaking, AnswersInstalling, DoneFits, mark_count};
+ghost use Rattle.volume.specs.Jobs.{AnswersTaking, AnswersInstalling, BacklogIn, DoneFits, mark_count};
 ghost use Rattle.volume.specs.Marked.{KeepMarkedLists, KeepsMarks, Stands, no_marks, without_mark};
 ghost use Rattle.volume.specs.HistoryOf.{HeaviestIn, pending_in};
 
@@ -187,7 +187,9 @@ impl LiveIndexes {
     }
 
     /// The slot of an index's root of which a job would move the most messages; none where no job would move any.
-    pub fn backlog(&self, index: Index) -> Option<Backlog> {
+    pub fn backlog(&self, index: Index) -> Option<Backlog>
+        ensures { IfSome result (λ b. BacklogIn index b self.now) }
+    {
         match index {
             Index::Meta => self.meta_marks.heaviest(&self.indexes.meta.tree),
             Index::Block => self.block_marks.heaviest(&self.indexes.block.tree),

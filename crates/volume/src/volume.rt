@@ -11,7 +11,7 @@ ghost use Rattle.volume.specs.Forks.{IsForkOf, RestoresTree};
 ghost use Rattle.volume.specs.Plants.{Plants};
 ghost use Rattle.volume.specs.Holes.{Compiles as HoleCompiles, Punches};
 ghost use Rattle.volume.specs.FsRoot.{reply_to};
-ghost use Rattle.volume.specs.Jobs.{AnswersInstalling, AnswersTaking, DoneFits};
+ghost use Rattle.volume.specs.Jobs.{AnswersInstalling, AnswersTaking, BacklogIn, DoneFits};
 ghost use Rattle.volume.specs.Marked.{KeepsMarks, no_marks, without_mark};
 ghost use Rattle.volume.specs.Volumes.{AreNames, IsNew, IsVolume, MeanRooted, MeanSome, Means, live_of, names_in};
 ghost use Rattle.volume.specs.Typed.{Asks, Compiles, IsCount, IsOfKind};
@@ -361,9 +361,11 @@ impl Volume {
         self.live.make_room(step)
     }
 
-    /// The slot of an index's root of which a job would move the most messages; none where no job would move any. It takes no
-    /// memory, and no claim rests on its choice.
-    pub fn backlog(&self, index: Index) -> Option<Backlog> {
+    /// The slot of an index's root of which a job would move the most messages; none where no job would move any. A job can be
+    /// taken of it, and as many messages as are told are pending there. It takes no memory, and no claim rests on its choice.
+    pub fn backlog(&self, index: Index) -> Option<Backlog>
+        ensures { IfSome result (λ b. BacklogIn index b (live_of self.now)) }
+    {
         self.live.backlog(index)
     }
 
