@@ -29,9 +29,13 @@ abbrev pub LacksTree : List ℕ → World → Errno → Type 0
 LacksTree [] w e = e ≡ ENOMEM
 LacksTree (b ∷ name) w e = IsNotKept (snap_parsed (b ∷ name)) w e ⊎ (e ≡ ENOMEM)
 
--- the same of one of two texts
+-- the text names a tree
+abbrev pub NamesOne : List ℕ → World → Type 0
+NamesOne name w = (t : Tree) × NamesTree name w t
+
+-- why the first of two texts names no tree; or, only if it names one, why the second names none; or memory was refused
 abbrev pub LacksOne : List ℕ → List ℕ → World → Errno → Type 0
-LacksOne old new w e = LacksTree old w e ⊎ LacksTree new w e
+LacksOne old new w e = LacksTree old w e ⊎ (NamesOne old w × LacksTree new w e)
 
 -- the text is the difference of the trees that two texts name
 abbrev pub DiffersSo : List ℕ → List ℕ → World → List ℕ → Type 0

@@ -17,8 +17,8 @@ use std::alloc::Global;
 use volume::{Frozen, Volume};
 
 /// The difference of two trees of a volume, each named as its snapshot, or the live tree by an empty text. The result is how many bytes it
-/// has; they are written where the buffer has room for all of them, and else it stays as it was. A refusal is that of the first text that
-/// names no tree, or want of memory.
+/// has; they are written where the buffer has room for all of them, and else it stays as it was. A refusal is that of the old text where it
+/// names no tree, else that of the new one, or want of memory.
 pub fn delta(
     alloc: Global,
     volume: &Volume,
