@@ -122,6 +122,24 @@ def removals_leave_few_leaves(betr: str) -> str:
     return fault(before >= FILES // 32 and after <= before // 2, f"{before} leaves, and {after} when all files are gone")
 
 
+# Lines behind which steps once found no room in trees of few slots, and how many files come then.
+NARROW = (Path(__file__).resolve().parent / "narrow_trees.script").read_text()
+MORE = 10_000
+
+
+def pending(betr: str, steps: int) -> int:
+    """How many messages the root of the metadata holds at the end, by the drawing."""
+    words = ["--fanout", "4", "--pending", "5", "--leaf", "4", "--steps", str(steps), "--dot", "/dev/stdout"]
+    made = "".join(f"create /more{i}\n" for i in range(MORE))
+    _, output, _ = ended(betr, words, (NARROW + made).encode())
+    return int(re.search(rb'^n0 \[label="\{\d+ of \d+ slots, (\d+) messages', output, re.M).group(1))
+
+
+def steps_keep_up(betr: str) -> str:
+    without, rest = pending(betr, 0), pending(betr, 100)
+    return fault(without >= MORE and rest <= 100, f"{without} messages are pending without steps, and {rest} with steps")
+
+
 # Command lines, and the status of each where neither output nor errors can be written.
 UNSAID = [([], 0), (["--image"], 1), (["/no/such/folder/script"], 1), (["--fanout", "3"], 2)]
 
@@ -145,5 +163,6 @@ def each() -> Iterator[End]:
         yield f"nothing can be written: {words} {script!r}", lambda betr, it=(words, script): is_unwritten(betr, *it)
     yield "a failed write is explained", is_explained
     yield "removals leave few leaves", removals_leave_few_leaves
+    yield "steps keep up in narrow trees", steps_keep_up
     for words, status in UNSAID:
         yield f"no error can be written: {words}", lambda betr, it=(words, status): is_unsaid(betr, *it)
