@@ -59,8 +59,8 @@ module _ {U V : Type 0} (means : U → Option V → Option V) where
       }
 
   -- a key below the end lies below the end of its slot
-  pub from_below : {items xs ys : List (Slot U V)} {hi : Option (List ℕ)} {from : List ℕ} {i : ℕ} {end : Option (List ℕ)} → xs ≡ items → ys ≡ items → i ≡ slot_number (seen_slots xs) from → is_below from hi ≡ true → end ≡ earlier_end hi (end_of None (seen_slots ys) i) → is_below from end ≡ true
-  from_below {items} {xs} {ys} {hi} {from} {i} {end} ex ey number h ee =
+  pub from_below : {items xs ys : List (Slot U V)} (hi : Option (List ℕ)) (from : List ℕ) {i : ℕ} {end : Option (List ℕ)} → xs ≡ items → ys ≡ items → i ≡ slot_number (seen_slots xs) from → is_below from hi ≡ true → end ≡ earlier_end hi (end_of None (seen_slots ys) i) → is_below from end ≡ true
+  from_below {items} {xs} {ys} hi from {i} {end} ex ey number h ee =
       let e : i ≡ slot_number (seen_slots items) from = number ∙ ap (λ (zs : List (Slot U V)). slot_number (seen_slots zs) from) ex in
       ap (is_below from) (ee ∙ ap (λ (zs : List (Slot U V)). earlier_end hi (end_of None (seen_slots zs) i)) ey) ∙ below_earlier hi (end_of None (seen_slots items) i) from h (subst (λ j. is_below from (end_of None (seen_slots items) j) ≡ true) (sym e) (number_inside (seen_slots items) from))
 

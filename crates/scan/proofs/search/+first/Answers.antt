@@ -19,7 +19,7 @@ pub first-stretches-init : goal.first-stretches-init
 first-stretches-init g t c = at_start g.U.Update.means c.args.node.now c.args.lo.now c.in_ok-from.from c.in_ok-from.ensures (reaches-refl c.args.lo.now)
 
 pub first-segment_end-requires : goal.first-segment_end-requires
-first-segment_end-requires g t c = from_below g.U.Update.means c.as_slice-in-stretches.ensures.value c.as_slice-in-stretches-2.ensures.value c.slot_of-i.ensures.number (sym c.is_before_end.ensures ∙ c.stretches-test.true) c.slot_end-end.ensures
+first-segment_end-requires g t c = from_below g.U.Update.means _ _ c.as_slice-in-stretches.ensures.value c.as_slice-in-stretches-2.ensures.value c.slot_of-i.ensures.number (sym c.is_before_end.ensures ∙ c.stretches-test.true) c.slot_end-end.ensures
 
 pub first-first_of_slot-requires : goal.first-first_of_slot-requires
 first-first_of_slot-requires g t c κs within =

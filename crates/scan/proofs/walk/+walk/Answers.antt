@@ -37,7 +37,7 @@ pub walk-returns-then-len-limit : goal.walk-returns-then-len-limit
 walk-returns-then-len-limit g t c = walk_full (value g.U.Update.means c.args.node.now) c.args.lo.now (option_copied c.args.hi) c.args.limit c.stretches.from c.args.pairs.now.items c.stretches.pairs.items c.stretches.invariant (omega (arith, c.len.ensures, c.stretches.pairs.ok.0, c.if-len-limit.true))
 
 pub walk-range_deleted_until-requires : goal.walk-range_deleted_until-requires
-walk-range_deleted_until-requires g t c = from_below g.U.Update.means c.as_slice-in-stretches.ensures.value c.as_slice-in-stretches-2.ensures.value c.slot_of-i.ensures.number (sym c.is_before_end.ensures ∙ c.stretches-test.true) c.slot_end-end.ensures
+walk-range_deleted_until-requires g t c = from_below g.U.Update.means _ _ c.as_slice-in-stretches.ensures.value c.as_slice-in-stretches-2.ensures.value c.slot_of-i.ensures.number (sym c.is_before_end.ensures ∙ c.stretches-test.true) c.slot_end-end.ensures
 
 pub walk-walk_slot-requires : goal.walk-walk_slot-requires
 walk-walk_slot-requires g t c κs live =
