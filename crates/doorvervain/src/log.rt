@@ -16,8 +16,8 @@ use crate::handle::VolumeHandle;
 use crate::numbers::{number, sized};
 use std::alloc::Global;
 use wal::encode::{
-    encode_mtime, encode_path_call, encode_punch, encode_rename, encode_snapshot_call, encode_truncate,
-    encode_write,
+    encode_mtime, encode_path_call, encode_punch, encode_rename, encode_snapshot_call,
+    encode_truncate, encode_write,
 };
 use wal::{PathCall, ReplayError, SnapshotCall, replay_body, wal_dump_into};
 

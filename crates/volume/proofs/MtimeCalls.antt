@@ -54,13 +54,16 @@ module _ (v : PVolume) (is : IsVolume v) (p : Path) (at : ℕ) (l : PLive) where
 
   module _ (r : Reply) (msgs : Messages) (made : CompilesMtime v.live.indexes p at r msgs) (arrives : Appends msgs v.live.indexes l.indexes) (lists : KeepMarkedLists msgs (live_of v) l) (marks : l.marks ≡ v.marks) (kept : KeepsMarks (live_of v) l) where
     sets : (w : World) → Means v w → Sets p at r (after r) w
-    sets w m = (made.reply w.live m.live.indexes, record {
-      live = record {
-        indexes = meant_after (mtime_set at w.live p).0 v.live.indexes l.indexes msgs (made.tree w.live m.live.indexes) arrives.taken;
-        root = root_after p at v.live.modified r w.live (made.reply w.live m.live.indexes) m.live.root;
-      };
-      snapshots = m.snapshots;
-    })
+    sets w m = (
+      made.reply w.live m.live.indexes,
+      record {
+        live = record {
+          indexes = meant_after (mtime_set at w.live p).0 v.live.indexes l.indexes msgs (made.tree w.live m.live.indexes) arrives.taken;
+          root = root_after p at v.live.modified r w.live (made.reply w.live m.live.indexes) m.live.root;
+        };
+        snapshots = m.snapshots;
+      },
+    )
 
     -- a fault changes nothing
     same : (e : Errno) → r ≡ Fault e → after r ≡ v

@@ -40,14 +40,16 @@ unfolding Answers
 answers_from c event a old new is h = λ w m.
     let both = h w m in
     let e = event w in
-    subst (λ (x : Asked). FitsAsked w x a × (fault_of a ≡ None → (fault_of (outcome_of w x).1 ≡ None) × Means new (outcome_of w x).0)) (sym (is w))
-    (both.0, λ good. (
-      ⊎_elim
-          (λ (f : a ≡ (outcome w e).1). ap fault_of (sym f) ∙ good)
-          (λ (l : MayLack w e a). absurd (let report = lack_reported w e a l in cc))
-          both.0,
-      subst (λ (t : Bool). Means new (cond t w (outcome w e).0)) (no_lack a good) both.1,
-    ))
+    subst (λ (x : Asked). FitsAsked w x a × (fault_of a ≡ None → (fault_of (outcome_of w x).1 ≡ None) × Means new (outcome_of w x).0)) (sym (is w)) (
+      both.0,
+      λ good. (
+        ⊎_elim
+            (λ (f : a ≡ (outcome w e).1). ap fault_of (sym f) ∙ good)
+            (λ (l : MayLack w e a). absurd (let report = lack_reported w e a l in cc))
+            both.0,
+        subst (λ (t : Bool). Means new (cond t w (outcome w e).0)) (no_lack a good) both.1,
+      ),
+    )
 
 -- of an mtime that is set
 mtime_answers : (p : Path) (at : ℕ) (r : Reply) (old new : PVolume) → SetsMtime p at r old new → Answers (SetMtime p at) (Replied r) old new

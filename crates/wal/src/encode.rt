@@ -120,12 +120,7 @@ pub fn encode_punch(
 }
 
 /// An mtime that is set.
-pub fn encode_mtime(
-    alloc: Global,
-    path: &[u8],
-    at: u64,
-    out: &mut [u8],
-) -> Result<usize, Errno>
+pub fn encode_mtime(alloc: Global, path: &[u8], at: u64, out: &mut [u8]) -> Result<usize, Errno>
     ensures { Encodes (asked (λ p. WalEntry.SetMtime p at) (parsed path.now)) result out.old out.new }
 {
     check_path(alloc, path)?;

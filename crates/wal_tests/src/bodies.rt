@@ -4,8 +4,8 @@ use pathkey::Errno;
 use std::alloc::Global;
 use std::test::Fail;
 use wal::encode::{
-    encode_mtime, encode_path_call, encode_punch, encode_rename, encode_snapshot_call, encode_truncate,
-    encode_write,
+    encode_mtime, encode_path_call, encode_punch, encode_rename, encode_snapshot_call,
+    encode_truncate, encode_write,
 };
 use wal::{PathCall, SnapshotCall, WalEntry, decode_entries};
 

@@ -54,12 +54,7 @@ fn busiest_slot<U: Update>(marks: &[Mark], slots: &[Slot<U>], room: u16) -> Opti
 }
 
 /// What a job of the slot with this number would move; none where no job can be taken of it, or its child has no room.
-fn backlog_at<U: Update>(
-    marks: &[Mark],
-    slots: &[Slot<U>],
-    room: u16,
-    slot: u8,
-) -> Option<Backlog>
+fn backlog_at<U: Update>(marks: &[Mark], slots: &[Slot<U>], room: u16, slot: u8) -> Option<Backlog>
     ensures slot { IfSome result (λ b. IsBacklog b.slot b.messages room marks.now (inner (seen_slots slots.now))) }
     ensures room { IfSome result (λ b. b.room ≡ room) }
 {
