@@ -1,8 +1,8 @@
-//! Each file call by a name and an answer of its own: a refusal is an `Err`, so that `?` serves.
+//! Each file call as a method with a result of its own type; a call that fails returns an `Err`, for use with `?`.
 //!
-//! Each has the contract of `Volume::call`, and no path is copied on its way. One that changes something is asked at a moment,
-//! and one that only looks has its answer at every moment. A volume and a frozen tree are asked alike; on a
-//! frozen tree the names begin with `try_`, since `read`, `stat` and `readdir` give the replies themselves there.
+//! Each has the contract of `Volume::call`, and copies no path. A call that changes something has a timestamp; the result of one
+//! that only reads is the same at every timestamp. A volume and a frozen tree have the same methods; on a frozen tree their names
+//! begin with `try_`, since `read`, `stat` and `readdir` return replies there.
 ghost use Rattle.std.specs.Prelude.{◌≡◌, ℕ};
 ghost use Rattle.reference.specs.PathCalls.{call_at};
 ghost use Rattle.reference.specs.Pairs.{pairs_of};
@@ -21,7 +21,7 @@ use reference::{Kind, PathCall};
 use std::alloc::Global;
 
 impl Volume {
-    /// Makes an empty directory (POSIX.1-2017, mkdir).
+    /// Creates an empty directory (POSIX.1-2017, mkdir).
     pub fn mkdir(&mut self, alloc: Global, path: &Path, at: u64) -> Result<(), Errno>
         ensures { Called (Call.Mkdir path.now) at (replied (λ _. Reply.Done) result) self.old self.new }
     {
@@ -29,7 +29,7 @@ impl Volume {
         done_or_errno(self.send(alloc, compiled, at, is_root_child(path)))
     }
 
-    /// Makes an empty file, where none stands (open with O_CREAT and O_EXCL, without a descriptor).
+    /// Creates an empty file (open with O_CREAT and O_EXCL, without a descriptor).
     pub fn create(&mut self, alloc: Global, path: &Path, at: u64) -> Result<(), Errno>
         ensures { Called (Call.Create path.now) at (replied (λ _. Reply.Done) result) self.old self.new }
     {
@@ -37,7 +37,7 @@ impl Volume {
         done_or_errno(self.send(alloc, compiled, at, is_root_child(path)))
     }
 
-    /// Lays the bytes over a file from the offset on, all of them or none (pwrite): how many they are.
+    /// Writes bytes to a file at the offset, all of them or none (pwrite). Returns how many they are.
     pub fn write(
         &mut self,
         alloc: Global,
@@ -54,7 +54,7 @@ impl Volume {
         }
     }
 
-    /// Lays shared bytes over a file from the offset on, as `write` does: none of them is copied.
+    /// Writes shared bytes to a file at the offset, as `write` does, without copying them.
     pub fn write_shared(
         &mut self,
         alloc: Global,
@@ -69,7 +69,7 @@ impl Volume {
         counted(self.send(alloc, compiled, at, false))
     }
 
-    /// Cuts a file to so many bytes, or lengthens it to them by zeros (truncate).
+    /// Truncates a file to `length` bytes, or extends it to them with zeros (truncate).
     pub fn truncate(
         &mut self,
         alloc: Global,
@@ -83,7 +83,7 @@ impl Volume {
         done_or_errno(self.send(alloc, compiled, at, false))
     }
 
-    /// Takes a file out (unlink).
+    /// Removes a file (unlink).
     pub fn unlink(&mut self, alloc: Global, path: &Path, at: u64) -> Result<(), Errno>
         ensures { Called (Call.Unlink path.now) at (replied (λ _. Reply.Done) result) self.old self.new }
     {
@@ -91,7 +91,7 @@ impl Volume {
         done_or_errno(self.send(alloc, compiled, at, is_root_child(path)))
     }
 
-    /// Takes an empty directory out (rmdir).
+    /// Removes an empty directory (rmdir).
     pub fn rmdir(&mut self, alloc: Global, path: &Path, at: u64) -> Result<(), Errno>
         ensures { Called (Call.Rmdir path.now) at (replied (λ _. Reply.Done) result) self.old self.new }
     {
@@ -99,7 +99,7 @@ impl Volume {
         done_or_errno(self.send(alloc, compiled, at, is_root_child(path)))
     }
 
-    /// Moves what stands at the first path to the second (rename).
+    /// Renames a file, or a directory with everything below it (rename).
     pub fn rename(&mut self, alloc: Global, old: &Path, new: &Path, at: u64) -> Result<(), Errno>
         ensures { Called (Call.Rename old.now new.now) at (replied (λ _. Reply.Done) result) self.old self.new }
     {
@@ -107,7 +107,7 @@ impl Volume {
         done_or_errno(self.send(alloc, compiled, at, renames_root_child(old, new)))
     }
 
-    /// Takes a file out, or a directory with all below it.
+    /// Removes a file, or a directory with everything below it.
     pub fn rmtree(&mut self, alloc: Global, path: &Path, at: u64) -> Result<(), Errno>
         ensures { Called (Call.Rmtree path.now) at (replied (λ _. Reply.Done) result) self.old self.new }
     {
@@ -115,7 +115,7 @@ impl Volume {
         done_or_errno(self.send(alloc, compiled, at, is_root_child(path)))
     }
 
-    /// Makes or removes what is at a path, by the call that is chosen as the program runs.
+    /// Creates or removes the entry at a path, by a call that is chosen at run time.
     pub fn path_call(
         &mut self,
         alloc: Global,
@@ -134,7 +134,7 @@ impl Volume {
         }
     }
 
-    /// The bytes of a file from the offset on, at most `count` and none past its end (pread).
+    /// Reads at most `count` bytes of a file from the offset on, none past its end (pread).
     pub fn read(
         &self,
         alloc: Global,
@@ -148,7 +148,7 @@ impl Volume {
         data(self.look(compiled))
     }
 
-    /// What stands at a path, a file's length in bytes (0 for a directory), and the moment of last change (stat).
+    /// The kind of the entry at a path, a file's length in bytes (0 for a directory), and the mtime (stat).
     pub fn stat(&self, alloc: Global, path: &Path) -> Result<(Kind, u64, u64), Errno>
         ensures { (at : ℕ) → Called (Call.Stat path.now) at (replied (λ s. Reply.Stat s.0 s.1 s.2) result) self.now self.now }
     {

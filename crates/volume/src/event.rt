@@ -1,4 +1,4 @@
-//! What is asked of a volume, and what it answers.
+//! The events of a run of a volume, and their answers.
 
 use call_compiler::{Call, Reply};
 use jobs::Ticket;
@@ -8,7 +8,7 @@ use pathkey::{Errno, SnapName};
 /// One of the indexes.
 #[derive(Clone, Copy, Debug, PartialEq, Eq)]
 pub enum Index {
-    /// What stands at each path.
+    /// The metadata of each path.
     Meta,
     /// The bytes of each file.
     Block,
@@ -50,26 +50,26 @@ pub struct CompactStep {
     pub reply: StepReply,
 }
 
-/// What is asked of a volume.
+/// An event of a run.
 #[derive(Drop)]
 pub enum Event {
-    /// A file call at a moment.
+    /// A file call with its timestamp.
     Call(Call, u64),
-    /// The live tree is to be kept under the name.
+    /// Takes a snapshot of the live tree under the name.
     Snapshot(SnapName),
-    /// The snapshot of that name is to go.
+    /// Removes the snapshot of that name.
     DropSnapshot(SnapName),
-    /// The live tree is to become that of the snapshot.
+    /// Restores the snapshot of that name: the live tree becomes its tree.
     Restore(SnapName),
-    /// A tree step is to be tried.
+    /// Tries a tree step.
     Step(Step),
-    /// A job of the slot with this number of the index's root is to be taken, and held.
+    /// Takes a job of the slot with this number of the index's root, and holds it.
     Take(Index, u8),
-    /// The job with the ticket that the run holds is to be built and installed.
+    /// Builds and installs the job with the ticket, which the run holds.
     Finish(Ticket),
 }
 
-/// What a volume answers.
+/// The answer to an event.
 #[derive(Drop)]
 pub enum Answer {
     /// To a file call.
@@ -89,23 +89,23 @@ pub enum Answer {
 pub enum TakeAnswer {
     /// The job with this ticket was taken, and the run holds it.
     Taken(Ticket),
-    /// There is no such slot, its child is a leaf, nothing waits there, or it has a mark.
+    /// There is no such slot, its child is a leaf, no message is pending there, or it has a mark.
     NotThere,
-    /// The pieces of the first message have no room in the child, 64 marks stand, or no ticket is left.
+    /// The child has no room for the pieces of the first message, there are 64 marks, or no ticket is left.
     NoRoom,
-    /// Memory was refused.
+    /// An allocation failed.
     NoMemory,
 }
 
 /// What a run answers to a finishing.
 #[derive(Clone, Copy, Debug, PartialEq, Eq)]
 pub enum FinishAnswer {
-    /// What was built of the job stands in the volume.
+    /// What was built of the job is installed in the volume.
     Installed,
-    /// The mark of the job is gone, and so is the job.
+    /// The mark of the job was removed, and the job is dropped.
     Stale,
     /// The run holds no job with the ticket.
     NotThere,
-    /// Memory was refused: the run holds the job still, and it can be finished again.
+    /// An allocation failed: the run still holds the job, and it can be finished again.
     NoMemory,
 }

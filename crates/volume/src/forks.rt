@@ -9,8 +9,8 @@ use pathkey::NoMemory;
 use std::alloc::Global;
 
 impl Frozen {
-    /// A volume of its own with this tree, in constant time: it has the tree's shape, and no snapshots, marks or jobs. Later changes of
-    /// it do not touch this tree. It fails only where a further owner of the nodes is refused.
+    /// An independent volume with this tree and its shape, in constant time, without snapshots, marks or jobs. Later changes of
+    /// the volume do not affect this tree. It fails only if a node already has 2^64 - 1 references.
     pub fn fork(&self, alloc: Global) -> Result<Volume, NoMemory>
         ensures { IfOk result (IsForkOf self.now) }
     {

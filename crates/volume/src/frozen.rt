@@ -1,4 +1,4 @@
-//! The tree of a volume as it stood at one moment.
+//! The tree of a volume at one point in time.
 ghost use Rattle.std.specs.Prelude.{◌≡◌, IfOk, []};
 ghost use Rattle.volume.specs.HistoryOf.{Tells};
 ghost use Rattle.volume.specs.Volumes.{MeanSome};
@@ -11,7 +11,7 @@ use reference::Kind;
 use std::alloc::Global;
 use std::marker::Model;
 
-/// A tree that stands still: later changes of the volume do not touch it. Contracts see its indexes with the moment of its root.
+/// A tree that does not change: later changes of the volume do not affect it. Contracts see its indexes with the mtime of its root.
 pub struct Frozen {
     rooted: FsRoot,
 }
@@ -47,28 +47,28 @@ impl Frozen {
         Frozen { rooted }
     }
 
-    /// What its type keeps: it means a directory tree. It does nothing.
+    /// The invariant of the type: it means a directory tree. The call does nothing.
     pub fn assert_invariant(&self)
         ensures { MeanSome self.now }
     {
         let _ = &self.rooted;
     }
 
-    /// Its indexes, to go through all of the tree.
+    /// Its indexes, for iterating over the whole tree.
     pub fn indexes(&self) -> &Indexes
         ensures { result.now ≡ self.now.indexes }
     {
         &self.rooted.indexes
     }
 
-    /// The moment of its root. It takes no memory.
+    /// The mtime of its root. It allocates nothing.
     pub fn modified(&self) -> u64
         ensures { result ≡ self.now.modified }
     {
         self.rooted.modified
     }
 
-    /// At most `count` bytes of the file at the path from the offset on, none past its end (POSIX.1-2017, pread).
+    /// Reads at most `count` bytes of the file at the path from the offset on, none past its end (POSIX.1-2017, pread).
     pub fn read(&self, alloc: Global, path: &Path, offset: u64, count: u64) -> Reply
         ensures { Tells (Call.Read path.now offset count) result self.now }
     {
@@ -78,7 +78,7 @@ impl Frozen {
         }
     }
 
-    /// What stands at the path (stat). It takes no memory at the root.
+    /// The metadata of the entry at the path (stat). At the root it allocates nothing.
     pub fn stat(&self, alloc: Global, path: &Path) -> Reply
         ensures reply { Tells (Call.Stat path.now) result self.now }
         ensures root { path.now ≡ [] → result ≡ Reply.Stat Kind.Dir 0 self.now.modified }

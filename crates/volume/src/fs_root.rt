@@ -1,4 +1,4 @@
-//! Indexes, and beside them the moment of the root of the tree that they mean: so it is told without a look-up.
+//! Indexes, and the mtime of the root of the tree that they mean, which needs no look-up.
 ghost use Rattle.std.specs.Prelude.{◌≡◌, IfOk};
 ghost use Rattle.pathkey.specs.Names.{is_root};
 ghost use Rattle.reference.specs.Calls.{is_done};
@@ -10,18 +10,18 @@ use call_compiler::{Indexes, Reply};
 use pathkey::{Errno, NoMemory, Path};
 use reference::Meta;
 
-/// Indexes, and the moment of the root of the tree that they mean.
+/// Indexes, and the mtime of the root of the tree that they mean.
 #[derive(Drop)]
 pub struct FsRoot {
     /// The indexes.
     pub indexes: Indexes,
-    /// The moment of last change of the root.
+    /// The mtime of the root.
     pub modified: u64,
 }
 
 impl FsRoot {
-    /// These indexes and the moment, as one more owner of both trees. It fails only where a further owner
-    /// of their nodes is refused.
+    /// These indexes and the mtime, as another reference to both trees. It fails only if a node already has 2^64 - 1
+    /// references.
     pub fn share(&self) -> Result<FsRoot, NoMemory>
         ensures { IfOk result (λ r. r ≡ self.now) }
     {

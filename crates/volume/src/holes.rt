@@ -1,4 +1,4 @@
-//! Holes: what of a file is stored, and bytes of a file that become zeros.
+//! Holes: which bytes of a file are stored, and bytes that become zeros.
 ghost use Rattle.std.specs.Prelude.{◌≡◌, ◌≢◌, ◌≤◌, ◌<◌, ◌^◌, ℕ, List, [], IfOk, IsSome, None, length, true, false};
 ghost use Rattle.block_index.specs.Means.{blocks};
 ghost use Rattle.call_compiler.specs.Compiled.{MeanTree};
@@ -20,10 +20,10 @@ use pathkey::{Errno, NoMemory, Path};
 use std::alloc::Global;
 
 impl Volume {
-    /// The next run of stored bytes of a file at or behind the offset: its bytes from the first number up to and without the
-    /// second, within the file. Both are the file's length where there is none. Each byte from the offset to the run is zero.
+    /// Returns the next extent of stored bytes of a file at or after the offset, as the offsets where it begins and ends,
+    /// within the file. If there is none, both are the file's length. Each byte from the offset to the extent is zero.
     ///
-    /// ENOENT, ENOTDIR and EISDIR as `read`, ENOMEM where memory is refused. It costs one walk of the run's blocks.
+    /// ENOENT, ENOTDIR and EISDIR as `read`; ENOMEM if an allocation fails. It walks the blocks of the extent once.
     pub fn next_extent(&self, alloc: Global, path: &Path, offset: u64) -> Result<(u64, u64), Errno>
         ensures { RunsIn self.now.live.indexes path.now offset result }
     {
@@ -33,11 +33,11 @@ impl Volume {
 }
 
 impl Volume {
-    /// Makes zeros of `count` bytes of a file from the offset on, as far as the file reaches: how many they are. It does what a
-    /// `write` of as many zeros does, gives back the blocks that lie whole among them, and takes no memory for them. Where none lies
-    /// within the file nothing changes, so it is never refused for a file's size.
+    /// Sets `count` bytes of a file from the offset on to zero, up to the file's end, and returns how many they are. The tree
+    /// is the same as after a `write` of as many zeros. Blocks that lie whole in the range are no longer stored, and none is
+    /// allocated for them. If no byte is within the file, nothing changes; no size is too large.
     ///
-    /// ENOENT, ENOTDIR and EISDIR as `write`, ENOMEM where memory is refused. It sends at most four messages, however many bytes
+    /// ENOENT, ENOTDIR and EISDIR as `write`; ENOMEM if an allocation fails. It sends at most four messages, however many bytes
     /// become zeros.
     pub fn punch(
         &mut self,
@@ -55,7 +55,7 @@ impl Volume {
 }
 
 impl Frozen {
-    /// The next run of stored bytes of a file, as `Volume::next_extent` tells it.
+    /// The next extent of stored bytes of a file, as `Volume::next_extent` returns it.
     pub fn next_extent(&self, alloc: Global, path: &Path, offset: u64) -> Result<(u64, u64), Errno>
         ensures { RunsIn self.now.indexes path.now offset result }
     {

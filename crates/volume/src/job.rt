@@ -1,4 +1,4 @@
-//! Jobs of a volume, what is built of them, and what taking and installing are answered.
+//! Jobs of a volume, what is built of them, and the replies of taking and installing one.
 ghost use Rattle.std.specs.Prelude.{◌≡◌, IfOk, IfErr, IfSome};
 ghost use Rattle.volume.specs.Jobs.{ticket_of, done_ticket, Builds, IsChildOf};
 
@@ -46,7 +46,7 @@ impl Drop for Subtree {
     }
 }
 
-/// A job: the oldest messages of a slot of a live index's root, and a share of the slot's child.
+/// A job: the oldest messages of a slot of a live index's root, and a reference to the slot's child.
 #[derive(Drop)]
 pub enum Job {
     /// Of the metadata.
@@ -56,17 +56,17 @@ pub enum Job {
 }
 
 impl Job {
-    /// The job's ticket. It takes no memory.
+    /// The job's ticket. It allocates nothing.
     pub fn ticket(&self) -> Ticket
         ensures { result.number ≡ ticket_of self.now }
     {
         of_either!(self, Job, job => job.ticket())
     }
 
-    /// One more owner of the job's child; none where no further owner can be counted. It takes no memory.
+    /// Another reference to the job's child; `None` if it already has 2^64 - 1. It allocates nothing.
     ///
-    /// Who lets go of the child last frees what the built subtree does not share. Who keeps this owner until the job is
-    /// installed can so do that without the lock.
+    /// Whoever drops the child last frees what the built subtree does not share. A caller that keeps this reference until the
+    /// job is installed can do that without the lock.
     pub fn subtree(&self) -> Option<Subtree>
         ensures { IfSome result (λ s. IsChildOf self.now s) }
     {
@@ -76,10 +76,10 @@ impl Job {
         }
     }
 
-    /// Builds the job: a subtree with the job's messages in it, which sink as far as there is room. Where memory is refused
-    /// the job comes back as it was.
+    /// Builds the job: a subtree that includes the job's messages, flushed down as far as there is room. If an allocation
+    /// fails, the job is returned as it was.
     ///
-    /// It needs no volume and no lock, so it can go on in another thread while the volume changes.
+    /// It needs no volume and no lock, so another thread can do it while the volume changes.
     pub fn build(self, alloc: Global) -> Result<Done, Job>
         ensures ok { IfOk result (λ d. Builds self d) }
         ensures err { IfErr result (λ job. job ≡ self) }
@@ -91,7 +91,7 @@ impl Job {
     }
 }
 
-/// A subtree that has the messages of a job in it.
+/// A subtree that includes the messages of a job.
 #[derive(Drop)]
 pub enum Done {
     /// Of the metadata.
@@ -101,7 +101,7 @@ pub enum Done {
 }
 
 impl Done {
-    /// The ticket of the job of which it was built. It takes no memory.
+    /// The ticket of the job of which it was built. It allocates nothing.
     pub fn ticket(&self) -> Ticket
         ensures { result.number ≡ done_ticket self.now }
     {
@@ -112,23 +112,23 @@ impl Done {
 /// The reply of taking a job. Every reply but `Taken` leaves the volume as it was.
 #[derive(Drop)]
 pub enum TakeReply {
-    /// The job, and its mark stands.
+    /// The job was taken, and its slot is marked.
     Taken(Job),
-    /// There is no such slot, its child is a leaf, nothing waits there, or it has a mark.
+    /// There is no such slot, its child is a leaf, no message is pending there, or it has a mark.
     NotThere,
-    /// The pieces of the first message have no room in the child, 64 marks stand, or no ticket is left.
+    /// The child has no room for the pieces of the first message, there are 64 marks, or no ticket is left.
     NoRoom,
-    /// Memory was refused.
+    /// An allocation failed.
     NoMemory,
 }
 
 /// The reply of installing. Every reply but `Installed` leaves the volume as it was.
 #[derive(Drop)]
 pub enum InstallReply {
-    /// The subtree stands in the child's place.
+    /// The subtree has replaced the child.
     Installed,
-    /// The mark is gone.
+    /// The mark was removed before.
     Stale,
-    /// Memory was refused: the value comes back, and the mark stays.
+    /// An allocation failed: the value is returned, and the mark stays.
     NoMemory(Done),
 }

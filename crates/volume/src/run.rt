@@ -131,11 +131,11 @@ impl Volume {
         }
     }
 
-    /// Does the events in their order. It fails only where there is no memory for the answers and the jobs, and then has done
+    /// Does the events in their order. It fails only if there is no memory for the answers and the jobs, and has then done
     /// none. A job that is taken is held until it is finished; the jobs that are left at the end are cancelled.
     ///
-    /// Whatever calls, steps and jobs there are between one another: the answers are those that the calls alone, in their order,
-    /// have from the world that the volume meant, and the volume means the world that they leave.
+    /// Whatever steps and jobs come between the calls, the answers are those that the calls alone, in their order, have from
+    /// the world that the volume meant, and the volume means the world that they leave.
     pub fn run(&mut self, alloc: Global, events: &[Event]) -> Result<Vec<Answer>, NoMemory>
         ensures ran { IfOk result (λ answers. Ran events.now answers.items self.old self.new) }
         ensures err { OnErr result (self.new ≡ self.old) }

@@ -1,4 +1,4 @@
-//! A volume, and what is asked of it.
+//! A volume and its calls.
 ghost use Rattle.std.specs.Prelude.{◌≡◌, ◌⊎◌, ◌↔◌, ℕ, false, MatchResult, IfOk, IfNone, IfSome, None, Some, slice_get};
 ghost use Rattle.node.specs.Shapes.{is_shape};
 ghost use Rattle.pathkey.specs.Names.{Path as Names};
@@ -34,7 +34,7 @@ use reference::Meta;
 use std::alloc::Global;
 use std::marker::Model;
 
-/// The live indexes of a file system with the moment of the root, and those of its named snapshots.
+/// The live indexes of a file system with the mtime of the root, and those of its named snapshots.
 pub struct Volume {
     live: LiveIndexes,
     modified: u64,
@@ -65,7 +65,7 @@ impl Model for Volume {
     ghost invariant = { λ v. IsVolume (record { live = record { indexes = v.live.indexes; modified = v.modified }; snapshots = v.snapshots; marks = v.live.marks }) };
 }
 
-/// The reply of a call whose messages were to be appended; ENOMEM where memory was refused.
+/// The reply of a call whose messages were to be appended; ENOMEM if an allocation failed.
 fn reply_to(appended: Result<(), NoMemory>, reply: Reply) -> Reply
     ensures { result ≡ reply_to appended reply }
 {
@@ -76,8 +76,8 @@ fn reply_to(appended: Result<(), NoMemory>, reply: Reply) -> Reply
 }
 
 impl Volume {
-    /// The empty root directory of moment 0, without snapshots, in new trees of this shape. EINVAL where the shape is not ok
-    /// (`Shape::ok`), ENOMEM where memory is refused.
+    /// An empty root directory of mtime 0, without snapshots, in new trees of this shape. EINVAL if the shape is not valid
+    /// (`Shape::ok`), ENOMEM if an allocation fails.
     pub fn new(alloc: Global, shape: Shape) -> Result<Volume, Errno>
         ensures new { MatchResult result (IsNew shape) (λ e. (e ≡ Errno.EINVAL) ⊎ (e ≡ Errno.ENOMEM)) }
         ensures shape { (result ≡ Err Errno.EINVAL) ↔ (is_shape shape ≡ false) }
@@ -95,11 +95,11 @@ impl Volume {
         })
     }
 
-    /// Does a file call at a moment: what is new, a file whose bytes are set, and each directory that gets or loses an entry then has
-    /// that moment. Moments need not rise. A refusal changes nothing; ENOMEM comes only where memory is refused.
+    /// Does a file call with a timestamp, which becomes the mtime of a new entry, of a file whose bytes are set, and of each
+    /// directory that gets or loses an entry. Timestamps need not increase. A call that fails changes nothing; ENOMEM is
+    /// returned only if an allocation fails.
     ///
-    /// Whatever lies in the trees, a call only puts messages into their roots: steps bring them down (Jannen et al., FAST
-    /// 2015).
+    /// Whatever is in the trees, a call only appends messages to their roots: steps flush them down (Jannen et al., FAST 2015).
     pub fn call(&mut self, alloc: Global, call: &Call, at: u64) -> Reply
         ensures { Called call.now at result self.old self.new }
     {
@@ -163,16 +163,17 @@ impl Volume {
         let Ok((reply, batch)) = compiled else {
             return Reply::Fault(Errno::ENOMEM);
         };
-        let appended = self.live.append(alloc, batch);
+        let sent = self.live.append(alloc, batch);
         self.live.assert_invariant();
-        let reply = reply_to(appended, reply);
+        let reply = reply_to(sent, reply);
         self.modified = after_call(&reply, is_root, at, self.modified);
         reply
     }
 
-    /// Plants an entry with its moment, as an image that is loaded tells it: an empty directory, or a file of so many zeros. A directory
-    /// at the root gives the root its moment, and the root keeps what it holds. EEXIST for a file at the root, ENOENT or ENOTDIR where
-    /// the parent is no directory, EEXIST where something stands at the path, EFBIG where the file would be longer than 2^40 bytes, ENOMEM where memory is refused. A refusal changes nothing.
+    /// Creates an entry with its mtime, as the loader of an image does: an empty directory, or a file of as many zeros. A
+    /// directory at the root sets the mtime of the root, which keeps its entries. EEXIST for a file at the root, ENOENT or
+    /// ENOTDIR if the parent is no directory, EEXIST if the path exists, EFBIG if the file would have more than 2^40 bytes,
+    /// ENOMEM if an allocation fails. If it fails, nothing changes.
     pub fn plant_entry(&mut self, alloc: Global, path: &Path, meta: Meta) -> Result<(), Errno>
         ensures { Plants path.now meta result self.old self.new }
     {
@@ -182,8 +183,9 @@ impl Volume {
         answer
     }
 
-    /// Keeps the live tree under the name, by one more owner of its nodes: no node is copied (Rodeh, ACM Transactions on
-    /// Storage 2008). EEXIST where the name is taken, ENOSPC where there are 64 snapshots, ENOMEM where memory is refused.
+    /// Takes a snapshot of the live tree under the name, by a reference to its root nodes: no node is copied (Rodeh, ACM
+    /// Transactions on Storage 2008). EEXIST if the name is taken, ENOSPC if there are 64 snapshots, ENOMEM if an allocation
+    /// fails.
     pub fn snapshot(&mut self, alloc: Global, name: &SnapName) -> Result<(), Errno>
         ensures { Settles (TakeSnapshot name.now) (KeptAs name.now) result self.old self.new }
     {
@@ -198,7 +200,7 @@ impl Volume {
         Ok(())
     }
 
-    /// Removes the snapshot of that name; ENOENT where there is none. It takes no memory.
+    /// Removes the snapshot of that name; ENOENT if there is none. It allocates nothing.
     pub fn drop_snapshot(&mut self, name: &SnapName) -> Result<(), Errno>
         ensures { Settles (DropSnapshot name.now) (Dropped name.now) result self.old self.new }
     {
@@ -209,8 +211,8 @@ impl Volume {
         Ok(())
     }
 
-    /// The live tree becomes that of the snapshot, which stays. ENOENT where there is none of that name, ENOMEM where a
-    /// further owner of its nodes is refused.
+    /// Restores a snapshot: the live tree becomes that of the snapshot, which stays. ENOENT if there is none of that name,
+    /// ENOMEM if a node already has 2^64 - 1 references.
     pub fn restore(&mut self, name: &SnapName) -> Result<(), Errno>
         ensures { Settles (RestoreSnapshot name.now) (Restored name.now) result self.old self.new }
     {
@@ -225,9 +227,9 @@ impl Volume {
         Ok(())
     }
 
-    /// The live tree becomes a frozen one, also of another volume, whose shape the live trees then have: as `restore` of a snapshot
-    /// with that tree. All marks go, and no ticket is given again; snapshots stay. It fails only where a further owner of the tree's
-    /// nodes is refused, and changes nothing then.
+    /// Restores a frozen tree, also of another volume, as `restore` does with a snapshot of that tree; the live trees then have
+    /// its shape. All marks are removed, no ticket is given again, and snapshots stay. It fails only if a node already has 2^64
+    /// - 1 references, and changes nothing then.
     pub fn restore_frozen(&mut self, tree: &Frozen) -> Result<(), NoMemory>
         ensures { RestoresTree tree.now result self.old self.new }
     {
@@ -239,8 +241,8 @@ impl Volume {
         Ok(())
     }
 
-    /// Tries a tree step in the live index that it names. Whatever it replies, the volume means what it meant; all replies
-    /// but `Did` leave it as it was.
+    /// Tries a tree step in the live index that it names. Whatever the reply, the volume means what it meant; every reply but
+    /// `Did` leaves it unchanged.
     pub fn step(&mut self, alloc: Global, step: Step) -> StepReply
         ensures { Stepped step result self.old self.new }
     {
@@ -249,15 +251,15 @@ impl Volume {
         reply
     }
 
-    /// What its type keeps: a volume means a world, has at most 64 snapshots, its live trees are lawful, and it has at most 64
-    /// marks, each of a slot of its own in a live root. It does nothing.
+    /// The invariant of the type: a volume means a world, has at most 64 snapshots, its live trees are lawful, and it has at
+    /// most 64 marks, each of a slot of its own in a live root. The call does nothing.
     pub fn assert_invariant(&self)
         ensures { IsVolume self.now }
     {
         let _ = &self.live;
     }
 
-    /// The live tree as it stands. It fails only where a further owner of its nodes is refused.
+    /// The live tree as it is now. It fails only if a node already has 2^64 - 1 references.
     pub fn freeze(&self) -> Result<Frozen, NoMemory>
         ensures same { IfOk result (λ f. f ≡ self.now.live) }
         ensures means { IfOk result (λ f. (w : World) → Means self.now w → MeanRooted f w.live) }
@@ -266,8 +268,7 @@ impl Volume {
         Ok(Frozen::new(rooted))
     }
 
-    /// The tree of the snapshot of that name; ENOENT where there is none, ENOMEM where a further owner of its nodes is
-    /// refused.
+    /// The tree of the snapshot of that name; ENOENT if there is none, ENOMEM if a node already has 2^64 - 1 references.
     pub fn frozen(&self, name: &SnapName) -> Result<Frozen, Errno>
         ensures same { IfOk result (λ f. finite.get self.now.snapshots name.now ≡ Some f) }
         ensures means { (w : World) → Means self.now w → Finds name.now result w }
@@ -278,8 +279,8 @@ impl Volume {
         Ok(Frozen::new(snapshot_root.share()?))
     }
 
-    /// A volume of its own with the live tree as it stands, in constant time: it has this volume's shape, and no snapshots, marks or
-    /// jobs. Later changes of either do not touch the other. It fails only where a further owner of the nodes is refused.
+    /// An independent volume with the live tree as it is now and this volume's shape, in constant time, without snapshots,
+    /// marks or jobs. Later changes of either do not affect the other. It fails only if a node already has 2^64 - 1 references.
     pub fn fork(&self, alloc: Global) -> Result<Volume, NoMemory>
         ensures { IfOk result (IsForkOf self.now.live) }
     {
@@ -303,21 +304,22 @@ impl Volume {
         }
     }
 
-    /// Its live indexes, to go through all of the live tree.
+    /// Its live indexes, for iterating over the whole live tree.
     pub fn indexes(&self) -> &Indexes
         ensures { result.now ≡ self.now.live.indexes }
     {
         self.live.indexes()
     }
 
-    /// The snapshot of that name, to go through all of its tree; none where there is none of that name.
+    /// The snapshot of that name, for iterating over its whole tree; `None` if there is none.
     pub fn snapshot_root(&self, name: &SnapName) -> Option<&FsRoot>
         ensures { option_copied result ≡ finite.get self.now.snapshots name.now }
     {
         self.snapshots.get(name)
     }
 
-    /// The snapshots' name with this number, in the rising order of names, counted from 0; none past the last. It takes no memory.
+    /// The name of a snapshot by its number, which counts from 0 in byte order of names; `None` past the last. It allocates
+    /// nothing.
     pub fn snapshot_name(&self, number: usize) -> Option<&SnapName>
         ensures number { option_copied result ≡ slice_get (names_in self.now.snapshots) number }
         ensures names { AreNames self.now.snapshots (names_in self.now.snapshots) }
@@ -325,30 +327,30 @@ impl Volume {
         self.snapshots.name(number)
     }
 
-    /// The flush of the slot of a live index than which none has more pending messages; none where nothing is pending.
-    /// It takes no memory.
+    /// The flush of the slot of a live index with the most pending messages; `None` if nothing is pending. It allocates
+    /// nothing.
     pub fn heaviest(&self, index: Index) -> Option<TreeStep>
         ensures { HeaviestIn index result self.now.live.indexes }
     {
         self.live.heaviest(index)
     }
 
-    /// How large the tree of a live index is. It takes no memory.
+    /// The size of the tree of a live index: levels, nodes, pending pieces and entries. It allocates nothing.
     pub fn shape_report(&self, index: Index) -> ShapeReport
         ensures { result ≡ report_in index self.now.live.indexes }
     {
         in_tree!(self.live.indexes(), index, tree => tree.shape_report())
     }
 
-    /// How many pieces wait in a live index. It costs a look at the slots of its tree's root, and takes no memory.
+    /// How many pieces of messages are pending in a live index. It reads the slots of the root, and allocates nothing.
     pub fn pending(&self, index: Index) -> u128
         ensures { result ≡ pending_in index self.now.live.indexes }
     {
         in_tree!(self.live.indexes(), index, tree => tree.pending())
     }
 
-    /// Does a tree step in the index with more pending pieces, that of the metadata where both have as many: the heaviest flush
-    /// or, where that has no room, what makes room for it. `None` exactly where nothing is pending in either.
+    /// Does a tree step in the index with more pending pieces, or in that of the metadata if both have as many: the heaviest
+    /// flush or, if that has no room, a step that makes room for it. `None` exactly if nothing is pending in either.
     pub fn compact_step(&mut self, alloc: Global) -> Option<CompactStep>
         ensures nothing { (result ≡ None) ↔ ((pending_in Index.Meta self.old.live.indexes ≡ 0) × (pending_in Index.Block self.old.live.indexes ≡ 0)) }
         ensures unchanged { IfNone result (self.new ≡ self.old) }
@@ -362,7 +364,7 @@ impl Volume {
         relief
     }
 
-    /// The index with more pending pieces, that of the metadata where both have as many. It takes no memory.
+    /// The index with more pending pieces, or that of the metadata if both have as many. It allocates nothing.
     pub fn busier(&self) -> Index
         ensures index { result ≡ busier self.now.live.indexes }
         ensures nothing { (pending_in result self.now.live.indexes ≡ 0) → (pending_in Index.Meta self.now.live.indexes ≡ 0) × (pending_in Index.Block self.now.live.indexes ≡ 0) }
@@ -392,12 +394,12 @@ impl Volume {
         self.live.backlog(index)
     }
 
-    /// Takes a job of the slot with this number of an index's root: it shares the slot's child and has the slot's oldest
-    /// messages, as many as have room in the child. Its mark stands until the job is installed or cancelled, a snapshot is
+    /// Takes a job of the slot with this number of an index's root: a reference to the slot's child, and the slot's oldest
+    /// messages, as many as have room in the child. Its mark stays until the job is installed or cancelled, a snapshot is
     /// restored, or a step makes another root or works at the slot or below it. Tickets count from 0, over both indexes.
     ///
-    /// It answers `NotThere`, without memory, where the slot is missing, its child is a leaf, nothing waits there or it has a
-    /// mark; and `NoRoom` where the first message has no room in the child, 64 marks stand, or no ticket is left.
+    /// `NotThere`, without an allocation, if the slot does not exist, its child is a leaf, no message is pending there or it
+    /// has a mark; `NoRoom` if the child has no room for the first message, there are 64 marks, or no ticket is left.
     pub fn take_job(&mut self, alloc: Global, index: Index, slot: u8) -> TakeReply
         ensures answers { AnswersTaking index slot result (live_of self.old) (live_of self.new) }
         ensures root { self.new.live.modified ≡ self.old.live.modified }
@@ -409,10 +411,11 @@ impl Volume {
         reply
     }
 
-    /// Puts what was built of a job in the place of the child of the mark's slot, and takes away the messages that it has in
-    /// it, and the mark. What came after the taking stays in the slot. Whatever it replies, the volume means what it meant.
+    /// Installs what was built of a job: it replaces the child of the marked slot, and the messages that it includes are
+    /// removed from the slot, with the mark. Messages that came later stay in the slot. Whatever the reply, the volume means
+    /// what it meant.
     ///
-    /// It answers `Stale`, without memory, where the mark is gone.
+    /// `Stale`, without an allocation, if the mark was removed.
     pub fn install(&mut self, done: Done) -> InstallReply
         requires { DoneFits done (live_of self.old) }
         ensures answers { AnswersInstalling done result (live_of self.old) (live_of self.new) }
@@ -425,7 +428,7 @@ impl Volume {
         reply
     }
 
-    /// Takes away the mark with the ticket, if it stands: the job is not to be installed. It takes no memory.
+    /// Removes the mark with the ticket, if there is one: the job is not to be installed. It allocates nothing.
     pub fn cancel(&mut self, ticket: Ticket)
         ensures volume { self.new ≡ record (self.old) { marks = without_mark ticket.number self.old.marks } }
         ensures kept { KeepsMarks (live_of self.old) (live_of self.new) }
@@ -434,7 +437,7 @@ impl Volume {
         self.live.assert_invariant();
     }
 
-    /// Takes all marks away. It takes no memory.
+    /// Removes all marks. It allocates nothing.
     pub fn cancel_all(&mut self)
         ensures volume { self.new ≡ record (self.old) { marks = no_marks self.old.marks.given } }
         ensures kept { KeepsMarks (live_of self.old) (live_of self.new) }

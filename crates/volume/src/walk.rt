@@ -1,6 +1,7 @@
-//! A walk through a tree that stands still: its entries, or the blocks of a file, so many at a time, or the blocks of file after file.
+//! Iteration over a frozen tree: its entries, or the blocks of a file, a number of them at a time, or the blocks of one file after
+//! the other.
 //!
-//! What is asked for at once is one walk of an index from its root, and no search for each entry.
+//! What is asked for at once is one walk of an index from its root, without a search for each entry.
 ghost use Rattle.std.specs.Prelude.{◌≡◌, ◌≢◌, ◌<◌, ◌≤◌, ◌^◌, ◌↔◌, ◌++◌, [], ◌∷◌, ℕ, List, All, IfOk, IfSome, true};
 ghost use Rattle.std.specs.Option.{option_to_list};
 ghost use Rattle.block_index.specs.Means.{blocks};
@@ -21,9 +22,10 @@ use std::alloc::Global;
 use std::marker::Model;
 
 impl Frozen {
-    /// The entries from a path on in key order, the root too, each with its path: the first `limit`, or all where there are fewer.
+    /// The entries from a path on in key order, with the root, each with its path: the first `limit`, or all if there are
+    /// fewer.
     ///
-    /// To go on, ask from the path of the last entry on, and pass that one by.
+    /// To continue, ask from the path of the last entry on, and skip that one.
     pub fn entries(
         &self,
         alloc: Global,
@@ -39,10 +41,10 @@ impl Frozen {
         with_paths(alloc, pairs)
     }
 
-    /// The stored blocks of the file at the path from a number on, each with its number: the first `limit`, or all where there are
-    /// fewer. None where no file stands there. A block that is not stored has only zeros.
+    /// The stored blocks of the file at the path from a number on, each with its number: the first `limit`, or all if there are
+    /// fewer; none if the path is not a file. A block that is not stored has only zeros.
     ///
-    /// Each block is one more owner of its bytes. To go on, ask from the number behind that of the last block on.
+    /// Each block is a reference to shared bytes. To continue, ask from the number after that of the last block.
     pub fn blocks(
         &self,
         alloc: Global,
@@ -65,10 +67,10 @@ impl Frozen {
     }
 }
 
-/// The stored blocks of one file after the other, of a tree that stands still. Contracts see the tree.
+/// The stored blocks of one file after the other, of a frozen tree. Contracts see the tree.
 ///
-/// Where files are asked for in the order of their paths, and the blocks of each in the order of their numbers, all come from one
-/// walk of the index, and none is searched for. What is asked for in another order is searched for.
+/// If files are asked for in the order of their paths, and the blocks of each in the order of their numbers, all come from one walk
+/// of the index without a search. What is asked for in another order is searched for.
 #[derive(Drop)]
 pub struct BlockWalk<'a> {
     frozen: &'a Frozen,
@@ -93,7 +95,7 @@ impl<'a> Model for BlockWalk<'a> {
 }
 
 impl<'a> BlockWalk<'a> {
-    /// A walk through the blocks of a tree. It takes no memory.
+    /// An iteration over the blocks of a tree. It allocates nothing.
     pub fn new(alloc: Global, frozen: &'a Frozen) -> BlockWalk<'a>
         ensures { result ≡ frozen.now }
     {
@@ -103,10 +105,10 @@ impl<'a> BlockWalk<'a> {
         }
     }
 
-    /// The first stored block of the file at the path from a number on, with its number; none where the file has no more, and where
-    /// no file stands there. A block that is not stored has only zeros.
+    /// The first stored block of the file at the path from a number on, with its number; `None` if the file has no more, or the
+    /// path is not a file. A block that is not stored has only zeros.
     ///
-    /// The block is one more owner of its bytes. It fails only for want of memory; the same may be asked again then.
+    /// The block is a reference to shared bytes. It fails only if an allocation fails; the same may be asked for again then.
     pub fn next(
         &mut self,
         alloc: Global,

@@ -16,8 +16,8 @@ abbrev old : After-self-1 → PVolume
 old c = volume c.self.inside.live c.self.inside.modified c.self.inside.snapshots
 
 -- what became of the live indexes
-arriving : (c : After-self-1) → Arriving (messages c.in-Ok.batch) c.append-appended.result (live_of (old c)) c.append-appended.new.self
-arriving c = let e = c.append-appended.ensures in record { taken = e.done; no_meta = e.no_meta; no_block = e.no_block; lists = e.lists; err = e.err; marks = e.marks; kept = e.kept }
+arriving : (c : After-self-1) → Arriving (messages c.in-Ok.batch) c.append-sent.result (live_of (old c)) c.append-sent.new.self
+arriving c = let e = c.append-sent.ensures in record { taken = e.done; no_meta = e.no_meta; no_block = e.no_block; lists = e.lists; err = e.err; marks = e.marks; kept = e.kept }
 
 -- what was asked
 asked : (c : After-self-1) (p : Path) → Asks c.args.self.now.live.indexes p c.args.at c.args.compiled c.args.is_root → Asks (old c).live.indexes p c.args.at c.args.compiled c.args.is_root
@@ -28,36 +28,36 @@ made : (c : After-self-1) (p : Path) → Compiles (old c).live.indexes p c.args.
 made c p h = subst (Compiles (old c).live.indexes p c.args.at) c.in-Ok.is h
 
 -- the moment of the root after it
-root_after : (c : After-self-1) (root : Bool) → c.args.is_root ≡ root → after_call root (reply_to c.append-appended.result c.in-Ok.reply) c.args.at c.self.inside.modified ≡ c.after_call-self-inside.result
+root_after : (c : After-self-1) (root : Bool) → c.args.is_root ≡ root → after_call root (reply_to c.append-sent.result c.in-Ok.reply) c.args.at c.self.inside.modified ≡ c.after_call-self-inside.result
 root_after c root e =
-    ap (λ (b : Bool). after_call b (reply_to c.append-appended.result c.in-Ok.reply) c.args.at c.self.inside.modified) (sym e)
+    ap (λ (b : Bool). after_call b (reply_to c.append-sent.result c.in-Ok.reply) c.args.at c.self.inside.modified) (sym e)
     ∙ ap (λ (r : Reply). after_call c.args.is_root r c.args.at c.self.inside.modified) (sym c.reply_to-reply.ensures)
     ∙ sym c.after_call-self-inside.ensures
 
 pub invariant_of-self : goal.invariant_of-self
 invariant_of-self c =
-    let l = c.append-appended.new.self in
+    let l = c.append-sent.new.self in
     let (p, given) = c.requires in
     let asks : Asks (old c).live.indexes p c.args.at c.args.compiled c.args.is_root = asked c p given in
     subst (λ n. IsVolume (volume l n c.self.inside.snapshots)) (root_after c _ asks.is_root)
-    (mtime_lasts (old c) c.self.invariant p c.args.at l (reply_to c.append-appended.result c.in-Ok.reply)
-    (answered_mtime (old c) c.self.invariant p c.args.at l c.in-Ok.reply _ c.append-appended.result (made c p asks.compiles) (arriving c)) c.assert_invariant.ensures)
+    (mtime_lasts (old c) c.self.invariant p c.args.at l (reply_to c.append-sent.result c.in-Ok.reply)
+    (answered_mtime (old c) c.self.invariant p c.args.at l c.in-Ok.reply _ c.append-sent.result (made c p asks.compiles) (arriving c)) c.assert_invariant.ensures)
 
 pub returns-clause-sets : goal.returns-clause-sets
 returns-clause-sets c = λ p given.
-    let l = c.append-appended.new.self in
+    let l = c.append-sent.new.self in
     let asks : Asks (old c).live.indexes p c.args.at c.args.compiled c.args.is_root = asked c p given in
     subst (λ (v : PVolume). SetsMtime p c.args.at c.reply_to-reply.result v (volume l c.after_call-self-inside.result c.self.inside.snapshots)) c.self.view_is
     (subst (λ n. SetsMtime p c.args.at c.reply_to-reply.result (old c) (volume l n c.self.inside.snapshots)) (root_after c _ asks.is_root)
-    (subst (λ (r : Reply). SetsMtime p c.args.at r (old c) (volume l (after_call _ (reply_to c.append-appended.result c.in-Ok.reply) c.args.at c.self.inside.modified) c.self.inside.snapshots)) (sym c.reply_to-reply.ensures)
-    (answered_mtime (old c) c.self.invariant p c.args.at l c.in-Ok.reply _ c.append-appended.result (made c p asks.compiles) (arriving c))))
+    (subst (λ (r : Reply). SetsMtime p c.args.at r (old c) (volume l (after_call _ (reply_to c.append-sent.result c.in-Ok.reply) c.args.at c.self.inside.modified) c.self.inside.snapshots)) (sym c.reply_to-reply.ensures)
+    (answered_mtime (old c) c.self.invariant p c.args.at l c.in-Ok.reply _ c.append-sent.result (made c p asks.compiles) (arriving c))))
 
 pub returns-clause-settled : goal.returns-clause-settled
 returns-clause-settled c =
     let (p, given) = c.requires in
     let asks : Asks (old c).live.indexes p c.args.at c.args.compiled c.args.is_root = asked c p given in
     subst IsSettled (sym c.reply_to-reply.ensures)
-    (mtime_settled (old c) c.self.invariant p c.args.at c.append-appended.new.self c.in-Ok.reply _ c.append-appended.result (made c p asks.compiles))
+    (mtime_settled (old c) c.self.invariant p c.args.at c.append-sent.new.self c.in-Ok.reply _ c.append-sent.result (made c p asks.compiles))
 
 pub returns-in_default-clause-sets : goal.returns-in_default-clause-sets
 returns-in_default-clause-sets c = λ p given. lacks_mtime c.args.self.now p c.args.at (live_of c.args.self.now) refl
