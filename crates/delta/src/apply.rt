@@ -1,4 +1,4 @@
-//! Applies a delta to a volume: the new image is made of the old one line by line, and loaded as it is made.
+//! Applies a delta to a volume. The new image is made from the old one line by line, and loaded at the same time.
 ghost use Rattle.std.specs.Prelude.{◌≡◌, ◌≢◌, ℕ, Err, IfOk, OnErr, OnOk};
 ghost use Rattle.reference.specs.Worlds.{World};
 ghost use Rattle.volume.specs.Volumes.{Means};
@@ -12,8 +12,9 @@ use crate::reading::read_delta;
 use std::alloc::Global;
 use volume::Volume;
 
-/// Makes a volume mean the tree whose image a delta makes of the image of its tree. The volume is a new one then: it has no snapshots and no
-/// marks, and trees of the shape that its metadata had. Where the delta is refused, the volume is as it was.
+/// Applies a delta to a volume: its tree becomes the one whose image the delta makes of the image of the old tree. The volume
+/// is then a new one. It has no snapshots and no marks, and its trees have the shape of the old metadata tree. If the call
+/// fails, the volume is unchanged.
 pub fn apply_delta(alloc: Global, volume: &mut Volume, text: &[u8]) -> Result<(), DeltaFault>
     ensures ok { (w : World) → Means volume.old w → OnOk result (Applied text.now w.live volume.old.live.indexes.meta.tree.shape volume.new) }
     ensures unchanged { OnErr result (volume.new ≡ volume.old) }
@@ -31,7 +32,7 @@ pub fn apply_delta(alloc: Global, volume: &mut Volume, text: &[u8]) -> Result<()
     }
 }
 
-// The volume that a delta makes of a volume.
+// Makes a new volume by applying a delta to a volume.
 fn make_volume(alloc: Global, volume: &Volume, text: &[u8]) -> Result<Volume, DeltaFault>
     ensures ok { (w : World) → Means volume.now w → IfOk result (Applied text.now w.live volume.now.live.indexes.meta.tree.shape) }
     ensures bad { (n : ℕ) → result ≡ Err (DeltaFault.Bad n) → IsBadAt n text.now }

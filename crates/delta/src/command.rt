@@ -1,4 +1,5 @@
-//! The lines of a delta that tell commands: how many lines of the old image stay, or go, or which line comes.
+//! The lines of a delta that are commands: the given number of lines of the old image are copied or deleted, or a line is
+//! inserted.
 ghost use Rattle.std.specs.Prelude.{◌≡◌, ◌≢◌, ◌∷◌, [], ◌<◌, ◌^◌, ℕ, MatchOption, OnErr, OnOk, decimal};
 ghost use Rattle.std.specs.Io.KnownBytes.{Appends};
 ghost use Rattle.textio.specs.Parts.{AppendsPart};
@@ -10,18 +11,18 @@ use textio::output::{WriteFailed, put};
 use textio::text::put_number_line;
 use textio::values::read_number;
 
-/// A command as its line tells it.
+/// A parsed command.
 #[derive(Clone, Copy, Debug, PartialEq, Eq)]
 pub enum DeltaCommand {
-    /// So many lines of the old image stay.
+    /// Copies the given number of lines of the old image.
     Stay(u64),
-    /// So many go.
+    /// Deletes the given number of lines of the old image.
     Go(u64),
-    /// The line behind the first two bytes comes.
+    /// Inserts the line that follows the first two bytes.
     Come,
 }
 
-/// The command that a line tells; none where it tells none.
+/// Parses a command. Returns `None` if the line is not a command.
 pub fn read_command(line: &[u8]) -> Option<DeltaCommand>
     requires { IsLine line.now }
     ensures { MatchOption result (TellsNone line.now) (λ parsed. Tells line.now (command_of parsed line.now)) }
@@ -44,7 +45,7 @@ pub fn read_command(line: &[u8]) -> Option<DeltaCommand>
     None
 }
 
-// The number from 1 on that a word writes.
+// Parses a number that is at least 1.
 fn read_count(word: &[u8]) -> Option<u64>
     ensures { MatchOption result ((n : ℕ) → 0 < n → n < 2 ^ 64 → word.now ≢ decimal n) (λ n. (0 < n) × (word.now ≡ decimal n)) }
 {
@@ -57,7 +58,7 @@ fn read_count(word: &[u8]) -> Option<u64>
     Some(number)
 }
 
-/// Writes that so many lines stay, or a beginning of it; nothing where they are none.
+/// Writes the command that copies `count` lines, or a prefix of it. Writes nothing if `count` is 0.
 pub(crate) fn print_copy<W: Write>(writer: &mut W, count: u64) -> Result<(), WriteFailed>
     ensures ok { OnOk result (Appends (W.contents writer.old) (W.contents writer.new) (commands_text (run Stay count))) }
     ensures err { OnErr result (AppendsPart (W.contents writer.old) (W.contents writer.new) (commands_text (run Stay count))) }
@@ -68,7 +69,7 @@ pub(crate) fn print_copy<W: Write>(writer: &mut W, count: u64) -> Result<(), Wri
     put_number_line(writer, b"= ", count)
 }
 
-/// Writes that so many lines go, or a beginning of it; nothing where they are none.
+/// Writes the command that deletes `count` lines, or a prefix of it. Writes nothing if `count` is 0.
 pub(crate) fn print_delete<W: Write>(writer: &mut W, count: u64) -> Result<(), WriteFailed>
     ensures ok { OnOk result (Appends (W.contents writer.old) (W.contents writer.new) (commands_text (run Go count))) }
     ensures err { OnErr result (AppendsPart (W.contents writer.old) (W.contents writer.new) (commands_text (run Go count))) }
@@ -79,7 +80,7 @@ pub(crate) fn print_delete<W: Write>(writer: &mut W, count: u64) -> Result<(), W
     put_number_line(writer, b"- ", count)
 }
 
-/// Writes that a line comes, or a beginning of it.
+/// Writes the command that inserts a line, or a prefix of it.
 pub(crate) fn print_insert<W: Write>(writer: &mut W, line: &[u8]) -> Result<(), WriteFailed>
     ensures ok { OnOk result (Appends (W.contents writer.old) (W.contents writer.new) (commands_text (Come line.now ∷ []))) }
     ensures err { OnErr result (AppendsPart (W.contents writer.old) (W.contents writer.new) (commands_text (Come line.now ∷ []))) }

@@ -1,4 +1,4 @@
-//! The digest of an image, of which a delta's first line tells.
+//! The digest of an image, which is in the first line of a delta.
 ghost use Rattle.std.specs.Prelude.{◌≡◌, ◌<◌, IfOk, length};
 ghost use Rattle.reference.specs.Image.{Second, image};
 ghost use Rattle.reference.specs.Tree.{Tree};
@@ -11,10 +11,10 @@ use sha2::{Digest, Sha256};
 use std::alloc::Global;
 use volume::Frozen;
 
-/// How many bytes of an image are printed at a time.
+/// The number of bytes of an image that are printed at a time.
 const PIECE: usize = 65_536;
 
-/// The SHA-256 digest of the image of a tree that stands still.
+/// Computes the SHA-256 digest of the image of a frozen tree. Fails only if an allocation fails.
 pub fn image_digest(alloc: Global, frozen: Frozen) -> Result<[u8; 32], NoMemory>
     ensures { IfOk result (λ digest. (t : Tree) → MeanRooted frozen t → digest ≡ sha256 (image Second t)) }
 {
@@ -32,7 +32,7 @@ pub fn image_digest(alloc: Global, frozen: Frozen) -> Result<[u8; 32], NoMemory>
     digest
 }
 
-// The digest of an image of which nothing was printed, printed in pieces into the buffer.
+// Computes the digest of an image of which nothing was printed yet. The image is printed in pieces into the buffer.
 fn digest_of(
     alloc: Global,
     printing: &mut ImagePrinter,
@@ -43,7 +43,7 @@ fn digest_of(
     ensures { IfOk result (λ digest. (t : Tree) → MeanRooted printing.old.tree t → digest ≡ sha256 (image Second t)) }
 {
     let mut hasher = Sha256::new();
-    // No image has more pieces.
+    // No image has more pieces than this.
     'pieces: for _ in 0..u64::MAX {
         let count = printing.next(alloc, piece)?;
         if count == 0 {

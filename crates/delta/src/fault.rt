@@ -1,4 +1,4 @@
-//! Why a delta was not printed, or not applied.
+//! Why a delta was not printed or not applied.
 ghost use Rattle.std.specs.Prelude.{◌≡◌};
 ghost use Rattle.delta.specs.declared.fault.PrintFault.TheVariants as fault;
 
@@ -6,10 +6,10 @@ use pathkey::NoMemory;
 use textio::output::WriteFailed;
 use thiserror::Error;
 
-/// Why a delta was not printed to its end.
+/// Why a delta was not printed completely.
 #[derive(Debug, Drop, PartialEq, Eq, Error)]
 pub enum PrintFault {
-    /// Memory was refused.
+    /// An allocation failed.
     #[error("deltas: no memory")]
     Memory,
     /// The writer failed.
@@ -36,16 +36,16 @@ impl From<WriteFailed> for PrintFault {
 /// Why a delta was not applied.
 #[derive(Debug, Drop, PartialEq, Eq, Error)]
 pub enum DeltaFault {
-    /// Memory was refused.
+    /// An allocation failed.
     #[error("deltas: no memory")]
     Memory,
-    /// The text is no delta; the number is that of its first bad line, counted from 1.
+    /// The text is not a delta. The number is that of its first bad line, counted from 1.
     #[error("deltas: bad delta at line {0}")]
     Bad(u64),
-    /// It is the delta of a tree with another image.
+    /// The delta belongs to a tree with another image.
     #[error("deltas: delta of another tree")]
     OtherTree,
-    /// What it makes of the lines of the image is no image.
+    /// What the delta makes of the lines of the image is not an image.
     #[error("deltas: delta makes no image")]
     NoImage,
 }

@@ -1,4 +1,4 @@
-//! The first line of a delta, which tells the digest of the old image.
+//! The first line of a delta, which has the digest of the old image.
 ghost use Rattle.std.specs.Prelude.{◌≡◌, ◌≢◌, ◌∷◌, [], List, ℕ, MatchOption, OnErr, OnOk};
 ghost use Rattle.std.specs.Io.KnownBytes.{Appends};
 ghost use Rattle.textio.specs.Parts.{AppendsPart};
@@ -8,7 +8,7 @@ ghost use Rattle.hex.specs.Hex.{encode_lower};
 use std::io::Write;
 use textio::output::{WriteFailed, put};
 
-/// The digest that a first line tells; none where it tells none.
+/// Parses the first line of a delta. Returns its digest, or `None` if this is not such a line.
 pub fn read_header(line: &[u8]) -> Option<[u8; 32]>
     ensures { MatchOption result ((digest : List ℕ) → IsDigest digest → line.now ≢ heading digest) (λ digest. IsDigest digest × (line.now ≡ heading digest)) }
 {
@@ -18,7 +18,7 @@ pub fn read_header(line: &[u8]) -> Option<[u8; 32]>
     read_digest(word)
 }
 
-// The 32 bytes that a word tells in its one spelling.
+// Parses a digest of 32 bytes in its one spelling.
 fn read_digest(word: &[u8]) -> Option<[u8; 32]>
     ensures { MatchOption result ((digest : List ℕ) → IsDigest digest → word.now ≢ encode_lower digest) (λ digest. IsDigest digest × (word.now ≡ encode_lower digest)) }
 {
@@ -32,7 +32,7 @@ fn read_digest(word: &[u8]) -> Option<[u8; 32]>
     Some(digest)
 }
 
-// The digits of a digest.
+// The hexadecimal digits of a digest.
 fn digits_of(digest: &[u8; 32]) -> [u8; 64]
     ensures { result ≡ encode_lower digest.now }
 {
@@ -41,7 +41,7 @@ fn digits_of(digest: &[u8; 32]) -> [u8; 64]
     digits
 }
 
-/// Writes the first line, or a beginning of it.
+/// Writes the first line, or a prefix of it.
 pub(crate) fn put_heading<W: Write>(writer: &mut W, digest: &[u8; 32]) -> Result<(), WriteFailed>
     ensures ok { OnOk result (Appends (W.contents writer.old) (W.contents writer.new) (text_of (heading digest.now ∷ []))) }
     ensures err { OnErr result (AppendsPart (W.contents writer.old) (W.contents writer.new) (text_of (heading digest.now ∷ []))) }

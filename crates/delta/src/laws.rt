@@ -1,13 +1,13 @@
-//! Laws of deltas. The functions do nothing.
+//! Laws of deltas. The functions do nothing at run time.
 ghost use Rattle.delta.specs.Applies.{OneReadingLaw, RoundTripLaw};
 
-/// What is printed of two trees, applied to a volume that means the first, gives one that means the second, moments and all, where memory
-/// is not refused.
+/// If the delta of two trees is applied to a volume with the first tree, and no allocation fails, the volume then has the
+/// second tree, including mtimes.
 pub fn round_trip()
     ensures { RoundTripLaw }
 {}
 
-/// A delta makes one list of lines of an image.
+/// A delta makes exactly one list of lines from the lines of an image.
 pub fn one_reading()
     ensures { OneReadingLaw }
 {}

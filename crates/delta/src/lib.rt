@@ -1,5 +1,4 @@
-//! The difference of two trees as text, and its application: what a text says of the lines of one image, so that they become those of
-//! another.
+//! The difference of two trees as text, and its application. A delta says how the lines of one image become those of another.
 #![tactic(auto)]
 
 pub mod apply;

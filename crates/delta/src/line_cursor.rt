@@ -1,4 +1,4 @@
-//! Goes through the image of a tree line by line, as it is printed.
+//! Reads the image of a tree line by line, as it is printed.
 ghost use Rattle.std.specs.Prelude.{◌≡◌, ◌≢◌, ◌<◌, ◌≤◌, All, length};
 
 use images::ImagePrinter;
@@ -7,24 +7,24 @@ use std::alloc::Global;
 use textio::words::split_line;
 use volume::Frozen;
 
-/// How many bytes of an image are printed at a time.
+/// The number of bytes of an image that are printed at a time.
 const PIECE: usize = 65_536;
 
-/// A place in the image of a tree that stands still: at one of its lines, or behind the last.
+/// A position in the image of a frozen tree: at one of its lines, or after the last.
 #[derive(Drop)]
 pub struct LineCursor {
     pub(crate) printing: ImagePrinter,
-    /// The piece of the image that was printed last, at the front.
+    /// The piece of the image that was printed last, at the start of the buffer.
     pub(crate) piece: Vec<u8>,
-    /// How many bytes of it were read.
+    /// The number of its bytes that were read.
     pub(crate) used: usize,
-    /// How many there are.
+    /// The number of its bytes.
     pub(crate) filled: usize,
     /// The line, without its line feed.
     pub(crate) line: Vec<u8>,
-    /// Whether there is one.
+    /// Whether there is a line: false after the last one.
     pub(crate) there: bool,
-    /// The line of the entry to which it belongs.
+    /// The line of the entry to which the current line belongs.
     pub(crate) entry: Vec<u8>,
     ghost fits: { used ≤ filled },
     ghost within: { filled ≤ length piece.items },
@@ -37,7 +37,7 @@ impl LineCursor {
     ghost use Rattle.reference.specs.Tree.{Tree};
     ghost use Rattle.delta.specs.Walks.{IsAtStart, ReadsLine, Refills, SameTree, TakesPart, Walks, lines_from, unread};
 
-    /// At the first line of the image of a tree.
+    /// Creates a cursor at the first line of the image of a tree. Fails only if an allocation fails.
     pub fn new(alloc: Global, frozen: Frozen) -> Result<LineCursor, NoMemory>
         ensures { IfOk result (IsAtStart frozen) }
     {
@@ -52,7 +52,7 @@ impl LineCursor {
         LineCursor::over(alloc, printing, piece)
     }
 
-    // At the first line of what is printed.
+    // Creates a cursor at the first line of what the printer prints.
     fn over(alloc: Global, printing: ImagePrinter, piece: Vec<u8>) -> Result<LineCursor, NoMemory>
         requires fresh { printing.done ≡ 0 }
         requires some { 0 < length piece.items }
@@ -74,7 +74,7 @@ impl LineCursor {
         Ok(walk)
     }
 
-    /// Whether it stands behind the last line.
+    /// Whether the cursor is after the last line.
     pub(crate) fn is_at_end(&self) -> bool
         ensures end { result ≡ true → self.now.there ≡ false }
         ensures line { result ≡ false → self.now.there ≡ true }
@@ -82,7 +82,7 @@ impl LineCursor {
         !self.there
     }
 
-    /// To the next line.
+    /// Moves to the next line. Fails only if an allocation fails.
     pub fn step(&mut self, alloc: Global) -> Result<(), NoMemory>
         requires { self.old.there ≡ true }
         ensures { OnOk result (Walks (self.old.line.items ∷ []) self.old self.new) }
@@ -99,12 +99,12 @@ impl LineCursor {
         self.note_entry()
     }
 
-    // Adds what comes next to the line, up to its end.
+    // Appends the following bytes to the line, up to its end.
     fn gather(&mut self, alloc: Global) -> Result<(), NoMemory>
         requires { self.old.line.items ≡ [] }
         ensures { OnOk result (ReadsLine self.old self.new) }
     {
-        // No image has more pieces.
+        // No image has more pieces than this.
         for _ in 0..u64::MAX {
             if self.take_part()? {
                 self.there = true;
@@ -118,7 +118,7 @@ impl LineCursor {
         Err(NoMemory)
     }
 
-    // Adds what was printed to the line, up to the line's end: whether that was reached.
+    // Appends what was printed to the line, up to the line's end. Returns whether the end was reached.
     fn take_part(&mut self) -> Result<bool, NoMemory>
         ensures { IfOk result (λ ended. TakesPart ended self.old self.new) }
     {
@@ -138,7 +138,7 @@ impl LineCursor {
         }
     }
 
-    // Prints the next piece, where all that was printed is read: whether there is one.
+    // Prints the next piece, after all that was printed before was read. Returns whether there is one.
     fn refill(&mut self, alloc: Global) -> Result<bool, NoMemory>
         ensures { IfOk result (λ more. Refills more self.old self.new) }
     {
@@ -148,7 +148,7 @@ impl LineCursor {
         Ok(count > 0)
     }
 
-    // Keeps the line where it is that of an entry.
+    // Stores the line if it is the line of an entry.
     fn note_entry(&mut self) -> Result<(), NoMemory>
         ensures lines { (t : Tree) → lines_from t self.new ≡ lines_from t self.old }
         ensures same { SameTree self.old self.new }

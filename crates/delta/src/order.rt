@@ -1,5 +1,5 @@
-//! Which of two lines stands first, by the key of its entry and by the number of its block. A delta is right whatever is answered here:
-//! it is only short where lines of one place meet.
+//! Decides which of two lines is first, by the key of its entry and by the index of its block. A delta is correct whatever
+//! the result is here. It is only short if lines of the same position meet.
 ghost use Rattle.std.specs.Prelude.{◌≡◌, false, true};
 
 use crate::line_cursor::LineCursor;
@@ -9,7 +9,7 @@ use std::cmp::Ordering;
 use textio::values::{read_number, read_path};
 use textio::words::split_space;
 
-/// Whether both walks stand behind their last lines.
+/// Whether both cursors are after their last lines.
 pub(crate) fn are_at_end(old: &LineCursor, new: &LineCursor) -> bool
     ensures old { result ≡ true → old.now.there ≡ false }
     ensures new { result ≡ true → new.now.there ≡ false }
@@ -20,7 +20,7 @@ pub(crate) fn are_at_end(old: &LineCursor, new: &LineCursor) -> bool
     !new.there
 }
 
-/// Whether both walks stand at one line.
+/// Whether both cursors are at equal lines.
 pub(crate) fn is_same(old: &LineCursor, new: &LineCursor) -> bool
     ensures old { result ≡ true → old.now.there ≡ true }
     ensures new { result ≡ true → new.now.there ≡ true }
@@ -32,7 +32,7 @@ pub(crate) fn is_same(old: &LineCursor, new: &LineCursor) -> bool
     new.line.as_slice() == old.line.as_slice()
 }
 
-/// Whether the line of the old image goes before another line of the new one is told.
+/// Whether the line of the old image is deleted before the next line of the new one is written.
 pub(crate) fn is_deleted(alloc: Global, old: &LineCursor, new: &LineCursor) -> bool
     ensures { result ≡ true → old.now.there ≡ true }
 {
@@ -42,7 +42,7 @@ pub(crate) fn is_deleted(alloc: Global, old: &LineCursor, new: &LineCursor) -> b
     !new.there || is_first(alloc, old, new)
 }
 
-/// Whether the line of the new image comes before another line of the old one is told.
+/// Whether the line of the new image is inserted before the next line of the old one is handled.
 pub(crate) fn is_inserted(alloc: Global, old: &LineCursor, new: &LineCursor) -> bool
     ensures { result ≡ true → new.now.there ≡ true }
 {
@@ -52,7 +52,7 @@ pub(crate) fn is_inserted(alloc: Global, old: &LineCursor, new: &LineCursor) -> 
     !old.there || !is_first(alloc, old, new)
 }
 
-// Whether the place of the old line is not behind that of the new one.
+// Whether the old line is not after the new one.
 fn is_first(alloc: Global, old: &LineCursor, new: &LineCursor) -> bool {
     match compare_entries(alloc, old.entry.as_slice(), new.entry.as_slice()) {
         Ordering::Less => true,
@@ -61,7 +61,7 @@ fn is_first(alloc: Global, old: &LineCursor, new: &LineCursor) -> bool {
     }
 }
 
-// How the keys of the entries of two lines stand to each other.
+// Compares the keys of the entries of two lines.
 fn compare_entries(alloc: Global, old: &[u8], new: &[u8]) -> Ordering {
     if old == new {
         return Ordering::Equal;
@@ -79,7 +79,7 @@ fn compare_entries(alloc: Global, old: &[u8], new: &[u8]) -> Ordering {
     order
 }
 
-// The path of which the line of an entry tells.
+// Parses the path in the line of an entry.
 fn path_in(alloc: Global, line: &[u8]) -> Option<Path> {
     let Some((_, rest)) = split_space(line) else {
         return None;
@@ -90,7 +90,7 @@ fn path_in(alloc: Global, line: &[u8]) -> Option<Path> {
     read_path(alloc, path).ok()
 }
 
-// The place of a line among those of its entry: the entry's own stands first, and its blocks behind it by their numbers.
+// The position of a line among those of its entry: the entry's own line is first, then its blocks by index.
 fn rank(line: &[u8]) -> u64 {
     let Some(rest) = line.strip_prefix(b"b ") else {
         return 0;

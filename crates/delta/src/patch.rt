@@ -1,4 +1,4 @@
-//! Does the commands of a delta, on the lines of an image.
+//! Executes the commands of a delta on the lines of an image.
 ghost use Rattle.std.specs.Prelude.{◌≡◌, ◌≢◌, ◌⊎◌, ◌↔◌, ◌<◌, ◌++◌, ◌∷◌, [], ℕ, List, Err, IfErr, IfOk, OnOk, length};
 ghost use Rattle.images.specs.Taken.{IsFresh, Took};
 ghost use Rattle.node.specs.declared.shape.Shape.{Shape};
@@ -23,7 +23,7 @@ use pathkey::NoMemory;
 use std::alloc::Global;
 use volume::Volume;
 
-/// The volume that a delta with this digest and with these commands makes of a volume.
+/// Makes a new volume by applying a delta with this digest and these commands to a volume.
 pub(crate) fn make_of(
     alloc: Global,
     volume: &Volume,
@@ -42,7 +42,7 @@ pub(crate) fn make_of(
     }
 }
 
-// Whether the image of the volume's tree has a digest.
+// Whether the image of the volume's tree has this digest.
 fn is_of(alloc: Global, volume: &Volume, digest: &[u8; 32]) -> Result<bool, NoMemory>
     ensures { IfOk result (λ same. (w : World) → Means volume.now w → IsOfTree same digest.now w.live) }
 {
@@ -51,7 +51,7 @@ fn is_of(alloc: Global, volume: &Volume, digest: &[u8; 32]) -> Result<bool, NoMe
     Ok(found.as_slice() == digest.as_slice())
 }
 
-// The volume that commands make of a volume.
+// Makes a new volume by executing commands on the image of a volume.
 fn patch_volume(alloc: Global, volume: &Volume, commands: &[u8]) -> Result<Volume, DeltaFault>
     ensures ok { (w : World) → Means volume.now w → IfOk result (LoadsPatched commands.now w.live volume.now.live.indexes.meta.tree.shape) }
     ensures no_image { (w : World) → Means volume.now w → result ≡ Err DeltaFault.NoImage → PatchesNone commands.now w.live }
@@ -72,7 +72,7 @@ fn patch_volume(alloc: Global, volume: &Volume, commands: &[u8]) -> Result<Volum
     }
 }
 
-// The same, of the lines of a walk and into a loader that took nothing yet.
+// Executes the commands on the lines of a cursor, and loads the result into a new loader.
 fn patch_into(
     alloc: Global,
     commands: &[u8],
@@ -95,7 +95,7 @@ fn patch_into(
     }
 }
 
-// Why no image was loaded: it is none, or memory was refused.
+// The error for an image that was not loaded: it is not an image, or an allocation failed.
 fn fault_of(fault: LoadFault) -> DeltaFault
     ensures bad { (result ≡ DeltaFault.NoImage) ↔ ((n : ℕ) × (fault ≡ LoadFault.Bad n)) }
     ensures kind { (result ≡ DeltaFault.Memory) ⊎ (result ≡ DeltaFault.NoImage) }
@@ -106,7 +106,7 @@ fn fault_of(fault: LoadFault) -> DeltaFault
     }
 }
 
-// Does the commands of a delta, to its end.
+// Executes all commands of a delta.
 fn do_commands(
     alloc: Global,
     commands: &[u8],
@@ -130,7 +130,7 @@ fn do_commands(
     Ok(())
 }
 
-// Does the command that a line tells.
+// Executes the command of one line.
 fn do_command(
     alloc: Global,
     parsed: DeltaCommand,
@@ -151,7 +151,7 @@ fn do_command(
     }
 }
 
-// Takes so many lines of the walk.
+// Copies `count` lines of the cursor.
 fn keep_lines(
     alloc: Global,
     count: u64,
@@ -177,7 +177,7 @@ fn keep_lines(
     Ok(())
 }
 
-// Goes over so many lines of the walk.
+// Skips `count` lines of the cursor.
 fn pass_lines(alloc: Global, count: u64, walk: &mut LineCursor) -> Result<(), DeltaFault>
     ensures ok { OnOk result ((gone : List Line) × (length gone ≡ count) × Walks gone walk.old walk.new) }
     ensures no_image { (t : Tree) → MeanRooted walk.old.printing.tree t → result ≡ Err DeltaFault.NoImage → length (lines_from t walk.old) < count }
@@ -194,7 +194,7 @@ fn pass_lines(alloc: Global, count: u64, walk: &mut LineCursor) -> Result<(), De
     Ok(())
 }
 
-// Takes a line.
+// Feeds a line to the loader.
 fn add_line(alloc: Global, loader: &mut ImageLoader, line: &[u8]) -> Result<(), DeltaFault>
     ensures took { (s : Shape) (text : Text) → Took s text loader.old → OnOk result (Took s (text ++ (line.now ++ 10 ∷ [])) loader.new) }
     ensures spoilt { (s : Shape) (text : Text) → Took s text loader.old → result ≡ Err DeltaFault.NoImage → IsSpoilt (text ++ (line.now ++ 10 ∷ [])) }
@@ -206,7 +206,7 @@ fn add_line(alloc: Global, loader: &mut ImageLoader, line: &[u8]) -> Result<(), 
     add_piece(alloc, loader, b"\n")
 }
 
-// Takes a piece of text.
+// Feeds a piece of text to the loader.
 fn add_piece(alloc: Global, loader: &mut ImageLoader, piece: &[u8]) -> Result<(), DeltaFault>
     ensures took { (s : Shape) (text : Text) → Took s text loader.old → OnOk result (Took s (text ++ piece.now) loader.new) }
     ensures spoilt { (s : Shape) (text : Text) → Took s text loader.old → result ≡ Err DeltaFault.NoImage → IsSpoilt (text ++ piece.now) }

@@ -1,4 +1,5 @@
-//! Prints the difference of two trees that stand still, as a delta. Both images are printed side by side, and neither has to fit into memory.
+//! Prints the difference of two frozen trees as a delta. Both images are printed side by side, and neither has to fit into
+//! memory.
 ghost use Rattle.std.specs.Prelude.{◌≡◌, ◌<◌, ◌^◌, List, Err, IfOk, OnErr, OnOk};
 ghost use Rattle.reference.specs.Image.{Second, image};
 ghost use Rattle.reference.specs.Tree.{Tree};
@@ -20,8 +21,9 @@ use std::io::Write;
 use textio::output::put;
 use volume::Frozen;
 
-/// Prints the delta that makes the image of one tree of that of another, whose digest is given (`image_digest`). Where it fails, what was
-/// printed is a beginning of one. It is whole lines where memory is refused: a line that was begun can fail by the writer alone.
+/// Prints the delta that makes the image of the new tree from that of the old one, whose digest is given (`image_digest`). If
+/// it fails, a prefix of a delta was written. If an allocation failed, this prefix is whole lines: a line that was begun can
+/// only fail because the writer does.
 pub fn print_delta<W: Write>(
     alloc: Global,
     digest: &[u8; 32],
@@ -47,7 +49,7 @@ pub fn print_delta<W: Write>(
     parsed
 }
 
-// Writes a delta, by walks that stand at the first lines of both images.
+// Writes a delta. Both cursors are at the first lines of their images.
 fn put_delta<W: Write>(
     alloc: Global,
     digest: &[u8; 32],
@@ -65,7 +67,7 @@ fn put_delta<W: Write>(
     Ok(())
 }
 
-// Writes the commands for the lines from the places of both walks on.
+// Writes the commands for the lines from the positions of both cursors on.
 fn put_commands<W: Write>(
     alloc: Global,
     old: &mut LineCursor,
@@ -76,7 +78,7 @@ fn put_commands<W: Write>(
     ensures err { OnErr result (BeginsAll (W.contents writer.old) (W.contents writer.new) old.old new.old) }
     ensures memory { result ≡ Err PrintFault.Memory → PutsSome (W.contents writer.old) (W.contents writer.new) old.old new.old }
 {
-    // No image has more lines.
+    // No image has more lines than this.
     for _ in 0..u64::MAX {
         if are_at_end(old, new) {
             return Ok(());
@@ -86,7 +88,7 @@ fn put_commands<W: Write>(
     Err(PrintFault::Memory)
 }
 
-// Writes how many lines stay, how many go behind them, and which come behind these.
+// Writes how many lines are copied, how many are deleted after them, and which lines are then inserted.
 fn put_round<W: Write>(
     alloc: Global,
     old: &mut LineCursor,
@@ -104,7 +106,7 @@ fn put_round<W: Write>(
     put_coming(alloc, old, new, writer)
 }
 
-// Goes over the lines that both images have next: how many they are.
+// Skips the lines that both images have next. Returns their number.
 fn pass_same(alloc: Global, old: &mut LineCursor, new: &mut LineCursor) -> Result<u64, NoMemory>
     ensures patches { IfOk result (λ n. Patches (run Stay n) old.old new.old old.new new.new) }
     ensures fits { IfOk result (λ n. n < 2 ^ 64) }
@@ -119,7 +121,7 @@ fn pass_same(alloc: Global, old: &mut LineCursor, new: &mut LineCursor) -> Resul
     Ok(u64::MAX)
 }
 
-// Goes over the lines of the old image that go: how many they are.
+// Skips the lines of the old image that are deleted. Returns their number.
 fn pass_going(alloc: Global, old: &mut LineCursor, new: &LineCursor) -> Result<u64, NoMemory>
     ensures patches { IfOk result (λ n. Patches (run Go n) old.old new.now old.new new.now) }
     ensures fits { IfOk result (λ n. n < 2 ^ 64) }
@@ -133,7 +135,7 @@ fn pass_going(alloc: Global, old: &mut LineCursor, new: &LineCursor) -> Result<u
     Ok(u64::MAX)
 }
 
-// Writes the lines of the new image that come.
+// Writes the lines of the new image that are inserted.
 fn put_coming<W: Write>(
     alloc: Global,
     old: &LineCursor,
@@ -144,7 +146,7 @@ fn put_coming<W: Write>(
     ensures err { OnErr result (BeginsAll (W.contents writer.old) (W.contents writer.new) old.now new.old) }
     ensures memory { result ≡ Err PrintFault.Memory → PutsSome (W.contents writer.old) (W.contents writer.new) old.now new.old }
 {
-    // No image has more lines.
+    // No image has more lines than this.
     for _ in 0..u64::MAX {
         if !is_inserted(alloc, old, new) {
             return Ok(());

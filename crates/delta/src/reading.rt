@@ -1,4 +1,4 @@
-//! Reads a delta to its end, before anything is done by it: its digest and its commands, or the number of its first bad line.
+//! Parses a delta to its end before anything is changed: its digest and its commands, or the number of its first bad line.
 ghost use Rattle.std.specs.Prelude.{◌≡◌, ◌+◌, ◌<◌, ◌^◌, List, MatchOption, MatchResult, length};
 ghost use Rattle.delta.specs.Deltas.{Command};
 ghost use Rattle.delta.specs.Texts.{HasNoCommand, IsBadAt, IsNext, NoEnd, Passes, ReadsDelta, end_text};
@@ -7,7 +7,8 @@ use crate::command::{DeltaCommand, read_command};
 use crate::header::read_header;
 use textio::words::split_line;
 
-/// The digest that a delta tells, and the lines behind its first. A text that is no delta is refused by the number of its first bad line.
+/// Parses a delta. Returns its digest and the lines after the first. If the text is not a delta, fails with the number of its
+/// first bad line, counted from 1.
 pub fn read_delta(text: &[u8]) -> Result<([u8; 32], &[u8]), u64>
     ensures { MatchResult result (λ r. (cs : List Command) × ReadsDelta text.now r.0 r.1.now cs) (λ n. IsBadAt n text.now) }
 {
@@ -24,7 +25,7 @@ pub fn read_delta(text: &[u8]) -> Result<([u8; 32], &[u8]), u64>
     }
 }
 
-// What stands behind the commands with which a text begins, and the number of its line, where the text begins with the line 2.
+// Skips the commands at the start of a text whose first line has the number 2. Returns the rest, and the number of its line.
 fn pass_commands(text: &[u8]) -> (&[u8], u64)
     ensures passes { (cs : List Command) × Passes cs text.now result.0.now × (result.1 ≡ length cs + 2) }
     ensures last { HasNoCommand result.0.now }
@@ -39,7 +40,8 @@ fn pass_commands(text: &[u8]) -> (&[u8], u64)
     (rest, number)
 }
 
-/// The next line of a text, with the command that it tells, and the text behind it; none where no whole line that tells one is next.
+/// Splits the first line off a text, with its command, and returns the rest too. Returns `None` if the text does not begin
+/// with a complete line that is a command.
 pub(crate) fn next_command(text: &[u8]) -> Option<(&[u8], DeltaCommand, &[u8])>
     ensures { MatchOption result (HasNoCommand text.now) (λ next. IsNext text.now next.0.now next.1 next.2.now) }
 {
@@ -52,8 +54,8 @@ pub(crate) fn next_command(text: &[u8]) -> Option<(&[u8], DeltaCommand, &[u8])>
     }
 }
 
-// Whether a text that begins with no command is the end of a delta; where it is none, the number of the bad line. Its first line
-// has the number.
+// Checks that a text without a command at its start is the end of a delta. Fails with the number of the bad line. `number` is
+// that of the first line of the text.
 fn read_end(text: &[u8], number: u64) -> Result<(), u64>
     requires { number + 1 < 2 ^ 64 }
     ensures { MatchResult result (λ _. text.now ≡ end_text) (λ bad. NoEnd text.now number bad) }

@@ -1,8 +1,8 @@
-//! Each file call of a client by a name and an answer of its own, as a volume has them: a refusal is an `Err`, so that `?`
-//! serves.
+//! The file calls of a client, one method for each call. A reply of the call is `Ok`, and a fault is `Err`, so `?` works.
 //!
-//! Under the lock the volume's method of that name is asked. So no path is copied, and each answer tells its reply. A call is
-//! recorded once, as by `Client::call`; one that only looks is recorded at the moment 0, which changes no answer.
+//! Each method runs the volume's method of the same name under the lock. So no path is copied, and the type of the result
+//! says which reply the call has. As with `Client::call`, a call is recorded once. A call that only reads is recorded with
+//! the timestamp 0, which changes no reply.
 ghost use Rattle.reference.specs.Pairs.{pairs_of};
 ghost use Rattle.reference.specs.PathCalls.{call_at};
 ghost use Rattle.reference.specs.Worlds.{Ask, Replied};
@@ -18,7 +18,7 @@ use std::alloc::Global;
 use std::sync::Wait;
 
 impl<J: EngineId> Client<J> {
-    // Makes or removes what is at a path.
+    // Does one of the calls that create or remove an entry at a path.
     fn path_call<R: Wait>(
         &mut self,
         rt: &R,
@@ -40,7 +40,7 @@ impl<J: EngineId> Client<J> {
         )
     }
 
-    /// Makes an empty directory (POSIX.1-2017, mkdir).
+    /// Creates an empty directory (POSIX.1-2017, mkdir).
     pub fn mkdir<R: Wait>(
         &mut self,
         rt: &R,
@@ -53,7 +53,7 @@ impl<J: EngineId> Client<J> {
         self.path_call(rt, alloc, PathCall::Mkdir, path, at)
     }
 
-    /// Makes an empty file, where none stands (open with O_CREAT and O_EXCL, without a descriptor).
+    /// Creates an empty file if the path does not exist (open with O_CREAT and O_EXCL, without a descriptor).
     pub fn create<R: Wait>(
         &mut self,
         rt: &R,
@@ -66,7 +66,7 @@ impl<J: EngineId> Client<J> {
         self.path_call(rt, alloc, PathCall::Create, path, at)
     }
 
-    /// Lays the bytes over a file from the offset on, all of them or none (pwrite): how many they are.
+    /// Overwrites a file from the offset with all the bytes or with none (pwrite). Returns the number of bytes.
     pub fn write<R: Wait>(
         &mut self,
         rt: &R,
@@ -90,7 +90,7 @@ impl<J: EngineId> Client<J> {
         )
     }
 
-    /// Cuts a file to so many bytes, or lengthens it to them by zeros (truncate).
+    /// Truncates a file to the given length in bytes, or extends it to that length with zeros (truncate).
     pub fn truncate<R: Wait>(
         &mut self,
         rt: &R,
@@ -112,7 +112,7 @@ impl<J: EngineId> Client<J> {
         )
     }
 
-    /// Takes a file out (unlink).
+    /// Removes a file (unlink).
     pub fn unlink<R: Wait>(
         &mut self,
         rt: &R,
@@ -125,7 +125,7 @@ impl<J: EngineId> Client<J> {
         self.path_call(rt, alloc, PathCall::Unlink, path, at)
     }
 
-    /// Takes an empty directory out (rmdir).
+    /// Removes an empty directory (rmdir).
     pub fn rmdir<R: Wait>(
         &mut self,
         rt: &R,
@@ -138,7 +138,7 @@ impl<J: EngineId> Client<J> {
         self.path_call(rt, alloc, PathCall::Rmdir, path, at)
     }
 
-    /// Moves what stands at the first path to the second (rename).
+    /// Renames a file or directory from the first path to the second (rename).
     pub fn rename<R: Wait>(
         &mut self,
         rt: &R,
@@ -160,7 +160,7 @@ impl<J: EngineId> Client<J> {
         )
     }
 
-    /// Takes a file out, or a directory with all below it.
+    /// Removes a file, or a directory with everything below it.
     pub fn rmtree<R: Wait>(
         &mut self,
         rt: &R,
@@ -173,7 +173,7 @@ impl<J: EngineId> Client<J> {
         self.path_call(rt, alloc, PathCall::Rmtree, path, at)
     }
 
-    /// The bytes of a file from the offset on, at most `count` and none past its end (pread).
+    /// Returns the bytes of a file from the offset, at most `count` of them and none past its end (pread).
     pub fn read<R: Wait>(
         &mut self,
         rt: &R,
@@ -195,7 +195,7 @@ impl<J: EngineId> Client<J> {
         )
     }
 
-    /// What stands at a path, a file's length in bytes (0 for a directory), and the moment of its last change (stat).
+    /// Returns the kind of an entry, a file's length in bytes (0 for a directory), and its mtime (stat).
     pub fn stat<R: Wait>(
         &mut self,
         rt: &R,
@@ -207,7 +207,7 @@ impl<J: EngineId> Client<J> {
         self.record_call(rt, &StatOp { alloc, path })
     }
 
-    /// The entries of a directory: kind and name of each, in byte order of names (readdir).
+    /// Returns the kind and the name of each entry of a directory, in byte order of names (readdir).
     pub fn readdir<R: Wait>(
         &mut self,
         rt: &R,

@@ -1,4 +1,4 @@
-//! Which job a flusher takes, what is done with what it built, and the step that it does where it takes none.
+//! Chooses the job that a flusher takes, installs or cancels what it built, and does a tree step if it takes no job.
 ghost use Rattle.std.specs.Prelude.{◌≡◌, ◌↔◌, None};
 ghost use Rattle.reference.specs.Worlds.{World};
 ghost use Rattle.engine.specs.Takings.{Picks, Spares};
@@ -12,18 +12,17 @@ use crate::flusher::TurnReply;
 use std::alloc::Global;
 use volume::{Done, Index, InstallReply, TakeReply, Volume};
 
-/// A job is taken where it would move at least one in so many of the messages that a node may hold: for fewer a step is
-/// cheaper.
+/// A job is taken if it would move at least one eighth of the messages that a node may hold. For fewer, a step is cheaper.
 const MIN_JOB_SHARE: u16 = 8;
 
-/// Takes a job of the slot with this number of the index's root.
+/// Takes a job of the slot with the given index in the root of a tree.
 fn pick_at(volume: &mut Volume, alloc: Global, index: Index, slot: u8) -> TakeReply
     ensures { Picks result volume.old volume.new }
 {
     volume.take_job(alloc, index, slot)
 }
 
-/// Takes a job of the slot of the index's root of which it would move the most messages, if they are enough.
+/// Takes a job of the root slot of the index of which it would move the most messages, if these are enough.
 fn choose_in_index(volume: &mut Volume, alloc: Global, index: Index) -> TakeReply
     ensures { Picks result volume.old volume.new }
 {
@@ -36,7 +35,7 @@ fn choose_in_index(volume: &mut Volume, alloc: Global, index: Index) -> TakeRepl
     pick_at(volume, alloc, index, load.slot)
 }
 
-/// Takes a job that is worth it, of the index with more pending pieces or else of the other.
+/// Takes a job if one is worth it, from the index with more pending pieces, or else from the other.
 pub fn choose_job(volume: &mut Volume, alloc: Global) -> TakeReply
     ensures { Picks result volume.old volume.new }
 {
@@ -52,7 +51,7 @@ pub fn choose_job(volume: &mut Volume, alloc: Global) -> TakeReply
     }
 }
 
-/// Installs what was built, or cancels its job where memory is refused. `Stale` exactly where the job's mark is gone.
+/// Installs what was built, or cancels its job if an allocation fails. Returns `Stale` if and only if the job's mark is gone.
 pub fn install_or_cancel(volume: &mut Volume, done: Done) -> TurnReply
     requires { DoneFits done (live_of volume.old) }
     ensures puts { Puts done result volume.old volume.new }
@@ -71,7 +70,7 @@ pub fn install_or_cancel(volume: &mut Volume, done: Done) -> TurnReply
     }
 }
 
-/// Does one tree step in the index with more pending pieces; `Idle` exactly where nothing waits in either.
+/// Does one tree step in the index with more pending pieces. Returns `Idle` if and only if nothing is pending in either.
 pub fn compact_step(volume: &mut Volume, alloc: Global) -> TurnReply
     ensures relieves { Relieves result volume.old volume.new }
     ensures spares { Spares (live_of volume.old) (live_of volume.new) }

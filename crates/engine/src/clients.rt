@@ -1,4 +1,4 @@
-//! The clients of an engine: what its opening gives, and its end takes.
+//! The clients of an engine: `Engine::open` returns them, and `Engine::close` takes them back.
 ghost use Rattle.std.specs.Prelude.{◌≡◌, ◌++◌, ◌∷◌, [], take, drop, IfOk, IfErr, MatchOption, length, ◌≤◌, vec_capacity};
 ghost use Rattle.std.specs.Borrow.{Array, Lends, sem};
 ghost use Rattle.engine.specs.contracts.client.Client.{the_row as client_row};
@@ -8,14 +8,14 @@ use crate::client::Client;
 use crate::engine_rule::EngineId;
 use std::marker::Model;
 
-/// The clients of an engine, never more than it has. A contract sees what each knows, in their order.
+/// The clients of an engine, never more than it has. A contract sees what each of them knows, in order.
 pub struct Clients<J: EngineId> {
     list: Vec<Client<J>>,
-    /// How many clients the engine has.
+    /// The number of clients that the engine has.
     most: usize,
 }
 
-// Written out, as that of `pathkey::Key`.
+// Written out, as for `pathkey::Key`.
 impl<J: EngineId> Drop for Clients<J> {
     fn drop(self) {
         let Clients { list: _, most: _ } = self;
@@ -34,7 +34,7 @@ impl<J: EngineId> Model for Clients<J> {
 }
 
 impl<J: EngineId> Clients<J> {
-    /// These clients.
+    /// Creates the list from these clients.
     pub(crate) fn new(list: Vec<Client<J>>, most: usize) -> Clients<J>
         requires most { (most ≡ J.clients) × (length list.items ≤ most) × (most ≤ vec_capacity list) }
         ensures { result ≡ list.items }
@@ -42,7 +42,7 @@ impl<J: EngineId> Clients<J> {
         Clients { list, most }
     }
 
-    /// How many there are, at most as many as the engine has.
+    /// The number of clients in the list, at most as many as the engine has.
     pub fn len(&self) -> usize
         ensures count { result ≡ length self.now }
         ensures few { length self.now ≤ J.clients }
@@ -57,7 +57,7 @@ impl<J: EngineId> Clients<J> {
         self.list.as_slice()
     }
 
-    /// The clients, for threads that take one each. What the slice is left with stands in their place.
+    /// The clients, for threads that take one each. What the caller writes into the slice is stored in the list.
     pub fn as_mut_slice(&mut self) -> &mut [Client<J>]
         ensures* writes_back { sem 𝓛 (Lends (the_row J.row J.EngineId) (Array (client_row J.row J.EngineId) 0) self.entry result (λ w. take (length self.old) (w ++ drop (length w) self.old))) }
         ensures value { result.now ≡ self.old }
@@ -65,14 +65,14 @@ impl<J: EngineId> Clients<J> {
         self.list.as_mut_slice()
     }
 
-    /// Takes the last one; `None` where there is none.
+    /// Removes and returns the last client, or returns `None` if the list is empty.
     pub fn pop(&mut self) -> Option<Client<J>>
         ensures { MatchOption result ((self.old ≡ []) × (self.new ≡ [])) (λ client. self.old ≡ self.new ++ client ∷ []) }
     {
         self.list.pop()
     }
 
-    /// Puts a client behind the others. It comes back where there are as many as the engine has.
+    /// Appends a client. Returns the client as `Err` if the list already has as many as the engine.
     pub fn push(&mut self, client: Client<J>) -> Result<(), Client<J>>
         ensures ok { IfOk result (λ _. self.new ≡ self.old ++ client ∷ []) }
         ensures back { IfErr result (λ back. (back ≡ client) × (self.new ≡ self.old)) }
@@ -83,12 +83,12 @@ impl<J: EngineId> Clients<J> {
         }
         match self.list.push(client) {
             Ok(()) => Ok(()),
-            // Not met: there is room for as many clients as the engine has.
+            // Unreachable: the list has capacity for as many clients as the engine has.
             Err(refused) => Err(refused.value),
         }
     }
 
-    /// The clients alone.
+    /// The clients as a plain list.
     pub(crate) fn into_list(self) -> Vec<Client<J>>
         ensures { result.items ≡ self }
     {

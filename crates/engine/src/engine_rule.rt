@@ -1,4 +1,4 @@
-//! The table of an engine: its rule, the four kinds of step on its words, and how views are tied.
+//! The table of an engine: its rule, the four kinds of step on its words, and how views are split and joined.
 ghost use Rattle.std.specs.Prelude.{◌≡◌};
 ghost use Rattle.atomic_table.specs.Seated.{TableId};
 
@@ -14,13 +14,13 @@ pub trait EngineId {
     ghost use Rattle.std.specs.Prelude.{ℕ};
     ghost use Rattle.volume.specs.Volumes.{PVolume};
 
-    /// Its table.
+    /// The engine's table.
     ghost table: { TableId };
 
-    /// The volume that it was opened with.
+    /// The volume that the engine was opened with.
     ghost opening: { PVolume };
 
-    /// How many clients it has.
+    /// The number of its clients.
     ghost clients: { ℕ };
 }
 
@@ -34,7 +34,7 @@ impl EngineId for Brand {
     ghost clients = { 0 };
 }
 
-/// One call and its answer, for a proof.
+/// One call and its answer, for proofs.
 pub trait RecordedCall {
     ghost use Rattle.reference.specs.Worlds.{Event, Answer};
 
@@ -52,7 +52,7 @@ impl RecordedCall for Brand {
     ghost answer = { Settled (Ok tt) };
 }
 
-/// One job, for a proof.
+/// One job, for proofs.
 pub trait Taking {
     ghost use Rattle.volume.specs.declared.job.Job.{Job};
 
@@ -65,7 +65,7 @@ impl Taking for Brand {
     ghost job = { no_job };
 }
 
-/// The words are the numbers of calls and of takings.
+/// The rule of the table. Its two words count the calls and the taken jobs.
 pub struct EngineRule;
 
 impl TableRule<(), View, Volume> for EngineRule {
@@ -87,7 +87,7 @@ impl Play<(), View> for AnnounceStep {
     ghost then = { Announced };
 }
 
-/// The engine records the call of the client in hand.
+/// The engine records a call of the client whose seat is joined.
 pub struct RecordStep<E> {
     of: PhantomData<E>,
 }
@@ -98,7 +98,7 @@ impl<E: RecordedCall> Play<(), View> for RecordStep<E> {
     ghost then = { Recorded E.event E.answer };
 }
 
-/// The engine records a taking.
+/// The engine records that a job was taken.
 pub struct TakeStep<E> {
     of: PhantomData<E>,
 }
@@ -109,7 +109,7 @@ impl<E: Taking> Play<(), View> for TakeStep<E> {
     ghost then = { Took E.job };
 }
 
-/// A client or a flusher learns what it was told.
+/// A client or a flusher has seen what was reported to its seat.
 pub struct LearnStep;
 
 impl Play<(), View> for LearnStep {
@@ -118,7 +118,7 @@ impl Play<(), View> for LearnStep {
     ghost then = { Learned };
 }
 
-/// The engine's seat deals a client's.
+/// The engine's seat is split into itself and a new client's seat.
 pub struct SplitClientSeat;
 
 impl Split<View> for SplitClientSeat {
@@ -129,7 +129,7 @@ impl Split<View> for SplitClientSeat {
     ghost right = { new_guest };
 }
 
-/// A seat that has seen nothing leaves one for a flusher.
+/// A seat that has seen nothing is split into itself and a flusher's seat.
 pub struct SplitFlusherSeat;
 
 impl Split<View> for SplitFlusherSeat {
@@ -140,7 +140,7 @@ impl Split<View> for SplitFlusherSeat {
     ghost right = { new_watcher };
 }
 
-/// The engine's seat and another meet, and part again: then the other is told the history and the takings.
+/// The engine's seat is joined with another one and split again. The history and the takings are then reported to the other.
 pub struct SyncSeats;
 
 impl Split<View> for SyncSeats {
@@ -159,11 +159,11 @@ impl Join<View> for SyncSeats {
     ghost spent = { spent_view };
 }
 
-/// What threads share of the table.
+/// The part of the table that threads share.
 pub type SharedCounters = Shared<(), View, Volume, EngineRule>;
 
 /// The table.
 pub type CallTable = Table<(), View, Volume, EngineRule, Global>;
 
-/// A seat of it.
+/// A seat of the table.
 pub type Seat = TableSeat<(), View>;

@@ -17,7 +17,7 @@ use std::alloc::Global;
 use std::sync::{Mutex, Wait};
 use volume::{Done, Frozen, Job, TakeReply};
 
-/// The table and the lock. The desk is there from the opening of the engine to its end.
+/// The table and the lock. The locked state is present from the opening of the engine to its end.
 #[derive(Drop)]
 pub struct EngineShared<J: EngineId> {
     pub call_table: CallTable,
@@ -29,14 +29,14 @@ pub struct EngineShared<J: EngineId> {
 }
 
 impl<J: EngineId> EngineShared<J> {
-    /// What threads share of the table.
+    /// The part of the table that threads share.
     pub fn words(&self) -> &SharedCounters
         ensures { (result.now.table_id ≡ J.table) × (0 < J.table.words) × (1 < J.table.words) }
     {
         &self.call_table.shared
     }
 
-    /// Does what the client asks under the lock, and records it.
+    /// Does the client's operation under the lock, and records it.
     pub fn record_call<R: Wait, A: Operation>(
         &self,
         rt: &R,
@@ -52,14 +52,14 @@ impl<J: EngineId> EngineShared<J> {
         match &mut *guard {
             Some(state) => state.record_call(self.words(), client, execute),
             None => {
-                // Not met: an engine ends with all its clients, so none is left to ask.
+                // Unreachable: an engine ends with all its clients, so none is left to call this.
                 for _ in rt.forever() {}
                 unreachable!()
             }
         }
     }
 
-    /// Both clients see the history, under one hold of the lock.
+    /// Both clients see the history, in one critical section.
     pub fn sync_with<R: Wait>(&self, rt: &R, one: Seat, other: Seat) -> (Seat, Seat)
         requires one { IsClientSeat J.table J.opening one × (one.me.0.announced ≡ own one.me.0.client one.me.0.seen) }
         requires other { IsClientSeat J.table J.opening other × (other.me.0.announced ≡ own other.me.0.client other.me.0.seen) }
@@ -75,14 +75,14 @@ impl<J: EngineId> EngineShared<J> {
                 (one, other)
             }
             None => {
-                // Not met: an engine ends with all its clients, so none is left to ask.
+                // Unreachable: an engine ends with all its clients, so none is left to call this.
                 for _ in rt.forever() {}
                 unreachable!()
             }
         }
     }
 
-    /// The client sees the history, and takes the live tree that it leaves.
+    /// The client sees the history, and gets the live tree after it.
     pub fn freeze<R: Wait>(&self, rt: &R, client: Seat) -> (Seat, Result<Frozen, NoMemory>)
         requires client { IsClientSeat J.table J.opening client }
         requires announced { client.me.0.announced ≡ own client.me.0.client client.me.0.seen }
@@ -97,14 +97,14 @@ impl<J: EngineId> EngineShared<J> {
                 (client, state.freeze())
             }
             None => {
-                // Not met: an engine ends with all its clients, so none is left to ask.
+                // Unreachable: an engine ends with all its clients, so none is left to call this.
                 for _ in rt.forever() {}
                 unreachable!()
             }
         }
     }
 
-    /// The client sees the history, and takes the tree of a snapshot that it leaves.
+    /// The client sees the history, and gets the tree of a snapshot after it.
     pub fn frozen<R: Wait>(
         &self,
         rt: &R,
@@ -124,14 +124,14 @@ impl<J: EngineId> EngineShared<J> {
                 (client, state.frozen(name))
             }
             None => {
-                // Not met: an engine ends with all its clients, so none is left to ask.
+                // Unreachable: an engine ends with all its clients, so none is left to call this.
                 for _ in rt.forever() {}
                 unreachable!()
             }
         }
     }
 
-    /// A flusher's turn: it takes a job, builds it and installs it, or does one tree step where none is taken.
+    /// Runs one turn of a flusher: takes a job, builds it and installs it, or does one tree step if no job is taken.
     pub fn run_turn<R: Wait, B: Between>(
         &self,
         rt: &R,
@@ -155,8 +155,8 @@ impl<J: EngineId> EngineShared<J> {
         }
     }
 
-    /// Builds the job that the flusher took, without the lock, and installs what was built. Where memory is refused the job is
-    /// cancelled. What the install replaced is let go without the lock too.
+    /// Builds the job that the flusher took, without the lock, and installs what was built. If an allocation fails, the job
+    /// is cancelled. What the install replaced is dropped without the lock too.
     fn build_and_install<R: Wait, B: Between>(
         &self,
         rt: &R,
@@ -171,8 +171,9 @@ impl<J: EngineId> EngineShared<J> {
         ensures watches { Watches J.opening (watched flusher.me.0) (watched result.0.me.0) }
         ensures finishes { Finishes J.opening job result.1 (watched flusher.me.0) (watched result.0.me.0) }
     {
-        // One more owner of the child whose place the built subtree takes. It is let go at the end, behind the lock: so what
-        // that subtree does not share is freed here, while others have the lock, and not by the install.
+        // Another reference to the child that the built subtree replaces. It is dropped at the end of this function, after
+        // the lock is released. So the nodes that the new subtree does not share are freed here, while others can take the
+        // lock, and not by the install.
         let _old = job.subtree();
         match between.build(alloc, job) {
             Ok(done) => {
@@ -186,7 +187,7 @@ impl<J: EngineId> EngineShared<J> {
         }
     }
 
-    /// The flusher takes a job under the lock, if one can be taken, and sees it among the takings.
+    /// Takes a job for the flusher under the lock, if one can be taken. The flusher sees it among the takings.
     fn take_and_record<R: Wait>(&self, rt: &R, alloc: Global, flusher: Seat) -> (Seat, TakeReply)
         requires flusher { IsFlusherSeat J.table J.opening flusher × LegalFrom J.opening flusher.me.0.seen }
         ensures flusher { IsFlusherSeat J.table J.opening result.0 }
@@ -202,7 +203,7 @@ impl<J: EngineId> EngineShared<J> {
         }
     }
 
-    /// Installs under the lock what was built of a job that the flusher saw taken; `Stale` where the engine has ended.
+    /// Installs under the lock what was built of a job that the flusher saw taken. Returns `Stale` if the engine has ended.
     fn install<R: Wait>(&self, rt: &R, flusher: Seat, done: Done) -> (Seat, TurnReply)
         requires flusher { IsFlusherSeat J.table J.opening flusher × LegalFrom J.opening flusher.me.0.seen }
         requires built { BuiltOf flusher.me.0.seen_takings done }
@@ -217,7 +218,7 @@ impl<J: EngineId> EngineShared<J> {
         }
     }
 
-    /// Cancels a job under the lock; nothing where the engine has ended.
+    /// Cancels a job under the lock. Does nothing if the engine has ended.
     fn cancel<R: Wait>(&self, rt: &R, flusher: Seat, ticket: Ticket) -> Seat
         requires flusher { IsFlusherSeat J.table J.opening flusher × LegalFrom J.opening flusher.me.0.seen }
         ensures flusher { IsFlusherSeat J.table J.opening result }
@@ -231,7 +232,7 @@ impl<J: EngineId> EngineShared<J> {
         }
     }
 
-    /// The flusher sees the history, and does one tree step; nothing where the engine has ended.
+    /// The flusher sees the history, and does one tree step. Does nothing and returns `Idle` if the engine has ended.
     fn step<R: Wait>(&self, rt: &R, alloc: Global, flusher: Seat) -> (Seat, TurnReply)
         requires flusher { IsFlusherSeat J.table J.opening flusher × LegalFrom J.opening flusher.me.0.seen }
         ensures flusher { IsFlusherSeat J.table J.opening result.0 }

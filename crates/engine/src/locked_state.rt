@@ -1,4 +1,4 @@
-//! What lies under the lock: the volume, and the engine's seat, which has the history.
+//! What the lock protects: the volume, and the engine's seat, which has the history.
 ghost use Rattle.std.specs.Prelude.{◌≡◌, [], ◌∷◌, ◌++◌, ◌<◌, length, ◌%◌, ◌^◌, IfOk};
 ghost use Rattle.engine.specs.Histories.{entry, LegalFrom, AllBelow, StartsWith, own};
 ghost use Rattle.engine.specs.Seats.{IsEngineSeat, IsClientSeat, IsFlusherSeat, Shows, Makes, Looks};
@@ -24,7 +24,7 @@ use volume::{Done, Frozen, TakeReply, Volume};
 #[derive(Drop)]
 pub struct LockedState<J: EngineId> {
     volume: Volume,
-    /// How many calls were recorded, modulo 2^64.
+    /// The number of recorded calls, modulo 2^64.
     count: u64,
     seat: Seat,
     of: PhantomData<J>,
@@ -73,7 +73,7 @@ fn take_recorded<J: EngineId>(
 }
 
 impl<J: EngineId> LockedState<J> {
-    /// The desk of an engine of which nothing was asked. It cancels the marks that stand.
+    /// The locked state of an engine without any recorded call. Marks that exist in the volume are cancelled.
     pub fn new(mut volume: Volume, seat: Seat) -> LockedState<J>
         requires seat { IsEngineSeat J.table J.opening seat × (seat.me.0.history ≡ []) × (seat.me.0.takings ≡ []) }
         requires volume { (volume ≡ J.opening) × IsVolume J.opening }
@@ -88,7 +88,7 @@ impl<J: EngineId> LockedState<J> {
         }
     }
 
-    /// Does what the client asks and records it.
+    /// Does the client's operation and records it.
     pub fn record_call<A: Operation>(
         &mut self,
         words: &SharedCounters,
@@ -125,14 +125,14 @@ impl<J: EngineId> LockedState<J> {
         client
     }
 
-    /// The live tree, as the history leaves it.
+    /// Returns the live tree after the history.
     pub fn freeze(&self) -> Result<Frozen, NoMemory>
         ensures { IfOk result (λ f. Shows J.opening self.now f) }
     {
         self.volume.freeze()
     }
 
-    /// The tree of a snapshot, as the history leaves it.
+    /// Returns the tree of a snapshot after the history.
     pub fn frozen(&self, name: &SnapName) -> Result<Frozen, Errno>
         ensures { FindsAfter J.opening self.now name.now result }
     {
@@ -160,7 +160,7 @@ impl<J: EngineId> LockedState<J> {
         (flusher, reply)
     }
 
-    /// The flusher sees the history and the takings, of which the last is the job that it takes, if one can be taken.
+    /// Takes a job, if one can be taken. The flusher sees the history and the takings, of which the last is this job.
     pub fn take_and_record(
         &mut self,
         alloc: Global,
@@ -204,7 +204,7 @@ impl<J: EngineId> LockedState<J> {
         (flusher, reply)
     }
 
-    /// The flusher sees the history, and the job with the ticket is not to be installed: its mark goes.
+    /// The flusher sees the history, and the job with the ticket is cancelled: its mark is removed.
     pub fn cancel(&mut self, words: &SharedCounters, flusher: Seat, ticket: Ticket) -> Seat
         requires words { (words.now.table_id ≡ J.table) × (0 < J.table.words) }
         requires flusher { IsFlusherSeat J.table J.opening flusher }
@@ -220,7 +220,7 @@ impl<J: EngineId> LockedState<J> {
         flusher
     }
 
-    /// How many calls there are, modulo 2^64.
+    /// The number of recorded calls, modulo 2^64.
     pub fn count(&self) -> u64
         ensures count { result ≡ length self.now % 2 ^ 64 }
         ensures history { LegalFrom J.opening self.now × AllBelow J.clients self.now }

@@ -1,4 +1,4 @@
-//! What a client asks of the volume under the lock, and records.
+//! The operations that a client does on the volume under the lock, and that are recorded.
 ghost use Rattle.engine.specs.Takings.{Spares};
 ghost use Rattle.volume.specs.Changes.{Leads};
 ghost use Rattle.volume.specs.Volumes.{live_of};
@@ -8,27 +8,28 @@ use reference::{Call, Reply};
 use std::alloc::Global;
 use volume::Volume;
 
-/// A call that is recorded, whatever it answers. Contracts see it and its answer as those of a history.
+/// An operation that is recorded, whatever its reply. Contracts see it and its reply as the event and the answer of a
+/// history.
 pub trait Operation {
     ghost use Rattle.reference.specs.Worlds.{Event, Answer};
 
-    /// What the volume answers.
+    /// The reply of the volume.
     type Reply: Drop;
 
-    /// The call.
+    /// The event of the history.
     ghost event: { Self → Event };
 
-    /// The answer.
+    /// The answer of the history.
     ghost answer: { Self.Reply → Answer };
 
-    /// Does it. The answer fits each world that the volume meant, and the volume then means the next one. The marks that then
-    /// stand stood before, and have the content that they had.
+    /// Does the operation. The answer is legal in each world that the volume abstracted to, and the volume then abstracts to
+    /// the next world. Every mark that exists afterwards existed before, and its slot has the same content.
     fn execute(&self, volume: &mut Volume) -> Self::Reply
         ensures leads { Leads (event self.now) (answer result) volume.old volume.new }
         ensures spares { Spares (live_of volume.old) (live_of volume.new) };
 }
 
-/// A file call at a moment.
+/// A file call with a timestamp.
 #[derive(Drop)]
 pub struct FileCall<'a> {
     pub alloc: Global,
@@ -50,7 +51,7 @@ impl<'a> Operation for FileCall<'a> {
     }
 }
 
-/// The live tree is kept under a name.
+/// Takes a snapshot of the live tree under a name.
 #[derive(Drop)]
 pub struct SnapshotOp<'a> {
     pub alloc: Global,
@@ -71,7 +72,7 @@ impl<'a> Operation for SnapshotOp<'a> {
     }
 }
 
-/// The snapshot of a name goes.
+/// Removes the snapshot of a name.
 #[derive(Drop)]
 pub struct DropSnapshotOp<'a> {
     pub name: &'a SnapName,
@@ -91,7 +92,7 @@ impl<'a> Operation for DropSnapshotOp<'a> {
     }
 }
 
-/// The live tree becomes that of a snapshot.
+/// Replaces the live tree by that of a snapshot.
 #[derive(Drop)]
 pub struct RestoreOp<'a> {
     pub name: &'a SnapName,

@@ -1,5 +1,5 @@
-//! What a client asks of the volume by the methods of its calls: one struct for all calls that make or remove what is at a path,
-//! and one for each other call.
+//! The operations of the typed file calls: one struct for all calls that create or remove an entry at a path, and one for
+//! each other call.
 
 use crate::operation::Operation;
 use pathkey::{Errno, Path};
@@ -7,7 +7,7 @@ use reference::{Kind, PathCall};
 use std::alloc::Global;
 use volume::Volume;
 
-/// What is at one path is made or removed, at a timestamp.
+/// Creates or removes the entry at a path, with a timestamp.
 #[derive(Drop)]
 pub struct PathOp<'a> {
     pub alloc: Global,
@@ -33,7 +33,7 @@ impl<'a> Operation for PathOp<'a> {
     }
 }
 
-/// A file is cut or lengthened, at a timestamp.
+/// Truncates or extends a file, with a timestamp.
 #[derive(Drop)]
 pub struct TruncateOp<'a> {
     pub alloc: Global,
@@ -59,7 +59,7 @@ impl<'a> Operation for TruncateOp<'a> {
     }
 }
 
-/// What stands at one path is moved to another, at a moment.
+/// Renames an entry, with a timestamp.
 #[derive(Drop)]
 pub struct RenameOp<'a> {
     pub alloc: Global,
@@ -85,7 +85,7 @@ impl<'a> Operation for RenameOp<'a> {
     }
 }
 
-/// Bytes are laid over a file, at a moment.
+/// Writes bytes to a file, with a timestamp.
 #[derive(Drop)]
 pub struct WriteOp<'a> {
     pub alloc: Global,
@@ -112,7 +112,7 @@ impl<'a> Operation for WriteOp<'a> {
     }
 }
 
-/// Bytes of a file are read.
+/// Reads bytes of a file.
 #[derive(Drop)]
 pub struct ReadOp<'a> {
     pub alloc: Global,
@@ -138,7 +138,7 @@ impl<'a> Operation for ReadOp<'a> {
     }
 }
 
-/// What stands at a path is looked up.
+/// Looks up the entry at a path.
 #[derive(Drop)]
 pub struct StatOp<'a> {
     pub alloc: Global,
@@ -162,7 +162,7 @@ impl<'a> Operation for StatOp<'a> {
     }
 }
 
-/// The entries of a directory are listed.
+/// Lists the entries of a directory.
 #[derive(Drop)]
 pub struct ReaddirOp<'a> {
     pub alloc: Global,

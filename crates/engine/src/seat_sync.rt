@@ -1,4 +1,4 @@
-//! The steps on the table's words, and the ties of seats between them.
+//! The steps on the table's words, and the synchronisation of seats between them.
 ghost use Rattle.std.specs.Prelude.{◌≡◌, [], ◌∷◌, ◌++◌, ◌+◌, ◌%◌, ◌^◌, ◌<◌, ◌≤◌, length, true};
 ghost use Rattle.engine.specs.Histories.{entry, LegalFrom, FitsAfter, StartsWith, own};
 ghost use Rattle.engine.specs.Clients.{Watches, watched};
@@ -15,7 +15,7 @@ use crate::operation::Operation;
 use std::marker::Brand;
 use volume::Job;
 
-/// The client's seat is told the history of the engine's.
+/// Reports the history and the takings of the engine's seat to the client's seat.
 pub fn sync_client<J: EngineId>(words: &SharedCounters, engine: &mut Seat, client: Seat) -> Seat
     requires words { (words.now.table_id ≡ J.table) × (0 < J.table.words) }
     requires engine { IsEngineSeat J.table J.opening engine.old }
@@ -28,7 +28,7 @@ pub fn sync_client<J: EngineId>(words: &SharedCounters, engine: &mut Seat, clien
     words.split_seat::<SyncSeats>(engine)
 }
 
-/// The flusher's seat is told the history of the engine's.
+/// Reports the history and the takings of the engine's seat to the flusher's seat.
 pub fn sync_flusher<J: EngineId>(words: &SharedCounters, engine: &mut Seat, flusher: Seat) -> Seat
     requires words { (words.now.table_id ≡ J.table) × (0 < J.table.words) }
     requires engine { IsEngineSeat J.table J.opening engine.old }
@@ -40,7 +40,7 @@ pub fn sync_flusher<J: EngineId>(words: &SharedCounters, engine: &mut Seat, flus
     words.split_seat::<SyncSeats>(engine)
 }
 
-/// The client announces one call more.
+/// The client announces one more call.
 pub fn announce<J: EngineId>(words: &SharedCounters, client: &mut Seat)
     requires words { (words.now.table_id ≡ J.table) × (0 < J.table.words) }
     requires client { IsClientSeat J.table J.opening client.old }
@@ -51,7 +51,7 @@ pub fn announce<J: EngineId>(words: &SharedCounters, client: &mut Seat)
     words.load::<AnnounceStep>(client, 0);
 }
 
-/// The client in hand made this call. Answers how many calls there are now, modulo 2^64.
+/// Records that the client whose seat is joined made this call. Returns the number of calls, modulo 2^64.
 fn record<E: RecordedCall, A: Operation>(
     words: &SharedCounters,
     seat: &mut Seat,
@@ -71,7 +71,7 @@ fn record<E: RecordedCall, A: Operation>(
     words.fetch_add::<RecordStep<E>>(seat, 0, 1).wrapping_add(1)
 }
 
-/// The engine took this job.
+/// Records that this job was taken.
 fn record_take<E: Taking>(words: &SharedCounters, seat: &mut Seat, job: &Job)
     requires taking { E.job ≡ job.now }
     requires words { (seat.old.table_id ≡ words.now.table_id) × (1 < words.now.table_id.words) }
@@ -83,7 +83,7 @@ fn record_take<E: Taking>(words: &SharedCounters, seat: &mut Seat, job: &Job)
     words.fetch_add::<TakeStep<E>>(seat, 1, 1);
 }
 
-/// The engine's seat records that this job was taken, under a ticket that no other taking has.
+/// Records in the engine's seat that this job was taken, under a ticket that no other taking has.
 pub fn record_taken_job<J: EngineId>(words: &SharedCounters, engine: &mut Seat, job: &Job)
     requires words { (words.now.table_id ≡ J.table) × (1 < J.table.words) }
     requires engine { IsEngineSeat J.table J.opening engine.old }
@@ -95,7 +95,7 @@ pub fn record_taken_job<J: EngineId>(words: &SharedCounters, engine: &mut Seat, 
     record_take::<Brand>(words, engine, job);
 }
 
-/// The client sees what it was told.
+/// The client sees what was reported to its seat.
 pub fn learn<J: EngineId>(words: &SharedCounters, client: &mut Seat)
     requires words { (words.now.table_id ≡ J.table) × (0 < J.table.words) }
     requires client { IsClientSeat J.table J.opening client.old }
@@ -107,7 +107,7 @@ pub fn learn<J: EngineId>(words: &SharedCounters, client: &mut Seat)
     words.load::<LearnStep>(client, 0);
 }
 
-/// The flusher sees what it was told.
+/// The flusher sees what was reported to its seat.
 pub fn learn_flusher<J: EngineId>(words: &SharedCounters, flusher: &mut Seat)
     requires words { (words.now.table_id ≡ J.table) × (0 < J.table.words) }
     requires flusher { IsFlusherSeat J.table J.opening flusher.old }
@@ -136,8 +136,8 @@ pub fn sync_takings<J: EngineId>(words: &SharedCounters, engine: &mut Seat, flus
     flusher
 }
 
-/// Both seats record the call, whose answer fits the history, and the client sees it. Answers how many calls there are
-/// now, modulo 2^64.
+/// Records the call, whose answer is legal after the history, and the client sees it. Returns the number of calls, modulo
+/// 2^64.
 pub fn record_call<J: EngineId, A: Operation>(
     words: &SharedCounters,
     engine: &mut Seat,
@@ -167,7 +167,7 @@ pub fn record_call<J: EngineId, A: Operation>(
     (client, count)
 }
 
-/// The engine's seat deals a further client's.
+/// Splits a new client's seat from the engine's seat.
 pub fn new_client_seat<J: EngineId>(words: &SharedCounters, engine: &mut Seat) -> Seat
     requires words { (words.now.table_id ≡ J.table) × (0 < J.table.words) }
     requires engine { (engine.old.table_id ≡ J.table) × (engine.old.me ≡ (keeper J.opening engine.old.me.0.dealt [] [], [])) }
@@ -177,7 +177,7 @@ pub fn new_client_seat<J: EngineId>(words: &SharedCounters, engine: &mut Seat) -
     words.split_seat::<SplitClientSeat>(engine)
 }
 
-/// The engine's seat, while nothing was called, leaves a first one for flushers.
+/// Splits a first seat for flushers from the engine's seat, while no call is recorded.
 pub fn first_flusher_seat<J: EngineId>(words: &SharedCounters, engine: &mut Seat) -> Seat
     requires words { (words.now.table_id ≡ J.table) × (0 < J.table.words) }
     requires engine { (engine.old.table_id ≡ J.table) × (engine.old.me ≡ (keeper J.opening engine.old.me.0.dealt [] [], [])) }
@@ -187,7 +187,7 @@ pub fn first_flusher_seat<J: EngineId>(words: &SharedCounters, engine: &mut Seat
     words.split_seat::<SplitFlusherSeat>(engine)
 }
 
-/// A flusher's seat that has seen nothing leaves another one.
+/// Splits another flusher's seat from one that has seen nothing.
 pub fn new_flusher_seat<J: EngineId>(words: &SharedCounters, spare: &mut Seat) -> Seat
     requires words { (words.now.table_id ≡ J.table) × (0 < J.table.words) }
     requires spare { (spare.old.table_id ≡ J.table) × (spare.old.me ≡ (watcher J.opening [] [] [] [], [])) }

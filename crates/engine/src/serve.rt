@@ -1,4 +1,4 @@
-//! A room that clients serve, each in a thread of its own, beside flushers: an engine from its opening to its end.
+//! An engine from its opening to its end, with each client in a thread of its own, and with flushers in further threads.
 ghost use Rattle.std.specs.Prelude.{◌≡◌, ◌≤◌, IfOk, IfErr};
 ghost use Rattle.engine.specs.Clients.{newcomer, fresh};
 ghost use Rattle.engine.specs.Ends.{Worked, Served, GivesVolume};
@@ -15,17 +15,17 @@ use std::sync::atomic::{AtomicBool, Ordering};
 use std::thread::{Scope, Threads, for_each_mut, scope, scope_env};
 use volume::Volume;
 
-/// What each client of an engine does. All of them share it, so what they answer goes into atomics or locks of it.
+/// What each client of an engine does. All clients share the task, so its results go into atomics or locks of it.
 pub trait ClientTask {
     ghost use Rattle.std.specs.Prelude.{⊤};
     ghost use Rattle.engine.specs.Clients.{Known};
     ghost use Rattle.volume.specs.Volumes.{PVolume};
 
-    /// What it does to a client of an engine over this volume: what the client knows before it and after it. `EngineBuilder::serve`
-    /// promises it of each client. A work that gives none says nothing.
+    /// What the task does to a client of an engine over this volume: a relation between what the client knows before and
+    /// after it. `EngineBuilder::serve` promises it for each client. The default is true of everything.
     ghost does: { Self → PVolume → Known → Known → Type 0 } = { λ _ _ _ _. ⊤ };
 
-    /// Does it by this client, which has this number and has seen nothing.
+    /// Runs the task with this client, which has this number and has seen nothing.
     fn run<J: EngineId, R: Wait>(
         &self,
         rt: &R,
@@ -40,19 +40,19 @@ pub trait ClientTask {
 /// Why there is no report.
 #[derive(Drop)]
 pub enum ServeFault {
-    /// Memory was refused before any client worked. The volume is as it was.
+    /// An allocation failed before any client ran. The volume is unchanged.
     NotOpened(Volume),
-    /// All clients have worked, and a further owner of the tree's nodes was refused. The volume is lost.
+    /// All clients have run, but another reference to the tree's nodes could not be taken. The volume is lost.
     NotClosed,
 }
 
 impl EngineBuilder {
-    /// Opens an engine with so many clients, of which each does the work once, at once in as many threads as there can be. So
-    /// many flushers make turns meanwhile, in threads of their own; one for which there is no thread or no memory is left out.
-    /// Then the engine is closed. All threads have ended when it returns.
+    /// Opens an engine with the given number of clients and runs the task once for each of them, in as many threads at the
+    /// same time as there can be. Meanwhile the given number of flushers run turns in threads of their own. A flusher is left
+    /// out if its thread or an allocation fails. Then the engine is closed. All threads have ended when it returns.
     ///
-    /// Each client did the work once, from when it had seen nothing on. One legal history begins with all that the clients then
-    /// have seen, and has just their calls. The report's tree is the live one that it leaves.
+    /// Each client ran the task once, and had seen nothing before. One legal history extends all that the clients have then
+    /// seen, and has exactly their calls. The report's tree is the live tree after it.
     pub fn serve<W: ClientTask + Sync, R: Threads + Wait + Sync>(
         self,
         rt: &R,
@@ -69,7 +69,7 @@ impl EngineBuilder {
     }
 }
 
-/// Opens an engine that has a name, lets its clients work beside flushers, and closes it.
+/// Opens an engine that has a name, runs its clients beside flushers, and closes it.
 fn serve_in<J: EngineId + Send + Sync, W: ClientTask + Sync, R: Threads + Wait + Sync>(
     rt: &R,
     alloc: Global,
@@ -89,7 +89,7 @@ fn serve_in<J: EngineId + Send + Sync, W: ClientTask + Sync, R: Threads + Wait +
     }
 }
 
-/// The clients work beside flushers, and then the engine ends.
+/// Runs the clients beside flushers, and then ends the engine.
 fn work_and_end<J: EngineId + Send + Sync, W: ClientTask + Sync, R: Threads + Wait + Sync>(
     rt: &R,
     alloc: Global,
@@ -107,12 +107,12 @@ fn work_and_end<J: EngineId + Send + Sync, W: ClientTask + Sync, R: Threads + Wa
     let worked = work_beside(rt, alloc, clients, staff, run);
     match engine.close(rt, worked) {
         Ok(report) => Ok(report),
-        // Memory was refused: no client is missing.
+        // No client is missing, so a reference to the tree could not be taken.
         Err(_) => Err(ServeFault::NotClosed),
     }
 }
 
-/// So many flushers, without those for which there is no memory.
+/// Creates the given number of flushers, without those for which an allocation fails.
 fn new_flushers<J: EngineId>(alloc: Global, engine: &mut Engine<J>, count: u8) -> Vec<Flusher<J>>
     ensures { engine.new ≡ engine.old }
 {
@@ -123,7 +123,7 @@ fn new_flushers<J: EngineId>(alloc: Global, engine: &mut Engine<J>, count: u8) -
     staff
 }
 
-/// One flusher more, if there is memory for it.
+/// Adds one flusher, unless an allocation fails.
 fn hire_into<J: EngineId>(engine: &mut Engine<J>, staff: &mut Vec<Flusher<J>>)
     ensures { engine.new ≡ engine.old }
 {
@@ -132,7 +132,7 @@ fn hire_into<J: EngineId>(engine: &mut Engine<J>, staff: &mut Vec<Flusher<J>>)
     }
 }
 
-/// The clients work, while the flushers make turns.
+/// Runs the clients, while the flushers run turns.
 fn work_beside<J: EngineId + Send + Sync, W: ClientTask + Sync, R: Threads + Wait + Sync>(
     rt: &R,
     alloc: Global,
@@ -153,7 +153,7 @@ fn work_beside<J: EngineId + Send + Sync, W: ClientTask + Sync, R: Threads + Wai
     )
 }
 
-/// The flushers start, the clients work, and then the flushers are told that they are done.
+/// Starts the flushers, runs the clients, and then tells the flushers to stop.
 fn work_in<'s, E, J: EngineId + Send + Sync + 's, W: ClientTask + Sync, R: Threads + Wait + Sync>(
     scope: &Scope<'s, E>,
     rt: &'s R,
@@ -174,7 +174,7 @@ fn work_in<'s, E, J: EngineId + Send + Sync + 's, W: ClientTask + Sync, R: Threa
     clients
 }
 
-/// Starts a flusher in a thread of its own, if there is one.
+/// Starts a flusher in a thread of its own, if a thread can be started.
 fn start<'s, E, J: EngineId + Send + Sync + 's, R: Wait + Sync>(
     scope: &Scope<'s, E>,
     rt: &'s R,
@@ -185,14 +185,14 @@ fn start<'s, E, J: EngineId + Send + Sync + 's, R: Wait + Sync>(
     let _ = scope.spawn(move || flush(rt, alloc, flusher, is_done));
 }
 
-/// Turns until the clients are done.
+/// Runs turns until the clients are done.
 fn flush<J: EngineId, R: Wait>(
     rt: &R,
     alloc: Global,
     mut flusher: Flusher<J>,
     is_done: &AtomicBool,
 ) {
-    // No work lasts for so many turns.
+    // A task never lasts for this many turns.
     for _ in 0..u64::MAX {
         if is_done.load(Ordering::SeqCst) {
             return;
@@ -201,7 +201,7 @@ fn flush<J: EngineId, R: Wait>(
     }
 }
 
-/// The clients work, each in a thread of its own.
+/// Runs the clients, each in a thread of its own.
 fn work_all<J: EngineId + Send + Sync, W: ClientTask + Sync, R: Threads + Wait + Sync>(
     rt: &R,
     alloc: Global,
@@ -211,7 +211,7 @@ fn work_all<J: EngineId + Send + Sync, W: ClientTask + Sync, R: Threads + Wait +
     requires { clients.old ≡ fresh J.clients }
     ensures { Worked (W.does run.now J.opening) J.clients clients.new }
 {
-    // There is one client at least: the bound stands for the checker.
+    // There is at least one client. The bound is written out for the checker.
     let count = clients.len().max(1);
     for_each_mut(
         rt,

@@ -1,4 +1,4 @@
-//! Entries that are taken from a tree ahead of the lines that tell them.
+//! Read-ahead of a tree's entries, before their lines are printed.
 ghost use Rattle.std.specs.Prelude.{◌≡◌, IfOk, OnOk, [], true};
 ghost use Rattle.pathkey.specs.Names.{Path};
 ghost use Rattle.reference.specs.Tree.{Tree};
@@ -13,20 +13,20 @@ use std::alloc::Global;
 use std::collections::VecDeque;
 use volume::Frozen;
 
-/// How many entries are taken at once. The first of them is told already.
+/// The number of entries that are read at once. The line of the first of them has been printed already.
 const PIECE: usize = 256;
 
-/// The entries behind one that is told, as far as they were taken.
+/// The entries after the last printed one, as far as they were read.
 #[derive(Drop)]
 pub(crate) struct EntryReadahead {
-    /// They stand in key order, each with its path.
+    /// The entries in key order, each with its path.
     pub(crate) entries: VecDeque<(Path, Meta)>,
-    /// Whether no other entry is left.
+    /// Whether there are no further entries in the tree.
     pub(crate) all: bool,
 }
 
 impl EntryReadahead {
-    /// None was taken.
+    /// Creates a read-ahead without entries.
     pub(crate) fn new(alloc: Global) -> EntryReadahead
         ensures { (t : Tree) (last : Path) → IsAhead t last result }
     {
@@ -36,7 +36,7 @@ impl EntryReadahead {
         }
     }
 
-    /// Lets go what was taken.
+    /// Drops the entries that were read.
     pub(crate) fn clear(&mut self)
         ensures { (t : Tree) (last : Path) → IsAhead t last self.new }
     {
@@ -44,7 +44,8 @@ impl EntryReadahead {
         self.all = false;
     }
 
-    /// The entry behind the one at this path, with its path; none where that is the last.
+    /// Returns the entry after the one at this path, with its path, or `None` if that was the last. Fails only if an
+    /// allocation fails.
     pub(crate) fn next(
         &mut self,
         alloc: Global,
@@ -57,7 +58,7 @@ impl EntryReadahead {
         Ok(self.entries.pop_front())
     }
 
-    /// Takes entries behind the one at this path, where none is at hand.
+    /// Reads entries after the one at this path, unless there are some already.
     fn fill(&mut self, alloc: Global, frozen: &Frozen, last: &Path) -> Result<(), NoMemory>
         ensures ahead { OnOk result ((t : Tree) (m : Meta) → MeanRooted frozen.now t → IsEntry t last.now m → IsAhead t last.now self.old → IsAhead t last.now self.new) }
         ensures some { OnOk result (self.new.entries.items ≡ [] → self.new.all ≡ true) }
@@ -68,7 +69,7 @@ impl EntryReadahead {
         let piece = frozen.entries(alloc, last, PIECE)?;
         self.all = piece.len() < PIECE;
         self.entries = VecDeque::from_vec(piece);
-        // The first is the one at this path.
+        // The first is the entry at this path.
         drop(self.entries.pop_front());
         Ok(())
     }

@@ -1,4 +1,4 @@
-//! Prints the image of a tree that stands still, in version 2, which tells moments; and the lines of either version.
+//! Prints the image of a frozen tree, in version 2, which has mtimes. Also prints the lines of either version.
 ghost use Rattle.std.specs.Prelude.{◌≡◌, ◌≤◌, ◌++◌, ◌∷◌, [], ℕ, List, Err, decimal, flat_map, length, take, OnOk, OnErr};
 ghost use Rattle.std.specs.Io.KnownBytes.{Appends};
 ghost use Rattle.reference.specs.Image.{Second, block_line, image, moment_text, path_text, percent, trimmed};
@@ -20,10 +20,10 @@ use textio::text::{put_hex, put_number, put_number_line, put_path};
 use thiserror::Error;
 use volume::{BlockWalk, Frozen};
 
-/// Why an image was not printed to its end.
+/// Why an image was not printed completely.
 #[derive(Debug, Drop, PartialEq, Eq, Error)]
 pub enum ImageFault {
-    /// Memory was refused.
+    /// An allocation failed.
     #[error("betr: no memory")]
     Memory,
     /// The writer failed.
@@ -47,10 +47,10 @@ impl From<WriteFailed> for ImageFault {
     }
 }
 
-/// Prints the image of a tree that stands still, in version 2; where it fails, what was printed is a beginning of it. It is whole lines
-/// where memory is refused: a line that was begun can fail by the writer alone.
+/// Prints the image of a frozen tree, in version 2. If it fails, a prefix of the image was written. If an allocation failed,
+/// this prefix is whole lines: a line that was begun can only fail because the writer does.
 ///
-/// It prints some lines into a text of its own, and writes that, again and again.
+/// The lines are printed into a buffer, which is written each time it has enough bytes.
 pub fn print_image<W: Write>(
     alloc: Global,
     frozen: &Frozen,
@@ -64,14 +64,15 @@ pub fn print_image<W: Write>(
     let mut spot = PrintPosition::behind_root(alloc);
     let mut ahead = EntryReadahead::new(alloc);
     let reported = print_all(alloc, frozen, &mut spot, &mut ahead, &mut text, writer);
-    // Let go by calls, so that the proof costs less.
+    // Dropped by calls, so that the proof costs less.
     drop(ahead);
     drop(spot);
     drop(text);
     reported
 }
 
-/// Writes the image of a tree, or a beginning of it, with a place behind the root, where nothing was taken ahead, and a text to print into.
+/// Writes the image of a tree, or a prefix of it. The position is after the root, nothing was read ahead, and `text` is the
+/// buffer to print into.
 fn print_all<W: Write>(
     alloc: Global,
     frozen: &Frozen,
@@ -88,7 +89,7 @@ fn print_all<W: Write>(
 {
     put_number_line(writer, b"D / ", frozen.modified())?;
     let mut blocks = BlockWalk::new(alloc, frozen);
-    // No tree has more lines.
+    // No tree has more lines than this.
     for _ in 0..u64::MAX {
         text.clear();
         spot.print(alloc, frozen, ahead, &mut blocks, text)?;
@@ -100,7 +101,7 @@ fn print_all<W: Write>(
     Err(ImageFault::Memory)
 }
 
-/// Writes the line of a directory, or a beginning of it.
+/// Writes the line of a directory, or a prefix of it.
 pub(crate) fn put_directory<W: Write>(
     writer: &mut W,
     version: ImageVersion,
@@ -116,7 +117,7 @@ pub(crate) fn put_directory<W: Write>(
     Ok(())
 }
 
-/// Writes the line of a file without its blocks, or a beginning of it.
+/// Writes the line of a file without its blocks, or a prefix of it.
 pub(crate) fn put_file<W: Write>(
     writer: &mut W,
     version: ImageVersion,
@@ -133,7 +134,7 @@ pub(crate) fn put_file<W: Write>(
     Ok(())
 }
 
-/// Writes the length and the moment that end a file's line, or a beginning of them.
+/// Writes the length and the mtime at the end of a file's line, or a prefix of them.
 fn put_len<W: Write>(
     writer: &mut W,
     version: ImageVersion,
@@ -149,7 +150,7 @@ fn put_len<W: Write>(
     Ok(())
 }
 
-/// Writes the moment that ends an entry's line, where the version tells it, and the line feed, or a beginning of them.
+/// Writes the mtime at the end of an entry's line, if the version has it, and the line feed, or a prefix of them.
 fn put_end<W: Write>(
     writer: &mut W,
     version: ImageVersion,
@@ -164,7 +165,7 @@ fn put_end<W: Write>(
     }
 }
 
-/// Writes the line of a block, or a beginning of it; none where all its bytes are zero.
+/// Writes the line of a block, or a prefix of it. A block whose bytes are all zero has no line.
 pub(crate) fn put_block<W: Write>(
     writer: &mut W,
     number: u32,
@@ -185,7 +186,7 @@ pub(crate) fn put_block<W: Write>(
     Ok(())
 }
 
-/// How many bytes there are up to the last that is not zero.
+/// The length of the bytes up to the last that is not zero.
 pub(crate) fn trimmed_len(bytes: &[u8]) -> usize
     ensures kept { take result bytes.now ≡ trimmed bytes.now }
     ensures fits { result ≤ length bytes.now }

@@ -1,4 +1,4 @@
-//! Reads a line of an image. There is one spelling of each: what a line seems to tell is written again and compared.
+//! Parses a line of an image. Each line has one spelling: what was parsed is printed again and compared.
 ghost use Rattle.std.specs.Prelude.{◌≡◌, ◌≢◌, ◌↔◌, true, ◌++◌, ◌∷◌, ◌^◌, ◌<◌, ◌≤◌, [], Some, IfOk, IfSome, MatchOption, option_map};
 ghost use Rattle.pathkey.specs.Names.{IsPath, Path as Names};
 ghost use Rattle.reference.specs.Image.{Second, directory_letter, file_letter, moment_text, path_text, two_digits};
@@ -20,21 +20,22 @@ use textio::output::WriteFailed;
 use textio::values::{read_number, read_path};
 use textio::words::split_space;
 
-/// A line of an image below the root's.
+/// A line of an image after the line of the root.
 #[derive(Drop)]
 pub enum ImageLine {
-    /// Of a directory, with its moment.
+    /// A directory, with its mtime.
     Directory(Path, u64),
-    /// Of a file of so many bytes, with its moment.
+    /// A file, with its length in bytes and its mtime.
     File(Path, u64, u64),
-    /// Of a block of the file before it: its number and its bytes, up to the last that is not zero.
+    /// A block of the preceding file: its index, and its bytes up to the last that is not zero.
     Block(u32, Bytes),
 }
 
-/// How many blocks the longest file has.
+/// The number of blocks of the longest file.
 const MOST_BLOCKS: u64 = 1 << 28;
 
-/// The line of an image of the version that a text spells, without its line feed; none where it spells none. It fails only for want of memory.
+/// Parses a line of an image of this version, without its line feed. Returns `None` if the text is not such a line. Fails
+/// only if an allocation fails.
 pub fn read_image_line(
     alloc: Global,
     version: ImageVersion,
@@ -46,7 +47,7 @@ pub fn read_image_line(
         return Ok(None);
     };
     let written = write_line(alloc, version, &line, text.len())?;
-    // What is not handed on is let go by calls, so that the proof costs less.
+    // What is not returned is dropped by calls, so that the proof costs less.
     if written.as_slice() == text {
         drop(written);
         Ok(Some(line))
@@ -57,7 +58,8 @@ pub fn read_image_line(
     }
 }
 
-/// The one spelling of a line in a version, without its line feed. There is room from the start for one of so many bytes.
+/// Prints a line in its one spelling in a version, without its line feed. The buffer is allocated for a line of `bytes`
+/// bytes.
 fn write_line(
     alloc: Global,
     version: ImageVersion,
@@ -67,14 +69,14 @@ fn write_line(
     requires { IsLine (version_of version) (line_of line.now) }
     ensures { IfOk result (λ text. text.items ≡ spelled (version_of version) (line_of line.now)) }
 {
-    // No line is so long that the sum is cut off.
+    // No line is so long that the sum saturates.
     let mut text = Vec::with_capacity(alloc, bytes.saturating_add(1))?;
     match put_line(&mut text, version, line) {
         Ok(()) => {
             text.pop();
             Ok(text)
         }
-        // Writing into a text fails only for want of memory.
+        // Writing into a buffer fails only if an allocation fails.
         Err(WriteFailed) => Err(NoMemory),
     }
 }
@@ -91,7 +93,7 @@ fn put_line(text: &mut Vec<u8>, version: ImageVersion, line: &ImageLine) -> Resu
     }
 }
 
-/// The line that a text seems to spell: it is the one that it spells in the version, if it spells one.
+/// Parses a line without checking its spelling: if the text is a line of the version, then it is the one that is returned.
 fn parse_unchecked_line(
     alloc: Global,
     version: ImageVersion,
@@ -114,7 +116,7 @@ fn parse_unchecked_line(
     Ok(None)
 }
 
-/// The line of a directory, from its path and its moment.
+/// Parses the line of a directory from its path and its mtime.
 fn parse_unchecked_directory(
     alloc: Global,
     version: ImageVersion,
@@ -131,7 +133,7 @@ fn parse_unchecked_directory(
     }
 }
 
-/// The line of a file, from its path, its length and its moment.
+/// Parses the line of a file from its path, its length and its mtime.
 fn parse_unchecked_file(
     alloc: Global,
     version: ImageVersion,
@@ -151,7 +153,7 @@ fn parse_unchecked_file(
     }
 }
 
-/// The length and the moment that end the line of a file.
+/// Splits the length and the mtime off the line of a file.
 fn cut_len(version: ImageVersion, numbers: &[u8]) -> Option<(u64, u64)>
     ensures valid { IfSome result (λ r. (r.0 ≤ 2 ^ 40) × IsReported (version_of version) r.1) }
     ensures complete { (n at : ℕ) → n ≤ 2 ^ 40 → IsReported (version_of version) at → numbers.now ≡ decimal n ++ moment_text (version_of version) at → result ≡ Some (n, at) }
@@ -168,7 +170,7 @@ fn cut_len(version: ImageVersion, numbers: &[u8]) -> Option<(u64, u64)>
     Some((len, at))
 }
 
-/// The words up to the moment that ends a line, and the moment: 0 where the version tells none.
+/// Splits the mtime off the end of a line. It is 0 if the version has none.
 fn cut_moment(version: ImageVersion, words: &[u8]) -> Option<(&[u8], u64)>
     ensures { CutsMoment (version_of version) words.now (option_map (λ r. (r.0.now, r.1)) result) }
 {
@@ -178,7 +180,7 @@ fn cut_moment(version: ImageVersion, words: &[u8]) -> Option<(&[u8], u64)>
     }
 }
 
-/// The words up to the last, and the moment that this one writes.
+/// Splits the last word off, which is an mtime.
 fn cut_last(words: &[u8]) -> Option<(&[u8], u64)>
     ensures { CutsMoment Second words.now (option_map (λ r. (r.0.now, r.1)) result) }
 {
@@ -191,7 +193,7 @@ fn cut_last(words: &[u8]) -> Option<(&[u8], u64)>
     Some((front, at))
 }
 
-/// The version and the moment that the line of a root tells; none where it is no root's.
+/// Parses the line of a root: the version and the root's mtime. Returns `None` if this is not the line of a root.
 pub(crate) fn read_root(line: &[u8]) -> Option<(ImageVersion, u64)>
     ensures { IsRoot line.now (option_map (λ r. (version_of r.0, r.1)) result) }
 {
@@ -207,7 +209,7 @@ pub(crate) fn read_root(line: &[u8]) -> Option<(ImageVersion, u64)>
     }
 }
 
-/// The number whose spelling a word is; none where it is no number's.
+/// Parses a number. Returns `None` if the word is not the spelling of a number.
 fn spelled_number(word: &[u8]) -> Option<u64>
     ensures { MatchOption result ((n : ℕ) → n < 2 ^ 64 → word.now ≢ decimal n) (λ n. (n < 2 ^ 64) × (word.now ≡ decimal n)) }
 {
@@ -221,7 +223,7 @@ fn spelled_number(word: &[u8]) -> Option<u64>
     }
 }
 
-/// Whether the word is the number's spelling.
+/// Whether the word is the spelling of the number.
 fn writes(word: &[u8], number: u64) -> bool
     ensures { result ≡ true ↔ (word.now ≡ decimal number) }
 {
@@ -229,7 +231,7 @@ fn writes(word: &[u8], number: u64) -> bool
     digits.format(number).as_bytes() == word
 }
 
-/// The line of a block, from its number and its bytes.
+/// Parses the line of a block from its index and its bytes.
 fn guess_block(
     alloc: Global,
     version: ImageVersion,
@@ -252,7 +254,7 @@ fn guess_block(
     }
 }
 
-/// The path that a word names in percent form; none for the root.
+/// Parses a path in percent form. Returns `None` for the root, and for a word that is not such a path.
 fn guess_path(alloc: Global, word: &[u8]) -> Result<Option<Path>, NoMemory>
     ensures valid { IfOk result (λ guess. IfSome guess (λ p. IsPath p × (p ≢ []))) }
     ensures complete { IfOk result (λ guess. (p : Names) → IsPath p → p ≢ [] → word.now ≡ path_text p → guess ≡ Some p) }
@@ -281,7 +283,7 @@ fn below_root(path: Path) -> Option<Path>
     }
 }
 
-/// The bytes that a word writes in hexadecimal: 1 to 4,096 of them, the last of which is not zero.
+/// Decodes the hexadecimal bytes of a block: 1 to 4,096 of them, the last of which is not zero.
 fn guess_bytes(alloc: Global, word: &[u8]) -> Result<Option<Bytes>, NoMemory>
     ensures valid { IfOk result (λ guess. IfSome guess IsBlock) }
     ensures complete { IfOk result (λ guess. (b : List ℕ) → IsBlock b → word.now ≡ flat_map (two_digits 87) b → guess ≡ Some b) }
@@ -303,7 +305,7 @@ fn guess_bytes(alloc: Global, word: &[u8]) -> Result<Option<Bytes>, NoMemory>
     }
 }
 
-/// Whether the line of a block may tell these bytes.
+/// Whether the line of a block may have these bytes.
 fn is_block(bytes: &[u8]) -> bool
     ensures { result ≡ true ↔ IsBlock bytes.now }
 {

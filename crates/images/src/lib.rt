@@ -1,7 +1,8 @@
-//! The image of a tree: a text from which the tree can be had back. It is printed of a tree that stands still, and loaded into
-//! a new volume; by pieces too, so that no image has to fit into memory.
+//! The image of a tree: a text from which the tree can be loaded again. A frozen tree is printed as an image, and an image is
+//! loaded into a new volume. Both can be done in pieces, so no image has to fit into memory.
 //!
-//! Each tree has one image of each version, and an image of version 2 is that of one tree: an image of version 1 tells no moments.
+//! Each tree has one image of each version. An image of version 2 belongs to one tree, while an image of version 1 has no
+//! mtimes.
 #![tactic(auto)]
 
 mod ahead;

@@ -1,7 +1,7 @@
-//! Loads an image line by line into a new volume: what one line does, and the loads of a whole text and of a reader.
+//! Loads an image line by line into a new volume: what one line does, and how a whole text and a reader are loaded.
 //!
-//! One line is held at a time, and of a file no block beside the volume's own. Of the lines before, only what decides which line
-//! may follow is kept. The first line tells the version; of version 1 each moment is 0.
+//! One line is held at a time, and no block of a file outside the volume. Of the lines before, only what decides which line
+//! may follow is kept. The first line has the version. In version 1 each mtime is 0.
 ghost use Rattle.std.specs.Prelude.{◌≡◌, ◌≢◌, ◌↔◌, Ok, All, ◌≤◌, ◌<◌, ◌+◌, ◌^◌, ◌++◌, ◌∷◌, [], ℕ, List, Some, None, Err, false, true, length, IfSome, MatchOption, vec_capacity, IfOk, OnOk, OnErr, codes};
 ghost use Rattle.std.specs.declared.cmp.Ordering.TheVariants.{Less};
 ghost use Rattle.pathkey.specs.Enc.{enc};
@@ -39,23 +39,24 @@ use volume::Volume;
 /// Why an image was not loaded.
 #[derive(Debug, Drop, PartialEq, Eq, Error)]
 pub enum LoadFault {
-    /// No tree may have the shape; nothing was read.
+    /// The shape is invalid. Nothing was read.
     #[error("betr: bad shape")]
     Shape,
-    /// Memory was refused.
+    /// An allocation failed.
     #[error("betr: no memory")]
     Memory,
     /// The reader failed.
     #[error("betr: read failed")]
     Read,
-    /// The text is no image from the line of this number on, counted from 1.
+    /// The text is not an image from the line with this number on, counted from 1.
     #[error("betr: bad image at line {0}")]
     Bad(u64),
 }
 
-/// The volume whose tree has the image that the reader gives, without snapshots and marks, in trees of this shape. It fails where the shape is not
-/// ok, where memory or a read is refused, and where the text is no image: `Bad` has the number of the first line with which it is none.
-/// Where a read is refused, no line was bad that was read before.
+/// Loads the image that the reader gives, and returns a volume with its tree, in trees of this shape, without snapshots and
+/// marks. Fails with `Shape` if the shape is invalid, with `Memory` if an allocation fails, with `Read` if a read fails, and
+/// with `Bad` if the text is not an image: this has the number of the first bad line. If a read fails, no line that was read
+/// before was bad.
 pub fn load_image<R: Read>(alloc: Global, shape: Shape, reader: &mut R) -> Result<Volume, LoadFault>
     ensures loaded { IfOk result (LoadsAll (R.remaining reader.old) (R.remaining reader.new)) }
     ensures form { IfOk result (λ v. form_of v ≡ new_form shape) }
@@ -69,8 +70,8 @@ pub fn load_image<R: Read>(alloc: Global, shape: Shape, reader: &mut R) -> Resul
     }
 }
 
-/// The volume whose tree has the image that the text is, as `load_image` loads it. Nothing is read, so
-/// it never answers `Read`, and no line is copied but one that has no end.
+/// Loads the image that the text is, as `load_image` does. Nothing is read, so it never fails with `Read`, and no line is
+/// copied except one without an end.
 pub fn load_text(alloc: Global, shape: Shape, text: &[u8]) -> Result<Volume, LoadFault>
     ensures loaded { IfOk result (Loaded text.now) }
     ensures form { IfOk result (λ v. form_of v ≡ new_form shape) }
@@ -84,7 +85,7 @@ pub fn load_text(alloc: Global, shape: Shape, text: &[u8]) -> Result<Volume, Loa
     }
 }
 
-/// The volume of a text, by a loader that took nothing yet.
+/// Loads a text with a new loader.
 fn load_whole(alloc: Global, mut loader: ImageLoader, text: &[u8]) -> Result<Volume, LoadFault>
     ensures loaded { (s : TreeShape) → IsFresh s loader → IfOk result (LoadedIn s text.now) }
     ensures bad { (s : TreeShape) (n : ℕ) → IsFresh s loader → result ≡ Err (LoadFault.Bad n) → IsBadAt n text.now }
@@ -92,14 +93,14 @@ fn load_whole(alloc: Global, mut loader: ImageLoader, text: &[u8]) -> Result<Vol
     ensures read { result ≢ Err LoadFault.Read }
 {
     if let Err(fault) = loader.feed(alloc, text) {
-        // Let go by a call, so that the proof costs less.
+        // Dropped by a call, so that the proof costs less.
         drop(loader);
         return Err(fault);
     }
     loader.end()
 }
 
-/// The volume of what a reader gives, by a loader that took nothing yet.
+/// Loads what a reader gives with a new loader.
 fn load_pieces<R: Read>(
     alloc: Global,
     mut loader: ImageLoader,
@@ -110,7 +111,7 @@ fn load_pieces<R: Read>(
     ensures shape { result ≢ Err LoadFault.Shape }
     ensures read { (s : TreeShape) → IsFresh s loader → result ≡ Err LoadFault.Read → HasBegun (R.remaining reader.old) (R.remaining reader.new) }
 {
-    // What is not handed on is let go by calls, so that the proof costs less.
+    // What is not returned is dropped by calls, so that the proof costs less.
     let Ok(mut piece) = Vec::from_elem(alloc, 0u8, READ_SIZE) else {
         drop(loader);
         return Err(LoadFault::Memory);
@@ -124,7 +125,7 @@ fn load_pieces<R: Read>(
     loader.end()
 }
 
-/// Reads and takes piece after piece, in the given buffer, until the reader is at its end.
+/// Reads piece after piece into the given buffer and feeds them to the loader, until the end of the reader.
 fn take_all<R: Read>(
     alloc: Global,
     loader: &mut ImageLoader,
@@ -137,7 +138,7 @@ fn take_all<R: Read>(
     ensures shape { result ≢ Err LoadFault.Shape }
     ensures read { (s : TreeShape) → IsFresh s loader.old → result ≡ Err LoadFault.Read → HasBegun (R.remaining reader.old) (R.remaining reader.new) }
 {
-    // No input has more pieces.
+    // No input has more pieces than this.
     for _ in 0..u64::MAX {
         let Ok(n) = read_some(reader, piece) else {
             return Err(LoadFault::Read);
@@ -159,20 +160,20 @@ pub struct LoadState {
     pub volume: Volume,
     /// The version of the image, once its first line was loaded.
     pub version: ImageVersion,
-    /// How many lines were loaded.
+    /// The number of lines that were loaded.
     pub lines: u64,
     /// The path of the last entry.
     pub last: Path,
-    /// The moment of the last entry.
+    /// The mtime of the last entry.
     pub modified: u64,
-    /// The length of the last entry, where it is a file.
+    /// The length of the last entry in bytes, if it is a file.
     pub len: Option<u64>,
-    /// The first block that the next line may tell.
+    /// The least index of a block that the next line may have.
     pub next: u64,
 }
 
 impl LoadState {
-    /// Nothing is loaded into a volume that is new.
+    /// Starts to load into a new volume.
     pub fn new(alloc: Global, volume: Volume) -> LoadState
         ensures volume { result.volume ≡ volume }
         ensures nothing { (result.lines ≡ 0) × (result.last ≡ []) × (result.modified ≡ 0) × (result.len ≡ None) × (result.next ≡ 0) }
@@ -214,7 +215,7 @@ impl LoadState {
         Ok(())
     }
 
-    /// Loads the line that begins with what is held and ends with `end`. It is copied only where something is held.
+    /// Loads the line that begins with what is held and ends with `end`. The line is only copied if something is held.
     fn end_line(&mut self, alloc: Global, held: &mut Vec<u8>, end: &[u8]) -> Result<(), LoadFault>
         requires room { 65536 < vec_capacity held.old }
         requires free { All (λ b. b ≢ 10) end.now }
@@ -237,7 +238,7 @@ impl LoadState {
         Ok(())
     }
 
-    /// Ends the image: no line is left that has no line feed, and there was one at least.
+    /// Ends the image. Fails with `Bad` if a line without a line feed is left, or if there was no line at all.
     pub(crate) fn end(&self, held: &[u8]) -> Result<(), LoadFault>
         ensures ok { OnOk result (LoadsEnd held.now self.now) }
         ensures bad { (n : ℕ) → result ≡ Err (LoadFault.Bad n) → RefusesEnd held.now n self.now }
@@ -255,7 +256,7 @@ impl LoadState {
         Ok(())
     }
 
-    /// The number of the next line. No image has as many lines as could not be counted.
+    /// The number of the next line. No image has so many lines that the number overflows.
     fn next_number(&self) -> Result<u64, LoadFault>
         ensures ok { IfOk result (λ n. n ≡ self.now.lines + 1) }
         ensures err { OnErr result (result ≡ Err LoadFault.Memory) }
@@ -267,7 +268,7 @@ impl LoadState {
         }
     }
 
-    /// Loads a line, without its line feed; `number` counts it.
+    /// Loads the line with this number, without its line feed.
     pub fn take_line(&mut self, alloc: Global, line: &[u8], number: u64) -> Result<(), LoadFault>
         requires { number ≡ self.old.lines + 1 }
         ensures ok { OnOk result (LoadsLine line.now self.old self.new) }
@@ -291,7 +292,7 @@ impl LoadState {
         }
     }
 
-    /// Loads the line that was read of a text behind the root's; the text is bad where it spells none.
+    /// Loads a parsed line after the root's. Fails with `Bad` if the text was not a line.
     fn take_read(
         &mut self,
         alloc: Global,
@@ -313,7 +314,7 @@ impl LoadState {
         }
     }
 
-    /// Loads the first line, which is the root's and tells the version.
+    /// Loads the first line, which is the root's and has the version.
     fn take_root(&mut self, alloc: Global, line: &[u8], number: u64) -> Result<(), LoadFault>
         requires { number ≡ self.old.lines + 1 }
         ensures ok { OnOk result (LoadsRoot line.now self.old self.new) }
@@ -335,7 +336,7 @@ impl LoadState {
         Ok(())
     }
 
-    /// Loads a line behind the root's.
+    /// Loads a line after the root's.
     fn take_next(&mut self, alloc: Global, line: ImageLine, number: u64) -> Result<(), LoadFault>
         requires line { IsLine (version_of self.old.version) (line_of line) }
         requires number { number ≡ self.old.lines + 1 }
@@ -375,13 +376,13 @@ impl LoadState {
         ensures read { result ≢ Err LoadFault.Read }
     {
         if self.last.key().cmp(path.key()) != Ordering::Less {
-            // Let go by a call, so that the proof costs less.
+            // Dropped by a call, so that the proof costs less.
             drop(path);
             return Err(LoadFault::Bad(number));
         }
         if let Err(fault) = self.volume.plant_entry(alloc, &path, meta) {
             let refused = entry_fault(fault, number);
-            // Let go by a call, so that the proof costs less.
+            // Dropped by a call, so that the proof costs less.
             drop(path);
             return Err(refused);
         }
@@ -428,7 +429,7 @@ impl LoadState {
         Ok(())
     }
 
-    /// Where in the last file a block of this number and of so many bytes lies; none where it may not follow.
+    /// The offset in the last file of a block with this index and of `len` bytes, or `None` if it may not follow.
     fn offset_of(&self, index: u32, len: u64) -> Option<u64>
         requires { len ≤ 4096 }
         ensures fits { IfSome result (FitsAt index len self.now) }
@@ -450,7 +451,7 @@ impl LoadState {
     }
 }
 
-/// Gives the root of the volume a moment; `false` where memory is refused.
+/// Sets the mtime of the volume's root. Returns `false` if an allocation fails.
 fn plant_root(alloc: Global, volume: &mut Volume, modified: u64) -> bool
     ensures { result ≡ true → Plants [] (MetaValue.Dir modified) (Ok tt) volume.old volume.new }
 {
@@ -458,7 +459,7 @@ fn plant_root(alloc: Global, volume: &mut Volume, modified: u64) -> bool
     planted.is_ok()
 }
 
-/// Writes bytes into a file of the volume, whose moment this is; `false` where memory is refused.
+/// Writes bytes to a file of the volume, with the file's mtime as the timestamp. Returns `false` if an allocation fails.
 fn write_bytes(
     alloc: Global,
     volume: &mut Volume,
@@ -470,13 +471,13 @@ fn write_bytes(
     ensures { result ≡ true → Counts (Write path.now offset bytes) at volume.old volume.new }
 {
     let counted = volume.write_shared(alloc, path, offset, &bytes, at);
-    // Let go by a call, so that the proof costs less.
+    // Dropped by a call, so that the proof costs less.
     drop(bytes);
-    // Nothing but want of memory keeps a write off a file that is long enough.
+    // A write to a file that is long enough fails only if an allocation fails.
     counted.is_ok()
 }
 
-/// Why an entry was not planted.
+/// The error of a load for an entry that could not be planted.
 fn entry_fault(fault: Errno, number: u64) -> LoadFault
     ensures memory { (result ≡ LoadFault.Memory) ↔ (fault ≡ Errno.ENOMEM) }
     ensures bad { (n : ℕ) → result ≡ LoadFault.Bad n → (n ≡ number) × (fault ≢ Errno.ENOMEM) }
@@ -490,7 +491,7 @@ fn entry_fault(fault: Errno, number: u64) -> LoadFault
     }
 }
 
-/// The length of a file.
+/// The length of a file in bytes, or `None` for a directory.
 fn len_of(meta: Meta) -> Option<u64>
     ensures { result ≡ len_of meta }
 {
@@ -500,7 +501,7 @@ fn len_of(meta: Meta) -> Option<u64>
     }
 }
 
-/// The moment of an entry.
+/// The mtime of an entry.
 fn moment_of(meta: Meta) -> u64
     ensures { result ≡ modified_of meta }
 {

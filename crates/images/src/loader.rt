@@ -1,4 +1,4 @@
-//! A volume that is loaded of an image piece by piece.
+//! Loads an image piece by piece into a new volume.
 ghost use Rattle.std.specs.Prelude.{◌<◌, vec_capacity};
 
 use crate::load::{LoadFault, LoadState};
@@ -7,20 +7,20 @@ use std::alloc::Global;
 use textio::line_buffer::LONGEST_LINE;
 use volume::Volume;
 
-/// What became of the pieces so far.
+/// The result of the pieces so far.
 #[derive(Clone, Copy, Debug, PartialEq, Eq)]
 pub enum FeedOutcome {
-    /// All were taken.
+    /// All pieces were loaded.
     Open,
-    /// Memory was refused.
+    /// An allocation failed.
     Starved,
-    /// From the line of this number on they are no image.
+    /// The text is not an image from the line with this number on.
     Spoiled(u64),
 }
 
-/// A volume that is loaded of an image piece by piece, wherever it is cut. One line is held at a time.
+/// Loads an image piece by piece, wherever it is cut, into a new volume. One line is held at a time.
 ///
-/// What was refused stays refused: each later piece and the end are answered the same.
+/// An error is final: each later piece and the end fail with the same error.
 #[derive(Drop)]
 pub struct ImageLoader {
     pub(crate) load_state: LoadState,
@@ -39,8 +39,8 @@ impl ImageLoader {
     ghost use Rattle.images.specs.Taken.{IsFresh, LoadedIn, Took, answer_of};
     ghost use Rattle.volume.specs.Volumes.{Means};
 
-    /// A loader that took nothing yet, for a new volume in trees of this shape. It fails where the shape is not ok, and where memory
-    /// is refused.
+    /// Creates a loader for a new volume in trees of this shape. Fails with `Shape` if the shape is invalid, and with
+    /// `Memory` if an allocation fails.
     pub fn new(alloc: Global, shape: Shape) -> Result<ImageLoader, LoadFault>
         ensures fresh { IfOk result (IsFresh shape) }
         ensures shape { (result ≡ Err LoadFault.Shape) ↔ (is_shape shape ≡ false) }
@@ -51,19 +51,19 @@ impl ImageLoader {
         }
         match Volume::new(alloc, shape) {
             Ok(volume) => ImageLoader::over(alloc, volume),
-            // The shape is ok, so memory was refused.
+            // The shape is valid, so an allocation failed.
             Err(_refused) => Err(LoadFault::Memory),
         }
     }
 
-    // A loader that took nothing yet, for a volume that is new.
+    // Creates a loader for a new volume that exists already.
     fn over(alloc: Global, volume: Volume) -> Result<ImageLoader, LoadFault>
         requires { Means volume (alone (Dir 0 nothing)) }
         ensures fresh { (shape : TreeShape) → form_of volume ≡ new_form shape → IfOk result (IsFresh shape) }
         ensures refused { IfErr result (λ e. e ≡ LoadFault.Memory) }
     {
         let Ok(held) = Vec::with_capacity(alloc, LONGEST_LINE + 1) else {
-            // Let go by a call, so that the proof costs less.
+            // Dropped by a call, so that the proof costs less.
             drop(volume);
             return Err(LoadFault::Memory);
         };
@@ -74,8 +74,8 @@ impl ImageLoader {
         })
     }
 
-    /// Takes the next piece of the text. It fails where memory is refused, and where the text is no image whatever follows: `Bad` has the
-    /// number of the first line with which it is none. Behind a refusal it changes nothing.
+    /// Loads the next piece of the text. Fails with `Memory` if an allocation fails, and with `Bad` if the text is not an
+    /// image, whatever follows: this has the number of the first bad line. After an error it changes nothing.
     pub fn feed(&mut self, alloc: Global, piece: &[u8]) -> Result<(), LoadFault>
         ensures took { (shape : TreeShape) (text : List ℕ) → Took shape text self.old → Took shape (text ++ piece.now) self.new }
         ensures answer { result ≡ answer_of self.new.intake }
@@ -89,8 +89,8 @@ impl ImageLoader {
         taken
     }
 
-    /// Ends the text, and gives the volume with the tree whose image it is, without snapshots and marks. It fails as a piece was refused, and
-    /// where the text is no image.
+    /// Ends the text, and returns the volume with the tree of this image, without snapshots and marks. Fails with the error
+    /// of an earlier piece, and with `Bad` if the text is not an image.
     pub fn end(self) -> Result<Volume, LoadFault>
         ensures loaded { (shape : TreeShape) (text : List ℕ) → Took shape text self → IfOk result (LoadedIn shape text) }
         ensures bad { (shape : TreeShape) (text : List ℕ) (n : ℕ) → Took shape text self → result ≡ Err (LoadFault.Bad n) → IsBadAt n text }
@@ -104,7 +104,7 @@ impl ImageLoader {
             held,
             intake: _,
         } = self;
-        // What is not handed on is let go by calls, so that the proof costs less.
+        // What is not returned is dropped by calls, so that the proof costs less.
         drop(held);
         match reported {
             Ok(()) => Ok(load_state.volume),
@@ -115,7 +115,7 @@ impl ImageLoader {
         }
     }
 
-    // Whether the text that was taken is an image.
+    // Checks that the text so far is an image.
     fn ended(&self) -> Result<(), LoadFault>
         ensures ok { (shape : TreeShape) (text : List ℕ) → Took shape text self.now → OnOk result (LoadedIn shape text self.now.load_state.volume) }
         ensures bad { (shape : TreeShape) (text : List ℕ) (n : ℕ) → Took shape text self.now → result ≡ Err (LoadFault.Bad n) → IsBadAt n text }
@@ -129,7 +129,7 @@ impl ImageLoader {
         self.load_state.end(self.held.as_slice())
     }
 
-    // What is answered to the last piece.
+    // The result of the last piece.
     fn answer(&self) -> Result<(), LoadFault>
         ensures { result ≡ answer_of self.now.intake }
     {
@@ -140,7 +140,7 @@ impl ImageLoader {
         }
     }
 
-    // What became of a piece.
+    // The state after a piece with this result.
     fn intake_of(taken: &Result<(), LoadFault>) -> FeedOutcome
         requires shape { taken.now ≢ Err LoadFault.Shape }
         requires read { taken.now ≢ Err LoadFault.Read }
@@ -149,7 +149,7 @@ impl ImageLoader {
         match taken {
             Ok(()) => FeedOutcome::Open,
             Err(LoadFault::Bad(number)) => FeedOutcome::Spoiled(*number),
-            // `Memory`: a piece is never answered `Shape` or `Read`.
+            // `Memory`: a piece never fails with `Shape` or `Read`.
             Err(_) => FeedOutcome::Starved,
         }
     }

@@ -1,4 +1,4 @@
-//! An image on its way out, piece by piece, so that no image has to fit into memory.
+//! Prints an image piece by piece, so no image has to fit into memory.
 ghost use Rattle.std.specs.Prelude.{◌≡◌, ◌+◌, IfOk, OnErr};
 
 use crate::ready::PrintedLines;
@@ -7,8 +7,8 @@ use std::alloc::Global;
 use std::marker::Model;
 use volume::Frozen;
 
-/// The image of a tree that stands still, in version 2, on its way out. Contracts see the tree, and how many bytes of its image were
-/// handed out.
+/// The image of a frozen tree, in version 2, which is handed out in pieces. Contracts see the tree, and how many bytes of its
+/// image were handed out.
 #[derive(Drop)]
 pub struct ImagePrinter {
     frozen: Frozen,
@@ -33,24 +33,24 @@ impl ImagePrinter {
     ghost use Rattle.images.specs.Printings.{HandsOver};
     ghost use Rattle.volume.specs.Volumes.{MeanRooted};
 
-    /// Nothing was handed out. The printing owns the tree.
+    /// Creates a printer that owns the tree. Nothing was handed out yet. Fails only if an allocation fails.
     pub fn new(alloc: Global, frozen: Frozen) -> Result<ImagePrinter, NoMemory>
         ensures { IfOk result (λ p. p ≡ record { tree = frozen; done = 0 }) }
     {
         match PrintedLines::new(alloc, &frozen) {
             Ok(ready) => Ok(ImagePrinter { frozen, ready }),
             Err(NoMemory) => {
-                // Let go by a call, so that the proof costs less.
+                // Dropped by a call, so that the proof costs less.
                 drop(frozen);
                 Err(NoMemory)
             }
         }
     }
 
-    /// Writes the next bytes of the image to the front of the buffer, and gives how many they are: none only at the end of the image, and
-    /// where the buffer has no room. They may be fewer than there is room for.
+    /// Writes the next bytes of the image to the start of the buffer, and returns how many they are. This is 0 only at the
+    /// end of the image, and if the buffer is empty. It may be less than the length of the buffer.
     ///
-    /// It fails only for want of memory; then nothing was handed out, and the same may be asked again.
+    /// Fails only if an allocation fails. Then nothing was handed out, and the call can be repeated.
     pub fn next(&mut self, alloc: Global, out: &mut [u8]) -> Result<usize, NoMemory>
         ensures piece { IfOk result (λ n. (t : Tree) → MeanRooted self.old.tree t → HandsOver (image Second t) self.old.done n out.old out.new) }
         ensures on { IfOk result (λ n. self.new ≡ record self.old { done = self.old.done + n }) }

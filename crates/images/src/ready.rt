@@ -12,29 +12,29 @@ use std::alloc::Global;
 use textio::text::put_number_line;
 use volume::{BlockWalk, Frozen};
 
-/// Lines that are ready, and the place behind them.
+/// The printed lines, and the position after them.
 #[derive(Drop)]
 pub(crate) struct PrintedLines {
     /// The lines.
     pub(crate) text: Vec<u8>,
-    /// How many bytes of them were handed out.
+    /// The number of their bytes that were handed out.
     pub(crate) used: usize,
-    /// The place behind them.
+    /// The position after them.
     pub(crate) spot: PrintPosition,
-    /// Entries behind it that were taken already.
+    /// Entries after this position that were read already.
     pub(crate) ahead: EntryReadahead,
-    /// How many bytes of the image were handed out.
+    /// The number of bytes of the image that were handed out.
     pub(crate) done: u64,
 }
 
 impl PrintedLines {
-    /// The line of the root is ready.
+    /// Starts with the line of the root.
     pub(crate) fn new(alloc: Global, frozen: &Frozen) -> Result<PrintedLines, NoMemory>
         ensures { IfOk result (λ r. (r.done ≡ 0) × IsReady frozen.now r) }
     {
         let mut text = Vec::new(alloc);
         let Ok(()) = put_number_line(&mut text, b"D / ", frozen.modified()) else {
-            // Writing into a text fails only for want of memory.
+            // Writing into a buffer fails only if an allocation fails.
             return Err(NoMemory);
         };
         Ok(PrintedLines {
@@ -46,7 +46,7 @@ impl PrintedLines {
         })
     }
 
-    /// Prints more lines where none is ready. It fails only for want of memory, and none is ready then.
+    /// Prints more lines, unless some are left. Fails only if an allocation fails, and then no line is left.
     pub(crate) fn fill(&mut self, alloc: Global, frozen: &Frozen) -> Result<(), NoMemory>
         requires ready { IsReady frozen.now self.old }
         ensures ready { IsReady frozen.now self.new }
@@ -67,10 +67,10 @@ impl PrintedLines {
             &mut blocks,
             &mut self.text,
         ) {
-            // The place stays, and what was taken ahead may no longer follow it.
+            // The position stays, and the entries that were read ahead may no longer follow it.
             self.ahead.clear();
             self.text.clear();
-            // Let go by a call, so that the proof costs less.
+            // Dropped by a call, so that the proof costs less.
             drop(spot);
             return Err(NoMemory);
         }
@@ -78,7 +78,8 @@ impl PrintedLines {
         Ok(())
     }
 
-    /// Hands out what is ready, as far as the buffer has room. No image has as many bytes as could not be counted.
+    /// Copies the printed lines that are left into the buffer, as far as it has room. No image has so many bytes that their
+    /// number overflows.
     pub(crate) fn hand_out(&mut self, out: &mut [u8]) -> Result<usize, NoMemory>
         requires fits { self.old.used ≤ length self.old.text.items }
         ensures out { IfOk result (λ n. HandsOut n self.old out.old out.new) }

@@ -1,5 +1,5 @@
-//! Where the printing of an image stands, and the lines that come next: one for each entry in key order, and for a file one for
-//! each block that holds a byte other than zero.
+//! The position of a printer in an image, and the lines that come next: one for each entry in key order, and for a file one
+//! for each block with a byte other than zero.
 ghost use Rattle.std.specs.Prelude.{◌≡◌, ◌<◌, ◌++◌, [], IfOk, OnOk, length};
 ghost use Rattle.reference.specs.Tree.{Tree};
 ghost use Rattle.images.specs.Image.{entry_text};
@@ -16,20 +16,21 @@ use std::alloc::Global;
 use textio::output::WriteFailed;
 use volume::{BlockWalk, Frozen};
 
-/// How many bytes of lines are printed in one go, and more where a line ends behind them.
+/// The number of bytes of lines that are printed in one go. The last line may end after them.
 pub(crate) const ENOUGH: usize = 65_536;
 
-/// A place between two lines of an image, behind the root's: behind the line of an entry, and behind those of its first blocks.
+/// A position between two lines of an image, after the line of the root: after the line of an entry and the lines of its
+/// first blocks.
 #[derive(Drop)]
 pub(crate) struct PrintPosition {
     /// The path of the entry.
     pub(crate) last: Path,
-    /// The number of its first block whose line is behind this place.
+    /// The least index of a block of this entry whose line is after this position.
     pub(crate) from: u32,
 }
 
 impl PrintPosition {
-    /// Behind the line of the root.
+    /// The position after the line of the root.
     pub(crate) fn behind_root(alloc: Global) -> PrintPosition
         ensures { (result.last ≡ []) × (result.from ≡ 0) }
     {
@@ -39,7 +40,7 @@ impl PrintPosition {
         }
     }
 
-    /// A copy of the place.
+    /// Copies the position. Fails only if an allocation fails.
     pub(crate) fn copy(&self, alloc: Global) -> Result<PrintPosition, NoMemory>
         ensures { IfOk result (λ s. s ≡ self.now) }
     {
@@ -50,9 +51,10 @@ impl PrintPosition {
         })
     }
 
-    /// Adds lines to a text until it has enough bytes, or the image has no more lines, and goes behind them.
+    /// Appends lines to a text until it has enough bytes or the image has no more lines, and moves the position after them.
+    /// Fails only if an allocation fails.
     ///
-    /// It walks through the entries, and beside them through the blocks, of which what was taken ahead is held.
+    /// The walks through the entries and through the blocks are parallel, and what they read ahead is kept.
     pub(crate) fn print(
         &mut self,
         alloc: Global,
@@ -67,9 +69,9 @@ impl PrintPosition {
         ensures rest { OnOk result ((t : Tree) → MeanRooted frozen.now t → IsAt t self.old → IsAhead t self.old.last ahead.old → length text.new.items < 65536 → left_at t self.new ≡ []) }
         ensures tree { blocks.new ≡ blocks.old }
     {
-        // How many bytes the entry has is not kept.
+        // The length of the entry is not kept in the position.
         self.print_blocks(alloc, blocks, u64::MAX, text)?;
-        // No tree has more entries.
+        // No tree has more entries than this.
         for _ in 0..u64::MAX {
             if text.len() >= ENOUGH {
                 return Ok(());
@@ -82,7 +84,7 @@ impl PrintPosition {
         Err(NoMemory)
     }
 
-    /// Adds the line of the entry that comes next, and those of its blocks, until the text has enough bytes.
+    /// Appends the line of the next entry, and those of its blocks, until the text has enough bytes.
     fn print_entry(
         &mut self,
         alloc: Global,
@@ -102,7 +104,7 @@ impl PrintPosition {
         self.print_blocks(alloc, blocks, len_of(meta), text)
     }
 
-    /// Adds the lines of blocks of the entry, which has no more than so many bytes, until the text has enough bytes.
+    /// Appends the lines of blocks of the entry, whose length is at most `len` bytes, until the text has enough bytes.
     fn print_blocks(
         &mut self,
         alloc: Global,
@@ -123,7 +125,7 @@ impl PrintPosition {
                 return Ok(());
             };
             let Ok(()) = put_block(text, number, block.as_slice()) else {
-                // Writing into a text fails only for want of memory.
+                // Writing into a buffer fails only if an allocation fails.
                 return Err(NoMemory);
             };
             self.from = number + 1;
@@ -132,7 +134,7 @@ impl PrintPosition {
     }
 }
 
-/// How many bytes an entry has; a directory has none.
+/// The length of an entry in bytes. That of a directory is 0.
 fn len_of(meta: Meta) -> u64
     ensures { result ≡ size_of meta }
 {
@@ -142,7 +144,7 @@ fn len_of(meta: Meta) -> u64
     }
 }
 
-/// Adds the line of an entry to a text.
+/// Appends the line of an entry to a text.
 fn put_entry(text: &mut Vec<u8>, path: &Path, meta: Meta) -> Result<(), NoMemory>
     ensures { OnOk result (text.new.items ≡ text.old.items ++ entry_text path.now meta) }
 {
@@ -152,7 +154,7 @@ fn put_entry(text: &mut Vec<u8>, path: &Path, meta: Meta) -> Result<(), NoMemory
     };
     match put {
         Ok(()) => Ok(()),
-        // Writing into a text fails only for want of memory.
+        // Writing into a buffer fails only if an allocation fails.
         Err(WriteFailed) => Err(NoMemory),
     }
 }

@@ -1,4 +1,4 @@
-//! The two versions of an image's text, and what they differ in: letters, and moments that are told or not.
+//! The two versions of an image's text. They differ in the letters of lines, and in whether lines have mtimes.
 ghost use Rattle.std.specs.Prelude.{◌≡◌, ◌∷◌, []};
 ghost use Rattle.reference.specs.Image.{directory_letter, file_letter};
 ghost use Rattle.images.specs.Image.{version_of};
@@ -6,9 +6,9 @@ ghost use Rattle.images.specs.Image.{version_of};
 /// A version of an image's text.
 #[derive(Clone, Copy, Debug, PartialEq, Eq)]
 pub enum ImageVersion {
-    /// It tells no moments.
+    /// Version 1, without mtimes.
     First,
-    /// Each line of an entry ends with its moment.
+    /// Version 2, in which each line of an entry ends with its mtime.
     Second,
 }
 
@@ -32,7 +32,7 @@ pub(crate) fn file_letter(version: ImageVersion) -> &'static [u8]
     }
 }
 
-/// What stands before the path of a directory.
+/// What precedes the path of a directory.
 pub(crate) fn directory_word(version: ImageVersion) -> &'static [u8]
     ensures { result.now ≡ directory_letter (version_of version) ∷ 32 ∷ [] }
 {
@@ -42,7 +42,7 @@ pub(crate) fn directory_word(version: ImageVersion) -> &'static [u8]
     }
 }
 
-/// What stands before the path of a file.
+/// What precedes the path of a file.
 pub(crate) fn file_word(version: ImageVersion) -> &'static [u8]
     ensures { result.now ≡ file_letter (version_of version) ∷ 32 ∷ [] }
 {

@@ -1,4 +1,4 @@
-//! Does one change of a log.
+//! Applies one change of a log to a volume.
 ghost use Rattle.std.specs.Prelude.{◌≡◌, Err, MatchResult, Ok};
 ghost use Rattle.wal.specs.Runs.{Makes};
 
@@ -7,7 +7,7 @@ use pathkey::{Errno, SnapName};
 use std::alloc::Global;
 use volume::Volume;
 
-// Does a change.
+// Applies a change to the volume.
 pub(crate) fn apply_entry(
     alloc: Global,
     volume: &mut Volume,
@@ -30,7 +30,7 @@ pub(crate) fn apply_entry(
     }
 }
 
-// Whether a call that tells a number was done.
+// Drops the number that a call returns, and keeps its error.
 fn settled(counted: Result<u64, Errno>) -> Result<(), Errno>
     ensures { MatchResult counted (λ _. result ≡ Ok tt) (λ e. result ≡ Err e) }
 {
@@ -40,7 +40,7 @@ fn settled(counted: Result<u64, Errno>) -> Result<(), Errno>
     }
 }
 
-// Keeps, removes or restores a snapshot.
+// Takes, removes or restores a snapshot.
 fn keep(
     alloc: Global,
     volume: &mut Volume,

@@ -1,4 +1,4 @@
-//! Reads the changes that bytes are.
+//! Decodes the entries of a record's body into changes.
 ghost use Rattle.std.specs.Prelude.{◌≡◌, ◌≢◌, ◌⊎◌, ◌++◌, ◌∷◌, MatchResult, OnOk, []};
 ghost use Rattle.pathkey.specs.declared.errno.Errno.TheVariants.{EINVAL, ENOMEM};
 ghost use Rattle.wal.specs.Entries.{IsNoName, IsNoText, ReadsEntry, RefusesBody, Refuses, body_of, has_no_numbers, keeping_kind, path_kind};
@@ -11,7 +11,8 @@ use pathkey::{Errno, NoMemory, Path, SnapName};
 use reference::PathCall;
 use std::alloc::Global;
 
-/// The changes that the body of a record is. `EINVAL`: it is no list of changes. `ENOMEM`.
+/// Decodes the body of a record into its changes. Fails with EINVAL if the bytes are not a list of entries, and with ENOMEM
+/// if an allocation fails.
 pub fn decode_entries(alloc: Global, body: &[u8]) -> Result<Vec<WalEntry>, Errno>
     ensures { MatchResult result (λ changes. body.now ≡ body_of changes.items) (λ e. RefusesBody body.now e) }
 {
@@ -30,7 +31,7 @@ pub fn decode_entries(alloc: Global, body: &[u8]) -> Result<Vec<WalEntry>, Errno
     Ok(changes)
 }
 
-// Adds a change.
+// Appends a change to the list.
 fn push(changes: &mut Vec<WalEntry>, change: WalEntry) -> Result<(), NoMemory>
     ensures { OnOk result (changes.new.items ≡ changes.old.items ++ change ∷ []) }
 {
@@ -38,7 +39,7 @@ fn push(changes: &mut Vec<WalEntry>, change: WalEntry) -> Result<(), NoMemory>
     Ok(())
 }
 
-// The change whose entry this is.
+// Decodes one entry, given its numbers and its two texts.
 fn read_entry(
     alloc: Global,
     head: EntryHeader,
@@ -65,14 +66,14 @@ fn read_entry(
     }
 }
 
-// Whether an entry has no number but its moment.
+// Whether the entry's only number is its timestamp: offset and count are 0.
 fn has_no_numbers(head: EntryHeader) -> bool
     ensures { result ≡ has_no_numbers head }
 {
     head.offset == 0 && head.count == 0
 }
 
-// What makes or takes out what stands at a path.
+// Decodes a call that creates or removes an entry at a path.
 fn decode_path_call(
     alloc: Global,
     what: PathCall,
@@ -90,7 +91,7 @@ fn decode_path_call(
     Ok(WalEntry::OnPath(what, path, head.at))
 }
 
-// A move.
+// Decodes a rename.
 fn read_rename(
     alloc: Global,
     head: EntryHeader,
@@ -108,7 +109,7 @@ fn read_rename(
     Ok(WalEntry::Rename(old, new, head.at))
 }
 
-// A file that is cut or lengthened.
+// Decodes a truncate.
 fn read_truncate(
     alloc: Global,
     head: EntryHeader,
@@ -125,7 +126,7 @@ fn read_truncate(
     Ok(WalEntry::Truncate(path, head.offset, head.at))
 }
 
-// Bytes that are laid over a file.
+// Decodes a write.
 fn read_write(
     alloc: Global,
     head: EntryHeader,
@@ -145,7 +146,7 @@ fn read_write(
     Ok(WalEntry::Write(path, head.offset, bytes, head.at))
 }
 
-// A hole.
+// Decodes a punched hole.
 fn read_punch(
     alloc: Global,
     head: EntryHeader,
@@ -162,7 +163,7 @@ fn read_punch(
     Ok(WalEntry::Punch(path, head.offset, head.count, head.at))
 }
 
-// An mtime that is set.
+// Decodes the setting of an mtime.
 fn read_mtime(
     alloc: Global,
     head: EntryHeader,
@@ -179,7 +180,7 @@ fn read_mtime(
     Ok(WalEntry::SetMtime(path, head.at))
 }
 
-// What becomes of a snapshot.
+// Decodes a snapshot call.
 fn decode_snapshot_call(
     alloc: Global,
     what: SnapshotCall,
@@ -197,7 +198,7 @@ fn decode_snapshot_call(
     Ok(WalEntry::Keep(what, name))
 }
 
-// The path of a text. `EINVAL`: it is the text of none.
+// Parses the text of a path. Fails with EINVAL if it is not the text of a path.
 fn read_path(alloc: Global, text: &[u8]) -> Result<Path, Errno>
     ensures { MatchResult result (λ path. text_of path ≡ text.now) (Refuses (IsNoText text.now)) }
 {
@@ -207,7 +208,7 @@ fn read_path(alloc: Global, text: &[u8]) -> Result<Path, Errno>
     }
 }
 
-// What is told of a text that is refused so.
+// The error for a text that is not a path: ENOMEM stays, and each other error becomes EINVAL.
 fn refusal(fault: Errno) -> Errno
     ensures { ((result ≡ EINVAL) × (fault ≢ ENOMEM)) ⊎ (result ≡ ENOMEM) }
 {
@@ -217,7 +218,7 @@ fn refusal(fault: Errno) -> Errno
     }
 }
 
-// The name of a snapshot. `EINVAL`: the text is none.
+// Parses the name of a snapshot. Fails with EINVAL if the text is not such a name.
 fn read_name(alloc: Global, text: &[u8]) -> Result<SnapName, Errno>
     ensures { MatchResult result (λ name. name ≡ text.now) (Refuses (IsNoName text.now)) }
 {

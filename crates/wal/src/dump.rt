@@ -1,4 +1,4 @@
-//! Tells a body as lines of a script.
+//! Prints the body of a record as lines of a script.
 ghost use Rattle.std.specs.Prelude.{◌≡◌, MatchResult, OnOk, IfErr};
 ghost use Rattle.wal.specs.Encode.{encoded};
 ghost use Rattle.wal.specs.Added.{AddsAll};
@@ -10,10 +10,12 @@ use crate::wal_entry::WalEntry;
 use pathkey::Errno;
 use std::alloc::Global;
 
-/// The lines of a script that ask for the changes of a log's body, in their order and each at its moment, and of nothing else.
+/// Prints the changes of a record's body as the lines of a script that makes the same changes, in the same order, with the
+/// same timestamps, and does nothing else.
 ///
-/// A write is told by as many lines as it needs. A hole has no line, since what it does depends on the length of the file, nor has an
-/// mtime that is set, since no call of a script sets one: each is told by a note, a comment of the script. `EINVAL`: the bytes are no body. `EFBIG`: a write reaches past 2^64. `ENOMEM`.
+/// A write becomes as many lines as it needs. A hole has no line, since its effect depends on the length of the file. Neither
+/// has an mtime that is set, since no call of a script sets one. Both become a note, which is a comment of the script. Fails
+/// with EINVAL if the bytes are not a body, with EFBIG if a write reaches past 2^64, and with ENOMEM if an allocation fails.
 pub fn wal_dump(alloc: Global, body: &[u8]) -> Result<Vec<u8>, Errno>
     ensures { MatchResult result (λ text. IsScriptOf body.now text.items) (λ e. RefusesLines body.now e) }
 {
@@ -25,7 +27,8 @@ pub fn wal_dump(alloc: Global, body: &[u8]) -> Result<Vec<u8>, Errno>
     }
 }
 
-/// The same lines in a buffer: how many bytes they have, which are written where the buffer has room for all of them.
+/// Copies the lines of `wal_dump` into a buffer, if it is large enough for all of them. Returns their length in bytes in
+/// either case. Fails as `wal_dump` does.
 pub fn wal_dump_into(alloc: Global, body: &[u8], out: &mut [u8]) -> Result<usize, Errno>
     ensures { EncodesLines body.now result out.old out.new }
 {
@@ -34,7 +37,7 @@ pub fn wal_dump_into(alloc: Global, body: &[u8], out: &mut [u8]) -> Result<usize
     Ok(text.len())
 }
 
-// Lays a text into the front of a buffer, where it has room for it.
+// Copies a text to the start of a buffer, if the buffer is large enough.
 fn encode(text: &[u8], out: &mut [u8])
     ensures { out.new ≡ encoded text.now out.old }
 {
@@ -43,7 +46,7 @@ fn encode(text: &[u8], out: &mut [u8])
     }
 }
 
-// Adds the lines of changes, one after the other.
+// Appends the lines of the changes, in order.
 fn put_changes(text: &mut Vec<u8>, changes: &[WalEntry]) -> Result<(), Errno>
     ensures added { OnOk result (AddsAll changes.now text.old.items text.new.items) }
     ensures refused { IfErr result (λ e. RefusesTelling changes.now e) }

@@ -1,5 +1,5 @@
-//! Changes asked in texts, as bytes in a buffer of the caller: how many bytes they are, which are written where the buffer has room for
-//! all of them.
+//! Encodes changes, given as texts, into a buffer of the caller. Each function returns the length of the encoding in bytes,
+//! and writes it only if the buffer is large enough for all of it.
 ghost use Rattle.std.specs.Prelude.{◌≡◌, ◌++◌, IfErr, IfOk, OnOk, length};
 ghost use Rattle.pathkey.specs.SnapNames.{snap_parsed};
 ghost use Rattle.pathkey.specs.Texts.{parsed};
@@ -16,7 +16,7 @@ use pathkey::{Errno, NoMemory, Path, SnapName};
 use reference::PathCall;
 use std::alloc::Global;
 
-/// What makes or takes out what stands at a path.
+/// Encodes a call that creates or removes an entry at a path. Fails with the error of the path's text, or with ENOMEM.
 pub fn encode_path_call(
     alloc: Global,
     what: PathCall,
@@ -36,7 +36,7 @@ pub fn encode_path_call(
     encode(alloc, head, path, &[], out)
 }
 
-/// A move of what stands at the first path to the second.
+/// Encodes a rename from the first path to the second. Fails with the error of a path's text, or with ENOMEM.
 pub fn encode_rename(
     alloc: Global,
     old: &[u8],
@@ -57,7 +57,8 @@ pub fn encode_rename(
     encode(alloc, head, old, new, out)
 }
 
-/// A file that is cut to so many bytes, or lengthened to them by zeros.
+/// Encodes a truncate to the given length in bytes, which may also extend the file with zeros. Fails with the error of the
+/// path's text, or with ENOMEM.
 pub fn encode_truncate(
     alloc: Global,
     path: &[u8],
@@ -77,7 +78,7 @@ pub fn encode_truncate(
     encode(alloc, head, path, &[], out)
 }
 
-/// Bytes that are laid over a file from the offset on.
+/// Encodes a write of the bytes at the offset. Fails with the error of the path's text, or with ENOMEM.
 pub fn encode_write(
     alloc: Global,
     path: &[u8],
@@ -98,7 +99,7 @@ pub fn encode_write(
     encode(alloc, head, path, bytes, out)
 }
 
-/// A hole of so many bytes from the offset on.
+/// Encodes a hole of `count` bytes at the offset. Fails with the error of the path's text, or with ENOMEM.
 pub fn encode_punch(
     alloc: Global,
     path: &[u8],
@@ -119,7 +120,7 @@ pub fn encode_punch(
     encode(alloc, head, path, &[], out)
 }
 
-/// An mtime that is set.
+/// Encodes the setting of an mtime. Fails with the error of the path's text, or with ENOMEM.
 pub fn encode_mtime(alloc: Global, path: &[u8], at: u64, out: &mut [u8]) -> Result<usize, Errno>
     ensures { Encodes (asked (λ p. WalEntry.SetMtime p at) (parsed path.now)) result out.old out.new }
 {
@@ -133,7 +134,7 @@ pub fn encode_mtime(alloc: Global, path: &[u8], at: u64, out: &mut [u8]) -> Resu
     encode(alloc, head, path, &[], out)
 }
 
-/// What becomes of the snapshot of a name.
+/// Encodes a snapshot call: take, remove or restore. Fails with the error of the name's text, or with ENOMEM.
 pub fn encode_snapshot_call(
     alloc: Global,
     what: SnapshotCall,
@@ -152,7 +153,8 @@ pub fn encode_snapshot_call(
     encode(alloc, head, parsed.as_bytes(), &[], out)
 }
 
-/// What stands round the body of a record of this number in the log of a salt: the 24 bytes before it, and the 32 behind it.
+/// Encodes what surrounds the body of the record with this number in a log with this salt: the 24 bytes of the header and the
+/// 32 bytes of the digest after the body. Fails only with ENOMEM.
 pub fn encode_frame(
     alloc: Global,
     salt: &[u8],
@@ -167,7 +169,7 @@ pub fn encode_frame(
     Ok(encode_two(ends.as_slice(), &[], out))
 }
 
-// Whether a text names a path.
+// Checks that a text is a path.
 fn check_path(alloc: Global, text: &[u8]) -> Result<(), Errno>
     ensures { Checks text.now (parsed text.now) result }
 {
@@ -175,7 +177,7 @@ fn check_path(alloc: Global, text: &[u8]) -> Result<(), Errno>
     Ok(())
 }
 
-// The number that says which change it is.
+// The kind of the entry of a path call.
 fn path_kind(what: PathCall) -> u64
     ensures { result ≡ path_kind what }
 {
@@ -198,7 +200,7 @@ fn keeping_kind(what: SnapshotCall) -> u64
     }
 }
 
-// Lays an entry into the front of the buffer, where it has room for it: how many bytes the entry has.
+// Copies an entry to the start of the buffer, if the buffer is large enough. Returns the length of the entry in bytes.
 fn encode(
     alloc: Global,
     head: EntryHeader,
@@ -230,7 +232,7 @@ fn front_of(
     Ok(front)
 }
 
-// Adds the numbers of an entry.
+// Appends the numbers of an entry.
 #[tactic(auto, unfolding(crate::specs::Entries::numbers))]
 fn put_numbers(out: &mut Vec<u8>, head: EntryHeader) -> Result<(), NoMemory>
     ensures { OnOk result (out.new.items ≡ out.old.items ++ numbers head) }
@@ -242,7 +244,7 @@ fn put_numbers(out: &mut Vec<u8>, head: EntryHeader) -> Result<(), NoMemory>
     Ok(())
 }
 
-// Lays two parts into the front of the buffer, where it has room for both: how many bytes they have.
+// Copies two parts to the start of the buffer, if it is large enough for both. Returns their length in bytes.
 fn encode_two(first: &[u8], second: &[u8], out: &mut [u8]) -> usize
     ensures count { result ≡ length (first.now ++ second.now) }
     ensures buffer { out.new ≡ encoded (first.now ++ second.now) out.old }

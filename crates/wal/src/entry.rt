@@ -1,4 +1,4 @@
-//! Entries: a change as numbers and texts.
+//! Entries of a record: each is a change, encoded as numbers and texts.
 ghost use Rattle.std.specs.Prelude.{◌≡◌, ◌<◌, ◌++◌, IfSome, MatchOption, length};
 ghost use Rattle.wal.specs.Entries.{IsHead, IsWord, LacksEntry, entry, numbers};
 
@@ -7,9 +7,9 @@ use crate::u64_le::split_u64;
 /// The numbers of an entry.
 #[derive(Clone, Copy)]
 pub(crate) struct EntryHeader {
-    /// Which change it is.
+    /// The kind of the change.
     pub(crate) kind: u64,
-    /// Its moment.
+    /// Its timestamp.
     pub(crate) at: u64,
     /// An offset or a length.
     pub(crate) offset: u64,
@@ -17,7 +17,8 @@ pub(crate) struct EntryHeader {
     pub(crate) count: u64,
 }
 
-// The entry that bytes begin with, its numbers and two texts, and the bytes behind it; none where they begin with none.
+// Splits the first entry off the bytes: its numbers, its two texts, and the rest. Returns `None` if the bytes do not begin
+// with an entry.
 pub(crate) fn split_entry(bytes: &[u8]) -> Option<(EntryHeader, &[u8], &[u8], &[u8])>
     ensures shorter { IfSome result (λ cut. length cut.3.now < length bytes.now) }
     ensures is { MatchOption result (LacksEntry bytes.now) (λ cut. bytes.now ≡ entry cut.0 cut.1.now cut.2.now ++ cut.3.now) }
@@ -41,7 +42,7 @@ pub(crate) fn split_entry(bytes: &[u8]) -> Option<(EntryHeader, &[u8], &[u8], &[
     Some((head, first, second, rest))
 }
 
-// The numbers that bytes begin with, and the bytes behind them; none where they are too few.
+// Splits the numbers of an entry off the bytes. Returns `None` if there are too few bytes.
 fn split_header(bytes: &[u8]) -> Option<(EntryHeader, &[u8])>
     ensures is { MatchOption result (length bytes.now < 32) (λ cut. bytes.now ≡ numbers cut.0 ++ cut.1.now) }
     ensures fits { IfSome result (λ cut. IsHead cut.0) }
@@ -67,7 +68,7 @@ fn split_header(bytes: &[u8]) -> Option<(EntryHeader, &[u8])>
     Some((head, rest))
 }
 
-// So many bytes, and those behind them; none where they are too few.
+// Splits `len` bytes off. Returns `None` if there are too few bytes.
 pub(crate) fn cut_at(bytes: &[u8], len: u64) -> Option<(&[u8], &[u8])>
     ensures { MatchOption result (length bytes.now < len) (λ cut. (bytes.now ≡ cut.0.now ++ cut.1.now) × (length cut.0.now ≡ len)) }
 {

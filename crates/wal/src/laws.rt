@@ -1,20 +1,20 @@
-//! Laws of logs, of crashes and of lines. The functions do nothing.
+//! Laws of logs, of crashes and of the lines of a dump. The functions do nothing at run time.
 ghost use Rattle.wal.specs.Laws.{CrashLaw, CutLaw, DigestLaw, FirstLaw, NumberLaw, OneBodyLaw, OneReadingLaw, SaltLaw, SplitLaw, SyncedLaw, TailLaw};
 
-/// Bytes are read in one way: a body as changes, and a log as records.
+/// Decoding is unambiguous, both of a body into changes and of a log into records.
 pub fn one_reading()
     ensures body { OneBodyLaw }
     ensures log { OneReadingLaw }
 {}
 
-/// Of a log that is cut anywhere, the records that lie whole before the cut count, and no other.
+/// If a log is cut anywhere, exactly the records that are complete before the cut count.
 pub fn cut_anywhere()
     ensures counts { CutLaw }
     ensures first { FirstLaw }
 {}
 
-/// Damage takes no record before it away; and what it touches is a record no more, where magic bytes, number or digest tell it. Nor is
-/// the record of a log with another salt.
+/// Damage leaves the records before it valid. A damaged record no longer counts if its magic bytes, number or digest show the
+/// damage. Neither does a record of a log with another salt.
 pub fn damaged()
     ensures tail { TailLaw }
     ensures digest { DigestLaw }
@@ -22,13 +22,13 @@ pub fn damaged()
     ensures number { NumberLaw }
 {}
 
-/// After a crash the log tells the first requests, and no fewer than were synced.
+/// After a crash the log has the first requests, and no fewer than were synced.
 pub fn after_a_crash()
     ensures beginning { CrashLaw }
     ensures synced { SyncedLaw }
 {}
 
-/// Two writes, the second where the first ended, make what one write of both makes.
+/// Two writes, of which the second begins where the first ends, have the same effect as one write of both.
 pub fn split()
     ensures { SplitLaw }
 {}

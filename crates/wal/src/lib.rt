@@ -1,5 +1,6 @@
-//! The write-ahead log of a store: each request that changes a volume is a record of changes. Of a log's bytes the records that count
-//! are told, also where the log is cut or damaged; they are replayed on a volume, and printed as lines of a script.
+//! The write-ahead log (WAL) of a store: each request that changes a volume is a record, whose body is a list of changes. The
+//! crate finds the records that count in the bytes of a log, also if the log is cut or damaged. It replays them on a volume,
+//! and prints them as lines of a script.
 #![tactic(auto)]
 
 mod apply;

@@ -1,4 +1,4 @@
-//! One line of a script.
+//! The lines of a script, one for each kind of change.
 ghost use Rattle.std.specs.Prelude.{◌≡◌, ◌≤◌, ◌++◌, ℕ, OnOk, length};
 ghost use Rattle.wal.specs.declared.wal_entry.WalEntry.{WalEntry};
 ghost use Rattle.wal.specs.declared.wal_entry.WalEntry.TheVariants.{OnPath, Rename, Truncate, Write, Punch, SetMtime, Keep};
@@ -12,14 +12,14 @@ use reference::PathCall;
 use textio::output::{WriteFailed, put};
 use textio::text::{put_hex, put_number, put_number_line, put_path};
 
-// Adds the line of a moment.
+// Appends the line that sets the timestamp.
 pub(crate) fn put_moment(text: &mut Vec<u8>, at: u64) -> Result<(), WriteFailed>
     ensures { OnOk result (AddsLine (At at) text.old.items text.new.items) }
 {
     put_number_line(text, b"at ", at)
 }
 
-// Adds the line of what is made or taken out at a path.
+// Appends the line of a call that creates or removes an entry at a path.
 pub(crate) fn put_on_path(
     text: &mut Vec<u8>,
     what: PathCall,
@@ -33,7 +33,7 @@ pub(crate) fn put_on_path(
     put(text, b"\n")
 }
 
-// Adds the line of a move.
+// Appends the line of a rename.
 pub(crate) fn put_rename(text: &mut Vec<u8>, old: &Path, new: &Path) -> Result<(), WriteFailed>
     ensures { OnOk result ((at : ℕ) → AddsLine (Makes (Rename old.now new.now at)) text.old.items text.new.items) }
 {
@@ -44,7 +44,7 @@ pub(crate) fn put_rename(text: &mut Vec<u8>, old: &Path, new: &Path) -> Result<(
     put(text, b"\n")
 }
 
-// Adds the line of a file that is cut, or lengthened by zeros.
+// Appends the line of a truncate.
 pub(crate) fn put_truncate(text: &mut Vec<u8>, path: &Path, length: u64) -> Result<(), WriteFailed>
     ensures { OnOk result ((at : ℕ) → AddsLine (Makes (Truncate path.now length at)) text.old.items text.new.items) }
 {
@@ -55,7 +55,7 @@ pub(crate) fn put_truncate(text: &mut Vec<u8>, path: &Path, length: u64) -> Resu
     put(text, b"\n")
 }
 
-// Adds the line of bytes that are laid over a file.
+// Appends the line of a write.
 pub(crate) fn put_write(
     text: &mut Vec<u8>,
     path: &Path,
@@ -74,7 +74,7 @@ pub(crate) fn put_write(
     put(text, b"\n")
 }
 
-// Adds the note of a hole.
+// Appends the note of a hole.
 pub(crate) fn put_hole(
     text: &mut Vec<u8>,
     path: &Path,
@@ -92,7 +92,7 @@ pub(crate) fn put_hole(
     put(text, b"\n")
 }
 
-// Adds the note of an mtime that is set.
+// Appends the note of an mtime that is set.
 pub(crate) fn put_mtime(text: &mut Vec<u8>, path: &Path, at: u64) -> Result<(), WriteFailed>
     ensures { OnOk result (AddsLine (Makes (SetMtime path.now at)) text.old.items text.new.items) }
 {
@@ -103,7 +103,7 @@ pub(crate) fn put_mtime(text: &mut Vec<u8>, path: &Path, at: u64) -> Result<(), 
     put(text, b"\n")
 }
 
-// Adds the line of what becomes of the snapshot of a name.
+// Appends the line of a snapshot call.
 pub(crate) fn put_keep(
     text: &mut Vec<u8>,
     what: SnapshotCall,
@@ -117,12 +117,12 @@ pub(crate) fn put_keep(
     put(text, b"\n")
 }
 
-// Adds the text of a path in percent form.
+// Appends the text of a path in percent form.
 fn put_path_word(text: &mut Vec<u8>, path: &Path) -> Result<(), WriteFailed>
     ensures valid { IsPath path.now }
     ensures word { OnOk result (text.new.items ≡ text.old.items ++ path_word path.now) }
 {
-    // What `key` promises says that the path is one.
+    // The contract of `key` says that this is a path.
     let _key = path.key();
     if path.is_root() {
         return put(text, b"/");
@@ -130,7 +130,7 @@ fn put_path_word(text: &mut Vec<u8>, path: &Path) -> Result<(), WriteFailed>
     put_path(text, path)
 }
 
-// The name of the call that a change is.
+// The name of a path call in a script.
 fn call_word(what: PathCall) -> &'static [u8]
     ensures { result.now ≡ call_word what }
 {

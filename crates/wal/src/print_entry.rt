@@ -1,4 +1,4 @@
-//! The lines of each change.
+//! Prints each change as the lines that it needs.
 ghost use Rattle.std.specs.Prelude.{◌≡◌, ◌+◌, ◌^◌, ◌<◌, ℕ, OnOk, false, length};
 ghost use Rattle.wal.specs.Added.{Adds, AddsParts};
 ghost use Rattle.wal.specs.Dump.{exceeds_range};
@@ -13,7 +13,7 @@ use textio::output::WriteFailed;
 /// The most bytes that one line writes: those of seven blocks.
 const MOST: usize = 28_672;
 
-// Whether a write reaches past the last number of a byte.
+// Whether a write reaches past the greatest offset, 2^64 - 1.
 pub(crate) fn exceeds_range(change: &WalEntry) -> bool
     ensures { result ≡ exceeds_range change.now }
 {
@@ -23,7 +23,7 @@ pub(crate) fn exceeds_range(change: &WalEntry) -> bool
     }
 }
 
-// Adds the lines of a change.
+// Appends the lines of a change.
 pub(crate) fn put_change(text: &mut Vec<u8>, change: &WalEntry) -> Result<(), WriteFailed>
     requires { exceeds_range change.now ≡ false }
     ensures { OnOk result (Adds change.now text.old.items text.new.items) }
@@ -51,14 +51,14 @@ pub(crate) fn put_change(text: &mut Vec<u8>, change: &WalEntry) -> Result<(), Wr
     }
 }
 
-// Adds the lines of a write, each of as many bytes as a line has room for.
+// Appends the lines of a write, each with as many bytes as a line may have.
 fn put_parts(text: &mut Vec<u8>, path: &Path, offset: u64, bytes: &[u8]) -> Result<(), WriteFailed>
     requires { offset + length bytes.now < 2 ^ 64 }
     ensures { OnOk result ((at : ℕ) → AddsParts path.now offset bytes.now at text.old.items text.new.items) }
 {
     let mut from = offset;
     let mut rest = bytes;
-    // No slice has more bytes.
+    // No slice has more bytes than this.
     for _ in 0..u64::MAX {
         let (part, behind) = rest.split_at(rest.len().min(MOST));
         put_write(text, path, from, part)?;

@@ -1,4 +1,4 @@
-//! Records: of a log's bytes, what is a record.
+//! Records of a log: their format, and how a record is found in the bytes of a log.
 ghost use Rattle.std.specs.Prelude.{◌≡◌, ◌≢◌, ◌++◌, ℕ, List, IfOk, MatchOption, OnOk, length};
 ghost use Rattle.wal.specs.Entries.{IsWord};
 ghost use Rattle.wal.specs.Records.{LacksRecord, digest, front, magic, record_of};
@@ -10,16 +10,17 @@ use pathkey::NoMemory;
 use sha2::{Digest, Sha256};
 use std::alloc::Global;
 
-/// With which bytes each record of a log without a salt begins.
+/// The bytes with which each record of a log without a salt begins.
 const MAGIC_1: &[u8] = b"dvlog 1\n";
 
-/// With which bytes each record of a log with a salt begins.
+/// The bytes with which each record of a log with a salt begins.
 const MAGIC_2: &[u8] = b"dvlog 2\n";
 
-/// How many bytes stand before the body of a record.
+/// The length in bytes of the header before the body of a record.
 pub const HEADER_LEN: usize = 24;
 
-/// What stands round the body of a record of this number in the log of a salt: the `HEADER_LEN` bytes before it, and those behind it.
+/// Encodes what surrounds the body of the record with this number in a log with this salt: the `HEADER_LEN` bytes before it,
+/// and the digest after it.
 pub fn record_frame(
     alloc: Global,
     salt: &[u8],
@@ -35,7 +36,7 @@ pub fn record_frame(
     Ok(ends)
 }
 
-// Adds what stands before a body of so many bytes.
+// Appends the header of a record whose body has `len` bytes.
 #[tactic(auto, unfolding(crate::specs::Records::front))]
 fn push_header(out: &mut Vec<u8>, salt: &[u8], number: u64, len: u64) -> Result<(), NoMemory>
     ensures { OnOk result (out.new.items ≡ out.old.items ++ front salt.now number len) }
@@ -46,14 +47,14 @@ fn push_header(out: &mut Vec<u8>, salt: &[u8], number: u64, len: u64) -> Result<
     Ok(())
 }
 
-// With which bytes each record of a log begins.
+// The bytes with which each record of a log with this salt begins.
 fn magic(salt: &[u8]) -> &'static [u8]
     ensures { result.now ≡ magic salt.now }
 {
     if salt.is_empty() { MAGIC_1 } else { MAGIC_2 }
 }
 
-// The digest of a salt, of what stands before a body and of the body.
+// The digest of a salt, a header and a body.
 fn digest_of(salt: &[u8], front: &[u8], body: &[u8]) -> [u8; 32]
     ensures { result ≡ sha256 (salt.now ++ front.now ++ body.now) }
 {
@@ -64,8 +65,8 @@ fn digest_of(salt: &[u8], front: &[u8], body: &[u8]) -> [u8; 32]
     hasher.finalize()
 }
 
-/// The body of the record of this number with which a log of this salt begins, and the log behind it; none where it begins with no such
-/// record, as where the record is cut off or damaged, or of another log.
+/// Splits the first record off a log with this salt, if it has this number: its body, and the rest of the log. Returns `None`
+/// if the log does not begin with such a record, for example because the record is cut off, damaged, or of another log.
 pub fn next_record<'a>(log: &'a [u8], salt: &[u8], number: u64) -> Option<(&'a [u8], &'a [u8])>
     ensures { MatchOption result (LacksRecord salt.now number log.now) (λ cut. (log.now ≡ record_of salt.now number cut.0.now ++ cut.1.now) × IsWord (length cut.0.now)) }
 {
@@ -84,7 +85,7 @@ pub fn next_record<'a>(log: &'a [u8], salt: &[u8], number: u64) -> Option<(&'a [
     Some((body, rest))
 }
 
-// How many bytes a body has of which this stands before it; none where it stands before none of this number.
+// Reads the length of the body from a header. Returns `None` if the bytes are not the header of a record with this number.
 fn len_after(bytes: &[u8], salt: &[u8], number: u64) -> Option<u64>
     ensures { MatchOption result ((len : ℕ) → IsWord len → bytes.now ≢ front salt.now number len) (λ len. (bytes.now ≡ front salt.now number len) × IsWord len) }
 {
@@ -103,7 +104,7 @@ fn len_after(bytes: &[u8], salt: &[u8], number: u64) -> Option<u64>
     Some(len)
 }
 
-// What stands behind the digest of a record; none where the bytes begin with another.
+// Returns the bytes after the digest of a record, or `None` if the bytes begin with another digest.
 fn behind_sum<'a>(salt: &[u8], front: &[u8], body: &[u8], bytes: &'a [u8]) -> Option<&'a [u8]>
     ensures { MatchOption result ((rest : List ℕ) → bytes.now ≢ sha256 (salt.now ++ front.now ++ body.now) ++ rest) (λ rest. bytes.now ≡ sha256 (salt.now ++ front.now ++ body.now) ++ rest.now) }
 {

@@ -1,12 +1,12 @@
-//! Where a run of changes stopped.
+//! The error of a replay.
 
 use pathkey::Errno;
 
-/// The first change that was refused, and why. It changed nothing.
+/// The first change that failed, and its error. It changed nothing.
 #[derive(Clone, Copy, Debug, PartialEq, Eq)]
 pub struct ReplayError {
-    /// How many changes were done before it.
+    /// The number of changes that were applied before it.
     pub done: usize,
-    /// Why it was refused.
+    /// The error of the change.
     pub fault: Errno,
 }

@@ -8,19 +8,19 @@ use crate::run::replay_body;
 use std::alloc::Global;
 use volume::Volume;
 
-/// What is told of a log that was replayed.
+/// The result of a replay.
 #[derive(Clone, Copy, Debug, PartialEq, Eq)]
 pub struct ReplayReport {
-    /// How many records were done.
+    /// The number of records that were applied.
     pub records: usize,
-    /// How many bytes they take. The log counts no further, or the record behind them was not done.
+    /// The length of these records in bytes. After them, either no record counts or the next record was not applied.
     pub size: usize,
-    /// Of the record that was not done, if one was not: the change that was refused.
+    /// If the next record was not applied: the change that failed.
     pub stopped: Option<ReplayError>,
 }
 
-/// Does the changes of the records of a log with this salt, the first of which has this number, up to the log's end or to the first change
-/// that is refused. Records that are cut off or damaged, and what is behind them, do not count.
+/// Applies the changes of the records of a log with this salt, whose first record has this number, up to the end of the log
+/// or to the first change that fails. Records that are cut off or damaged, and everything after them, do not count.
 pub fn replay(
     alloc: Global,
     volume: &mut Volume,

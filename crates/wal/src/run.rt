@@ -1,4 +1,4 @@
-//! Runs changes, and bodies of records.
+//! Applies changes, and bodies of records, to a volume.
 ghost use Rattle.wal.specs.Runs.{Runs, RunsBody};
 
 use crate::apply::apply_entry;
@@ -8,7 +8,7 @@ use crate::wal_entry::WalEntry;
 use std::alloc::Global;
 use volume::Volume;
 
-/// Does changes, one after the other, up to the first that is refused.
+/// Applies changes in order, up to the first that fails.
 pub fn replay_entries(
     alloc: Global,
     volume: &mut Volume,
@@ -26,8 +26,8 @@ pub fn replay_entries(
     Ok(())
 }
 
-/// Does the changes of the body of a record, up to the first that is refused. Bytes that are no body are refused with EINVAL, and want
-/// of memory for reading them with ENOMEM: then nothing was done.
+/// Applies the changes of a record's body, up to the first that fails. Bytes that are not a body fail with EINVAL, and an
+/// allocation failure while decoding them with ENOMEM. In both cases nothing was applied.
 pub fn replay_body(alloc: Global, volume: &mut Volume, body: &[u8]) -> Result<(), ReplayError>
     ensures { RunsBody body.now result volume.old volume.new }
 {

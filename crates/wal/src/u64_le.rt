@@ -1,13 +1,13 @@
-//! Numbers of eight bytes, least first.
+//! Numbers of eight bytes in little-endian order.
 ghost use Rattle.std.specs.Prelude.{◌≡◌, ◌++◌, ◌<◌, MatchOption, OnOk, length};
 ghost use Rattle.wal.specs.Entries.{IsWord, word};
 
 use pathkey::NoMemory;
 
-/// How many bytes a number has.
+/// The length of a number in bytes.
 pub(crate) const U64_LEN: usize = 8;
 
-// The number that bytes begin with, and the bytes behind it; none where they are too few.
+// Splits a number off the bytes. Returns `None` if there are too few bytes.
 pub(crate) fn split_u64(bytes: &[u8]) -> Option<(u64, &[u8])>
     ensures { MatchOption result (length bytes.now < 8) (λ cut. (bytes.now ≡ word cut.0 ++ cut.1.now) × IsWord cut.0) }
 {
@@ -17,7 +17,7 @@ pub(crate) fn split_u64(bytes: &[u8]) -> Option<(u64, &[u8])>
     Some((u64::from_le_bytes(*front), rest))
 }
 
-// Adds a number.
+// Appends a number.
 #[tactic(auto, unfolding(crate::specs::Entries::word))]
 pub(crate) fn push_u64(out: &mut Vec<u8>, n: u64) -> Result<(), NoMemory>
     ensures { OnOk result (out.new.items ≡ out.old.items ++ word n) }

@@ -1,35 +1,35 @@
-//! The changes that a log keeps.
+//! The changes that a log records.
 
 use bytes::Bytes;
 use pathkey::{Path, SnapName};
 use reference::PathCall;
 
-/// What becomes of the snapshot of a name.
+/// What a call does with the snapshot of a name.
 #[derive(Clone, Copy, Debug, PartialEq, Eq)]
 pub enum SnapshotCall {
-    /// The live tree is kept under the name.
+    /// Takes a snapshot of the live tree under the name.
     Snapshot,
-    /// The snapshot is removed.
+    /// Removes the snapshot.
     Remove,
-    /// The live tree becomes that of the snapshot.
+    /// Replaces the live tree by that of the snapshot.
     Restore,
 }
 
-/// A change of a volume. Moments are the last number of those that have one; offsets and lengths are in bytes.
+/// A change of a volume. The last number of a variant, if it has one, is a timestamp. Offsets and lengths are in bytes.
 #[derive(Debug, Drop)]
 pub enum WalEntry {
-    /// Makes or takes out what stands at a path.
+    /// Creates or removes an entry at a path.
     OnPath(PathCall, Path, u64),
-    /// Moves what stands at the first path to the second.
+    /// Renames an entry from the first path to the second.
     Rename(Path, Path, u64),
-    /// Cuts a file to the length, or lengthens it by zeros.
+    /// Truncates a file to the length, or extends it with zeros.
     Truncate(Path, u64, u64),
-    /// Lays the bytes over a file from the offset on.
+    /// Writes the bytes to a file at the offset.
     Write(Path, u64, Bytes, u64),
-    /// Makes zeros of so many bytes from the offset on, as far as the file reaches.
+    /// Overwrites the given number of bytes at the offset with zeros, as far as the file reaches.
     Punch(Path, u64, u64, u64),
-    /// Sets the mtime of what is at a path.
+    /// Sets the mtime of the entry at a path.
     SetMtime(Path, u64),
-    /// Keeps, removes or restores the snapshot of a name.
+    /// Takes, removes or restores the snapshot of a name.
     Keep(SnapshotCall, SnapName),
 }
