@@ -1,4 +1,4 @@
-//! Exports of the calls that change a volume, each at a moment.
+//! Exports of the calls that change a volume, each with a timestamp.
 ghost use Rattle.pathkey.specs.SnapNames.{snap_parsed};
 ghost use Rattle.pathkey.specs.Texts.{parsed};
 ghost use Rattle.reference.specs.declared.call.Call.TheVariants as ask;
@@ -13,7 +13,7 @@ use crate::handle::VolumeHandle;
 use crate::numbers::number;
 use std::alloc::Global;
 
-/// Makes an empty directory.
+/// Creates an empty directory.
 #[unsafe(no_mangle)]
 pub extern "C" fn doorvervain_raw_mkdir(
     alloc: Global,
@@ -27,7 +27,7 @@ pub extern "C" fn doorvervain_raw_mkdir(
     number(ffi_calls::mkdir(alloc, fs.volume(), path, at))
 }
 
-/// Makes an empty file where nothing stands.
+/// Creates an empty file if the path does not exist.
 #[unsafe(no_mangle)]
 pub extern "C" fn doorvervain_raw_create(
     alloc: Global,
@@ -41,7 +41,7 @@ pub extern "C" fn doorvervain_raw_create(
     number(ffi_calls::create(alloc, fs.volume(), path, at))
 }
 
-/// Takes a file out.
+/// Removes a file.
 #[unsafe(no_mangle)]
 pub extern "C" fn doorvervain_raw_unlink(
     alloc: Global,
@@ -55,7 +55,7 @@ pub extern "C" fn doorvervain_raw_unlink(
     number(ffi_calls::unlink(alloc, fs.volume(), path, at))
 }
 
-/// Takes an empty directory out.
+/// Removes an empty directory.
 #[unsafe(no_mangle)]
 pub extern "C" fn doorvervain_raw_rmdir(
     alloc: Global,
@@ -69,7 +69,7 @@ pub extern "C" fn doorvervain_raw_rmdir(
     number(ffi_calls::rmdir(alloc, fs.volume(), path, at))
 }
 
-/// Takes a file out, or a directory with all below it.
+/// Removes a file, or a directory with everything below it.
 #[unsafe(no_mangle)]
 pub extern "C" fn doorvervain_raw_rmtree(
     alloc: Global,
@@ -83,7 +83,7 @@ pub extern "C" fn doorvervain_raw_rmtree(
     number(ffi_calls::rmtree(alloc, fs.volume(), path, at))
 }
 
-/// Moves what stands at the first path to the second.
+/// Renames a file or directory from the first path to the second.
 #[unsafe(no_mangle)]
 pub extern "C" fn doorvervain_raw_rename(
     alloc: Global,
@@ -98,7 +98,7 @@ pub extern "C" fn doorvervain_raw_rename(
     number(ffi_calls::rename(alloc, fs.volume(), old, new, at))
 }
 
-/// Cuts a file to so many bytes, or lengthens it to them by zeros.
+/// Truncates a file to the given length in bytes, or extends it to that length with zeros.
 #[unsafe(no_mangle)]
 pub extern "C" fn doorvervain_raw_truncate(
     alloc: Global,
@@ -113,7 +113,7 @@ pub extern "C" fn doorvervain_raw_truncate(
     number(ffi_calls::truncate(alloc, fs.volume(), path, length, at))
 }
 
-/// Lays the bytes over a file from the offset on: all of them, or none.
+/// Writes the bytes to a file at the offset: all of them, or none.
 #[unsafe(no_mangle)]
 pub extern "C" fn doorvervain_raw_write(
     alloc: Global,
@@ -143,7 +143,7 @@ pub extern "C" fn doorvervain_raw_set_mtime(
     number(ffi_calls::set_mtime(alloc, fs.volume(), path, at))
 }
 
-/// Keeps the live tree under a name.
+/// Takes a snapshot of the live tree under a name.
 #[unsafe(no_mangle)]
 pub extern "C" fn doorvervain_raw_snapshot(alloc: Global, fs: &mut VolumeHandle, name: &[u8]) -> u8
     ensures settles { SettlesNamed (snap_parsed name.now) TakeSnapshot KeptAs (reported result) fs.old.volume fs.new.volume }
@@ -165,7 +165,7 @@ pub extern "C" fn doorvervain_raw_drop_snapshot(
     number(ffi_calls::drop_snapshot(alloc, fs.volume(), name))
 }
 
-/// The live tree becomes that of the snapshot, which stays.
+/// Replaces the live tree by that of the snapshot, which is kept.
 #[unsafe(no_mangle)]
 pub extern "C" fn doorvervain_raw_restore(alloc: Global, fs: &mut VolumeHandle, name: &[u8]) -> u8
     ensures settles { SettlesNamed (snap_parsed name.now) RestoreSnapshot Restored (reported result) fs.old.volume fs.new.volume }

@@ -1,4 +1,4 @@
-//! Exports of differences: what makes one tree of another, printed and applied.
+//! Exports of deltas, which say how one tree becomes another: printing and application.
 ghost use Rattle.std.specs.Prelude.{◌≡◌, ◌↔◌, IfErr, IfOk, Ok};
 ghost use Rattle.reference.specs.Worlds.{World};
 ghost use Rattle.volume.specs.Volumes.{Means};
@@ -13,8 +13,9 @@ use delta::{DeltaFault, apply_delta};
 use pathkey::Errno;
 use std::alloc::Global;
 
-/// The difference of two trees of the volume, each named as its snapshot, or the live tree by an empty text. How many bytes it has goes to
-/// `size`; they are written where the buffer has room for all of them. One with less room is short; one with none only asks for the size.
+/// Prints the difference of two trees of the volume. Each is named as its snapshot, and the live tree by an empty text.
+/// Stores its length in bytes in `size`, and writes it only if the buffer is large enough for all of it. The result is that
+/// of a short buffer if the capacity is smaller but not 0. Capacity 0 only asks for the size.
 #[unsafe(no_mangle)]
 pub extern "C" fn doorvervain_raw_delta(
     alloc: Global,
@@ -36,9 +37,10 @@ pub extern "C" fn doorvervain_raw_delta(
     sized(reported, out.len(), size)
 }
 
-/// Makes of the volume's live tree the one that a difference makes of it: 0, and the volume is a new one then, without snapshots. Or ENOENT,
-/// where it is the difference of another tree; EINVAL, and the number of the first line with which the text is no difference goes to
-/// `line`, and 0 where it is one that makes no image; or ENOMEM. Else `line` is 0. Where it is refused, the volume is as it was.
+/// Applies a delta to the volume's live tree. Returns 0 if this was done, and the volume is then a new one without snapshots.
+/// Returns ENOENT if it is the delta of another tree, EINVAL if the text is not a delta or makes no image, or ENOMEM. If the
+/// text is not a delta, the number of its first bad line is stored in `line`. In all other cases `line` is 0. On an error the
+/// volume is unchanged.
 #[unsafe(no_mangle)]
 pub extern "C" fn doorvervain_raw_apply_delta(
     alloc: Global,
@@ -55,7 +57,7 @@ pub extern "C" fn doorvervain_raw_apply_delta(
     number(answer(apply_delta(alloc, fs.volume(), text), line))
 }
 
-// What was answered to a difference, and 0 as the line; else why it was not applied, and the line that tells it.
+// The result of an application, with 0 as the line, or its error with the line to report.
 fn answer(outcome: Result<(), DeltaFault>, line: &mut u64) -> Result<(), Errno>
     ensures { DeltaReported outcome result line.new }
 {
@@ -68,7 +70,7 @@ fn answer(outcome: Result<(), DeltaFault>, line: &mut u64) -> Result<(), Errno>
     }
 }
 
-// Why a difference was not applied, and the number of the line with which the text is none, or 0.
+// The error of an application, with the number of the first bad line of the text, or 0.
 fn delta_fault(fault: DeltaFault, line: &mut u64) -> Errno
     ensures { DeltaFaultReported fault result line.new }
 {

@@ -1,4 +1,4 @@
-//! Exports of volumes that are made of the tree of another, and of frozen trees that are restored.
+//! Exports of forks, which are volumes made of the tree of another, and of restoring frozen trees.
 ghost use Rattle.pathkey.specs.declared.errno.Errno.TheVariants.{ENOMEM};
 ghost use Rattle.std.specs.Prelude.{◌≡◌, IfErr, IfOk};
 ghost use Rattle.volume.specs.Forks.{IsForkOf, RestoresTree};
@@ -13,8 +13,8 @@ use pathkey::Errno;
 use std::alloc::Global;
 use volume::{Frozen, Volume};
 
-/// Makes a volume of its own with the live tree, without snapshots, and puts its handle at `out`: 0, or ENOMEM, and then `out` is
-/// closed.
+/// Makes an independent volume with the live tree and without snapshots, and stores its handle in `out`. Returns 0, or
+/// ENOMEM, and then `out` is null.
 #[unsafe(no_mangle)]
 pub extern "C" fn doorvervain_raw_fork(
     alloc: Global,
@@ -30,8 +30,8 @@ pub extern "C" fn doorvervain_raw_fork(
     number(fork(alloc, fs.volume(), out))
 }
 
-/// Makes a volume of its own with a frozen tree, without snapshots, and puts its handle at `out`: 0, or ENOMEM, and then `out` is
-/// closed.
+/// Makes an independent volume with a frozen tree and without snapshots, and stores its handle in `out`. Returns 0, or
+/// ENOMEM, and then `out` is null.
 #[unsafe(no_mangle)]
 pub extern "C" fn doorvervain_raw_frozen_fork(
     alloc: Global,
@@ -47,7 +47,8 @@ pub extern "C" fn doorvervain_raw_frozen_fork(
     number(frozen_fork(alloc, tree.tree(), out))
 }
 
-/// The live tree becomes a frozen one, also of another volume, which stays as it is: 0, or ENOMEM, and then nothing changes.
+/// Replaces the live tree by a frozen one, which may be that of another volume and is kept. Returns 0, or ENOMEM, and then
+/// nothing changes.
 #[unsafe(no_mangle)]
 pub extern "C" fn doorvervain_raw_restore_frozen(
     fs: &mut VolumeHandle,
@@ -61,7 +62,7 @@ pub extern "C" fn doorvervain_raw_restore_frozen(
     number(ffi_calls::restore_frozen(fs.volume(), tree.tree()))
 }
 
-// Forks a volume, and puts the handle of the fork at `out`.
+// Forks a volume, and stores the handle of the fork in `out`.
 fn fork(alloc: Global, volume: &Volume, out: &mut VolumeOut) -> Result<(), Errno>
     ensures forked { IfOk result (λ _. Given (IsForkOf volume.now.live) out.new.given) }
     ensures refused { IfErr result (λ e. e ≡ ENOMEM) }
@@ -71,7 +72,7 @@ fn fork(alloc: Global, volume: &Volume, out: &mut VolumeOut) -> Result<(), Errno
     hand_out(alloc, made, out)
 }
 
-// Forks a frozen tree, and puts the handle of the fork at `out`.
+// Forks a frozen tree, and stores the handle of the fork in `out`.
 fn frozen_fork(alloc: Global, tree: &Frozen, out: &mut VolumeOut) -> Result<(), Errno>
     ensures forked { IfOk result (λ _. Given (IsForkOf tree.now) out.new.given) }
     ensures refused { IfErr result (λ e. e ≡ ENOMEM) }

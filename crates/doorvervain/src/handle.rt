@@ -1,6 +1,4 @@
-//! Handles as C holds them: each is a struct of one pointer, which has the right to what lies there, and to free it.
-//!
-//! There is a struct for each type, since a struct with type parameters cannot be passed to C.
+//! Handles as C holds them: each is a struct of one pointer that owns what it points to.
 ghost use Rattle.volume.specs.Volumes.{PVolume};
 ghost use Rattle.volume.specs.contracts.frozen.Frozen.{the_row as frozen_row};
 ghost use Rattle.volume.specs.contracts.volume.Volume.{the_row as volume_row};
@@ -16,7 +14,7 @@ mod into_raw;
 
 use std::marker::Model;
 
-/// The right to a volume, and to free it.
+/// The handle of a volume, which it owns.
 #[repr(C)]
 pub struct VolumeHandle {
     at: *mut u8,
@@ -27,7 +25,7 @@ impl Model for VolumeHandle {
     ghost also_owns = { λ h. held_at volume_row h.at h.volume };
 }
 
-/// The right to a frozen tree, and to free it.
+/// The handle of a frozen tree, which it owns.
 #[repr(C)]
 pub struct FrozenHandle {
     at: *mut u8,
@@ -38,7 +36,7 @@ impl Model for FrozenHandle {
     ghost also_owns = { λ h. held_at frozen_row h.at h.tree };
 }
 
-/// The right to an image that is printed, and to free it.
+/// The handle of a printer of an image, which it owns.
 #[repr(C)]
 pub struct PrinterHandle {
     at: *mut u8,
@@ -49,7 +47,7 @@ impl Model for PrinterHandle {
     ghost also_owns = { λ h. held_at printing_row h.at h.printing };
 }
 
-/// The right to an image that is loaded, and to free it.
+/// The handle of a loader of an image, which it owns.
 #[repr(C)]
 pub struct LoaderHandle {
     at: *mut u8,

@@ -1,4 +1,4 @@
-//! Exports of holes: bytes of a file that become zeros, and what of a file is stored.
+//! Exports of holes: bytes of a file that become zeros, and which parts of a file are stored.
 ghost use Rattle.std.specs.Prelude.{◌≡◌, ℕ, IfErr};
 ghost use Rattle.pathkey.specs.Texts.{parsed};
 ghost use Rattle.ffi_calls.specs.Holes.{PunchesAt};
@@ -9,7 +9,7 @@ use crate::handle::{FrozenHandle, VolumeHandle};
 use crate::numbers::{run, uncounted};
 use std::alloc::Global;
 
-/// Makes zeros of `count` bytes of a file from the offset on, as far as the file reaches.
+/// Overwrites `count` bytes of a file at the offset with zeros, as far as the file reaches.
 #[unsafe(no_mangle)]
 pub extern "C" fn doorvervain_raw_punch(
     alloc: Global,
@@ -25,8 +25,8 @@ pub extern "C" fn doorvervain_raw_punch(
     uncounted(ffi_calls::punch(alloc, fs.volume(), path, offset, count, at))
 }
 
-/// The next run of stored bytes of a file of the live tree at or behind the offset: where it begins goes to `begin`, and where it ends
-/// to `end`. Both are the file's length where there is none, and 0 for a refusal.
+/// Finds the next run of stored bytes of a file of the live tree at or after the offset. Stores its begin (inclusive) in
+/// `begin`, and its end (exclusive) in `end`. Both are the file's length if there is no such run, and 0 on an error.
 #[unsafe(no_mangle)]
 pub extern "C" fn doorvervain_raw_next_extent(
     alloc: Global,
@@ -48,7 +48,7 @@ pub extern "C" fn doorvervain_raw_next_extent(
     )
 }
 
-/// The next run of stored bytes of a file of a frozen tree, as `doorvervain_raw_next_extent` tells it of the live one.
+/// Finds the next run of stored bytes of a file of a frozen tree, as `doorvervain_raw_next_extent` does for the live tree.
 #[unsafe(no_mangle)]
 pub extern "C" fn doorvervain_raw_frozen_next_extent(
     alloc: Global,

@@ -1,8 +1,8 @@
-//! The file system as a C library: a handle is a pointer to a volume that C holds, and each call takes it with
+//! The file system as a C library. A handle is a pointer to a volume that C holds, and each call takes it together with
 //! numbers, texts and buffers.
 //!
-//! The exports are thin over `ffi_calls`: each says what becomes of the volume that the handle holds.
-//! `include/doorvervain.h` has what C programs call, with the words of each function.
+//! The exports are thin wrappers of `ffi_calls`: each says what happens to the volume of the handle. `include/doorvervain.h`
+//! declares what C programs call, and documents each function.
 #![tactic(auto)]
 
 mod changes;

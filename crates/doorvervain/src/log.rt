@@ -1,5 +1,5 @@
-//! Exports of the entries of a log, which take no volume, and of bodies, which are run on one. A refusal gives 0 as each other result,
-//! where nothing else is said.
+//! Exports of the entries of a log, which need no volume, and of bodies of records, which are applied to one. On an error
+//! each other result is set to 0, unless a function says otherwise.
 ghost use Rattle.std.specs.Prelude.{◌≡◌, ◌↔◌, IfErr, IfOk};
 ghost use Rattle.pathkey.specs.SnapNames.{snap_parsed};
 ghost use Rattle.pathkey.specs.Texts.{parsed};
@@ -21,8 +21,8 @@ use wal::encode::{
 };
 use wal::{PathCall, ReplayError, SnapshotCall, replay_body, wal_dump_into};
 
-/// The entry of a directory that is made. How many bytes it has goes to `size`; they are written where the buffer has
-/// room for all of them.
+/// Encodes the entry of a directory that is created. Stores its length in bytes in `size`, and writes it only if the buffer
+/// is large enough for all of it.
 #[unsafe(no_mangle)]
 pub extern "C" fn doorvervain_raw_wal_mkdir(
     alloc: Global,
@@ -40,8 +40,8 @@ pub extern "C" fn doorvervain_raw_wal_mkdir(
     sized(laid, out.len(), size)
 }
 
-/// The entry of a file that is made. How many bytes it has goes to `size`; they are written where the buffer has
-/// room for all of them.
+/// Encodes the entry of a file that is created. Stores its length in bytes in `size`, and writes it only if the buffer is
+/// large enough for all of it.
 #[unsafe(no_mangle)]
 pub extern "C" fn doorvervain_raw_wal_create(
     alloc: Global,
@@ -59,8 +59,8 @@ pub extern "C" fn doorvervain_raw_wal_create(
     sized(laid, out.len(), size)
 }
 
-/// The entry of a file that is taken out. How many bytes it has goes to `size`; they are written where the buffer has
-/// room for all of them.
+/// Encodes the entry of a file that is removed. Stores its length in bytes in `size`, and writes it only if the buffer is
+/// large enough for all of it.
 #[unsafe(no_mangle)]
 pub extern "C" fn doorvervain_raw_wal_unlink(
     alloc: Global,
@@ -78,8 +78,8 @@ pub extern "C" fn doorvervain_raw_wal_unlink(
     sized(laid, out.len(), size)
 }
 
-/// The entry of an empty directory that is taken out. How many bytes it has goes to `size`; they are written where the buffer has
-/// room for all of them.
+/// Encodes the entry of an empty directory that is removed. Stores its length in bytes in `size`, and writes it only if the
+/// buffer is large enough for all of it.
 #[unsafe(no_mangle)]
 pub extern "C" fn doorvervain_raw_wal_rmdir(
     alloc: Global,
@@ -97,8 +97,8 @@ pub extern "C" fn doorvervain_raw_wal_rmdir(
     sized(laid, out.len(), size)
 }
 
-/// The entry of what is taken out with all below it. How many bytes it has goes to `size`; they are written where the buffer has
-/// room for all of them.
+/// Encodes the entry of a file or directory that is removed with everything below it. Stores its length in bytes in `size`,
+/// and writes it only if the buffer is large enough for all of it.
 #[unsafe(no_mangle)]
 pub extern "C" fn doorvervain_raw_wal_rmtree(
     alloc: Global,
@@ -116,8 +116,8 @@ pub extern "C" fn doorvervain_raw_wal_rmtree(
     sized(laid, out.len(), size)
 }
 
-/// The entry of a move from the first path to the second. How many bytes it has goes to `size`; they are written where the buffer has
-/// room for all of them.
+/// Encodes the entry of a rename from the first path to the second. Stores its length in bytes in `size`, and writes it only
+/// if the buffer is large enough for all of it.
 #[unsafe(no_mangle)]
 pub extern "C" fn doorvervain_raw_wal_rename(
     alloc: Global,
@@ -136,8 +136,8 @@ pub extern "C" fn doorvervain_raw_wal_rename(
     sized(laid, out.len(), size)
 }
 
-/// The entry of a file that is cut or lengthened to so many bytes. How many bytes it has goes to `size`; they are written where the buffer has
-/// room for all of them.
+/// Encodes the entry of a file that is truncated or extended to the given length in bytes. Stores its own length in bytes in
+/// `size`, and writes it only if the buffer is large enough for all of it.
 #[unsafe(no_mangle)]
 pub extern "C" fn doorvervain_raw_wal_truncate(
     alloc: Global,
@@ -156,8 +156,8 @@ pub extern "C" fn doorvervain_raw_wal_truncate(
     sized(laid, out.len(), size)
 }
 
-/// The entry of bytes that are laid over a file from the offset on. How many bytes it has goes to `size`; they are written where the buffer has
-/// room for all of them.
+/// Encodes the entry of a write of the bytes at the offset. Stores its length in bytes in `size`, and writes it only if the
+/// buffer is large enough for all of it.
 #[unsafe(no_mangle)]
 pub extern "C" fn doorvervain_raw_wal_write(
     alloc: Global,
@@ -177,8 +177,8 @@ pub extern "C" fn doorvervain_raw_wal_write(
     sized(laid, out.len(), size)
 }
 
-/// The entry of a hole of so many bytes from the offset on. How many bytes it has goes to `size`; they are written where the buffer has
-/// room for all of them.
+/// Encodes the entry of a hole of `count` bytes at the offset. Stores its length in bytes in `size`, and writes it only if
+/// the buffer is large enough for all of it.
 #[unsafe(no_mangle)]
 pub extern "C" fn doorvervain_raw_wal_punch(
     alloc: Global,
@@ -198,8 +198,8 @@ pub extern "C" fn doorvervain_raw_wal_punch(
     sized(laid, out.len(), size)
 }
 
-/// The entry of an mtime that is set. How many bytes it has goes to `size`; they are written where the buffer has
-/// room for all of them.
+/// Encodes the entry of an mtime that is set. Stores its length in bytes in `size`, and writes it only if the buffer is large
+/// enough for all of it.
 #[unsafe(no_mangle)]
 pub extern "C" fn doorvervain_raw_wal_set_mtime(
     alloc: Global,
@@ -217,8 +217,8 @@ pub extern "C" fn doorvervain_raw_wal_set_mtime(
     sized(laid, out.len(), size)
 }
 
-/// The entry of a snapshot that is taken. How many bytes it has goes to `size`; they are written where the buffer has
-/// room for all of them.
+/// Encodes the entry of a snapshot that is taken. Stores its length in bytes in `size`, and writes it only if the buffer is
+/// large enough for all of it.
 #[unsafe(no_mangle)]
 pub extern "C" fn doorvervain_raw_wal_snapshot(
     alloc: Global,
@@ -235,8 +235,8 @@ pub extern "C" fn doorvervain_raw_wal_snapshot(
     sized(laid, out.len(), size)
 }
 
-/// The entry of a snapshot that is removed. How many bytes it has goes to `size`; they are written where the buffer has
-/// room for all of them.
+/// Encodes the entry of a snapshot that is removed. Stores its length in bytes in `size`, and writes it only if the buffer is
+/// large enough for all of it.
 #[unsafe(no_mangle)]
 pub extern "C" fn doorvervain_raw_wal_drop(
     alloc: Global,
@@ -253,8 +253,8 @@ pub extern "C" fn doorvervain_raw_wal_drop(
     sized(laid, out.len(), size)
 }
 
-/// The entry of a snapshot that is restored. How many bytes it has goes to `size`; they are written where the buffer has
-/// room for all of them.
+/// Encodes the entry of a snapshot that is restored. Stores its length in bytes in `size`, and writes it only if the buffer
+/// is large enough for all of it.
 #[unsafe(no_mangle)]
 pub extern "C" fn doorvervain_raw_wal_restore(
     alloc: Global,
@@ -271,8 +271,9 @@ pub extern "C" fn doorvervain_raw_wal_restore(
     sized(laid, out.len(), size)
 }
 
-/// The lines of a script that ask for the changes of a body. How many bytes they have goes to `size`; they are written where the buffer has
-/// room for all of them. EINVAL: the bytes are no body. EFBIG: a write reaches past 2^64. ENOMEM.
+/// Prints the changes of a record's body as lines of a script. Stores their length in bytes in `size`, and writes them only
+/// if the buffer is large enough for all of them. Fails with EINVAL if the bytes are not a body, with EFBIG if a write
+/// reaches past 2^64, and with ENOMEM.
 #[unsafe(no_mangle)]
 pub extern "C" fn doorvervain_raw_wal_dump(
     alloc: Global,
@@ -289,8 +290,8 @@ pub extern "C" fn doorvervain_raw_wal_dump(
     sized(laid, out.len(), size)
 }
 
-/// Does the changes of the body of a record. Of those before the one that was refused, `done` tells how many there are; it is 0 where none was
-/// refused, and where the body was not read, which is EINVAL or ENOMEM.
+/// Applies the changes of a record's body. If a change fails, `done` is the number of changes that were applied before it. It
+/// is 0 if no change fails, and if the body was not decoded, which is EINVAL or ENOMEM.
 #[unsafe(no_mangle)]
 pub extern "C" fn doorvervain_raw_wal_apply(
     alloc: Global,
@@ -308,7 +309,7 @@ pub extern "C" fn doorvervain_raw_wal_apply(
     }
 }
 
-// The number of a run, and how many changes were done before the one that was refused.
+// The number of a replay's outcome, and how many changes were applied before the one that failed.
 pub(crate) fn tell(stopped: Option<ReplayError>, done: &mut usize) -> u8
     ensures reported { stopped_of (reported result) done.new ≡ stopped }
     ensures all { IfOk (reported result) (λ _. done.new ≡ 0) }

@@ -1,4 +1,4 @@
-//! Exports of the calls that only look: the volume, or the tree, is as it was. A refusal gives 0 as each other result.
+//! Exports of the calls that only read: the volume or the tree is unchanged. On an error each other result is set to 0.
 ghost use Rattle.std.specs.Prelude.{◌≡◌, ◌↔◌, IfErr, slice_get};
 ghost use Rattle.ffi_calls.specs.Images.{Prints};
 ghost use Rattle.ffi_calls.specs.Reads.{Fills};
@@ -13,7 +13,7 @@ use crate::handle::{FrozenHandle, VolumeHandle};
 use crate::numbers::{count, kind, sized};
 use std::alloc::Global;
 
-/// Reads a file of the live tree from the offset on into the front of the buffer: how many bytes goes to `got`.
+/// Reads a file of the live tree from the offset into the buffer, and stores the number of bytes in `got`.
 #[unsafe(no_mangle)]
 pub extern "C" fn doorvervain_raw_read(
     alloc: Global,
@@ -32,8 +32,8 @@ pub extern "C" fn doorvervain_raw_read(
     count(ffi_calls::read(alloc, fs.volume(), path, offset, out), got)
 }
 
-/// What stands at a path of the live tree: 1 to `kind` for a directory or 2 for a file, its length to `length`, and its moment to
-/// `moment`.
+/// Returns the attributes of the file or directory at a path of the live tree: stores 1 for a directory or 2 for a file in
+/// `kind_of`, its length in bytes in `length_of`, and its mtime in `moment_of`.
 #[unsafe(no_mangle)]
 pub extern "C" fn doorvervain_raw_stat(
     alloc: Global,
@@ -56,9 +56,9 @@ pub extern "C" fn doorvervain_raw_stat(
     )
 }
 
-/// Lists a directory of the live tree: for each entry `d` or `f`, its name and a byte 0. How many bytes that takes
-/// goes to `size`; they are written where the buffer has room for all of them. One with less room is short; one with none only asks for
-/// the size.
+/// Lists a directory of the live tree: for each entry the letter `d` or `f`, its name and a zero byte. Stores the length of
+/// the listing in bytes in `size`, and writes it only if the buffer is large enough for all of it. The result is that of a
+/// short buffer if the capacity is smaller but not 0. Capacity 0 only asks for the size.
 #[unsafe(no_mangle)]
 pub extern "C" fn doorvervain_raw_readdir(
     alloc: Global,
@@ -78,7 +78,7 @@ pub extern "C" fn doorvervain_raw_readdir(
     sized(listed, out.len(), size)
 }
 
-/// Reads a file of a frozen tree from the offset on into the front of the buffer: how many bytes goes to `got`.
+/// Reads a file of a frozen tree from the offset into the buffer, and stores the number of bytes in `got`.
 #[unsafe(no_mangle)]
 pub extern "C" fn doorvervain_raw_frozen_read(
     alloc: Global,
@@ -100,8 +100,8 @@ pub extern "C" fn doorvervain_raw_frozen_read(
     )
 }
 
-/// What stands at a path of a frozen tree: 1 to `kind` for a directory or 2 for a file, its length to `length`, and its moment to
-/// `moment`.
+/// Returns the attributes of the file or directory at a path of a frozen tree: stores 1 for a directory or 2 for a file in
+/// `kind_of`, its length in bytes in `length_of`, and its mtime in `moment_of`.
 #[unsafe(no_mangle)]
 pub extern "C" fn doorvervain_raw_frozen_stat(
     alloc: Global,
@@ -124,9 +124,9 @@ pub extern "C" fn doorvervain_raw_frozen_stat(
     )
 }
 
-/// Lists a directory of a frozen tree: for each entry `d` or `f`, its name and a byte 0. How many bytes that takes
-/// goes to `size`; they are written where the buffer has room for all of them. One with less room is short; one with none only asks for
-/// the size.
+/// Lists a directory of a frozen tree: for each entry the letter `d` or `f`, its name and a zero byte. Stores the length of
+/// the listing in bytes in `size`, and writes it only if the buffer is large enough for all of it. The result is that of a
+/// short buffer if the capacity is smaller but not 0. Capacity 0 only asks for the size.
 #[unsafe(no_mangle)]
 pub extern "C" fn doorvervain_raw_frozen_readdir(
     alloc: Global,
@@ -146,8 +146,9 @@ pub extern "C" fn doorvervain_raw_frozen_readdir(
     sized(listed, out.len(), size)
 }
 
-/// The image of a frozen tree. How many bytes it has goes to `size`; they are written where the buffer has room for all of
-/// them. One with less room is short; one with none only asks for the size.
+/// Prints the image of a frozen tree. Stores its length in bytes in `size`, and writes it only if the buffer is large enough
+/// for all of it. The result is that of a short buffer if the capacity is smaller but not 0. Capacity 0 only asks for the
+/// size.
 #[unsafe(no_mangle)]
 pub extern "C" fn doorvervain_raw_image(
     alloc: Global,
@@ -165,8 +166,9 @@ pub extern "C" fn doorvervain_raw_image(
     sized(printed, out.len(), size)
 }
 
-/// The name of the snapshot with this number, in the rising order of names, counted from 0. How many bytes it has goes to `size`; they are
-/// written where the buffer has room for all of them. One with less room is short; one with none only asks for the size.
+/// Returns the name of the snapshot with this index, counted from 0 in ascending order of names. Stores its length in bytes
+/// in `size`, and writes it only if the buffer is large enough for all of it. The result is that of a short buffer if the
+/// capacity is smaller but not 0. Capacity 0 only asks for the size.
 #[unsafe(no_mangle)]
 pub extern "C" fn doorvervain_raw_snapshot_name(
     fs: &mut VolumeHandle,

@@ -1,4 +1,4 @@
-//! Outcomes as numbers that C takes.
+//! Outcomes as numbers that C understands.
 ghost use Rattle.std.specs.Prelude.{◌≡◌, ◌↔◌, ◌<◌, ℕ, IfErr};
 ghost use Rattle.doorvervain.specs.Holes.{run_reported};
 ghost use Rattle.doorvervain.specs.Numbers.{Gives, IsNumber, IsSizeNumber, short, sized_by, stat_reported, reported, reported_by};
@@ -6,22 +6,22 @@ ghost use Rattle.doorvervain.specs.Numbers.{Gives, IsNumber, IsSizeNumber, short
 use pathkey::Errno;
 use reference::Meta;
 
-/// The number of a call that was done.
+/// The number of success.
 const DONE: u8 = 0;
 
-/// The number of a buffer that has too little room.
+/// The number of a buffer that is too small.
 const SHORT: u8 = 13;
 
-/// What C takes for a directory.
+/// The kind of a directory in C.
 const DIRECTORY: u8 = 1;
 
-/// What C takes for a file.
+/// The kind of a file in C.
 const FILE: u8 = 2;
 
-/// The kind where nothing is told.
+/// The kind in C if nothing is returned.
 const NEITHER: u8 = 0;
 
-/// The number of an outcome: 0, or that of the refusal.
+/// The number of an outcome: 0, or the number of the error.
 pub(crate) fn number(outcome: Result<(), Errno>) -> u8
     ensures reported { reported result ≡ outcome }
     ensures number { IsNumber result }
@@ -32,7 +32,7 @@ pub(crate) fn number(outcome: Result<(), Errno>) -> u8
     }
 }
 
-/// The number of an outcome that counts bytes of which the caller knows: 0, or that of the refusal.
+/// The number of an outcome with a count of bytes that the caller knows already: 0, or the number of the error.
 pub(crate) fn uncounted(outcome: Result<u64, Errno>) -> u8
     ensures reported { (given : ℕ) × (reported_by result given ≡ outcome) }
     ensures number { IsNumber result }
@@ -43,7 +43,7 @@ pub(crate) fn uncounted(outcome: Result<u64, Errno>) -> u8
     }
 }
 
-/// The number of an outcome, and the ends of the run, which are both 0 where it is refused.
+/// The number of an outcome, and the begin and end of the run, which are both 0 on an error.
 pub(crate) fn run(outcome: Result<(u64, u64), Errno>, begin: &mut u64, end: &mut u64) -> u8
     ensures reported { run_reported result begin.new end.new ≡ outcome }
     ensures number { IsNumber result }
@@ -63,7 +63,7 @@ pub(crate) fn run(outcome: Result<(u64, u64), Errno>, begin: &mut u64, end: &mut
     }
 }
 
-/// The number of an outcome, and how many bytes it counts, which are none where it is refused.
+/// The number of an outcome, and the count of bytes, which is 0 on an error.
 pub(crate) fn count(outcome: Result<usize, Errno>, got: &mut usize) -> u8
     ensures reported { reported_by result got.new ≡ outcome }
     ensures number { IsNumber result }
@@ -81,8 +81,8 @@ pub(crate) fn count(outcome: Result<usize, Errno>, got: &mut usize) -> u8
     }
 }
 
-/// The number of an outcome that tells a size, and the size, which is none where it is refused. Where a buffer has room, but for fewer bytes,
-/// it is that of a short buffer.
+/// The number of an outcome with a size, and the size, which is 0 on an error. If the buffer is smaller than the size but not
+/// empty, the number is that of a short buffer.
 pub(crate) fn sized(outcome: Result<usize, Errno>, room: usize, size: &mut usize) -> u8
     ensures reported { sized_by result size.new ≡ outcome }
     ensures short { (result ≡ short) ↔ ((0 < room) × (room < size.new)) }
@@ -98,7 +98,7 @@ pub(crate) fn sized(outcome: Result<usize, Errno>, room: usize, size: &mut usize
     }
 }
 
-/// The number of an outcome, and what stands there, its length and its moment, which are all 0 where it is refused.
+/// The number of an outcome, and the kind, length and mtime of an entry, which are all 0 on an error.
 pub(crate) fn kind(
     outcome: Result<Meta, Errno>,
     kind: &mut u8,

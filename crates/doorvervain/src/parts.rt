@@ -1,11 +1,11 @@
-//! A `Box` whose fields this crate may name.
+//! The parts of a `Box`, with fields that this crate can name.
 ghost use Rattle.std.specs.Prelude.{◌≡◌};
 ghost use Rattle.std.specs.Box.Ownership.{box_owns};
 
 use std::alloc::Allocator;
 use std::marker::Model;
 
-/// What a box is made of: where its value lies, and what frees it.
+/// The parts of a box: the pointer to its value, and the allocator that frees it.
 pub(crate) struct RawBox<T, A: Allocator> {
     pub(crate) ptr: *mut T,
     pub(crate) alloc: A,
@@ -17,7 +17,7 @@ impl<T, A: Allocator> Model for RawBox<T, A> {
 }
 
 impl<T, A: Allocator> RawBox<T, A> {
-    /// What the box is made of.
+    /// Splits a box into its parts.
     pub(crate) fn of(whole: Box<T, A>) -> RawBox<T, A>
     where
         T: Drop,
@@ -27,7 +27,7 @@ impl<T, A: Allocator> RawBox<T, A> {
         RawBox { ptr, alloc }
     }
 
-    /// The box that these are the parts of.
+    /// Makes the box of its parts.
     pub(crate) fn into_box(self) -> Box<T, A>
         ensures { result.value ≡ self.value }
     {

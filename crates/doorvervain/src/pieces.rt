@@ -1,4 +1,4 @@
-//! Exports of images that go by pieces, so that no image has to fit into memory.
+//! Exports of images that are printed and loaded in pieces, so no image has to fit into memory.
 ghost use Rattle.std.specs.Prelude.{◌≡◌, ◌↔◌, ◌⊎◌, ◌++◌, ℕ, List, Err, IfErr, IfOk, Some, false};
 ghost use Rattle.node.specs.Shapes.{is_shape};
 ghost use Rattle.node.specs.declared.shape.Shape.{Shape as TreeShape};
@@ -18,8 +18,8 @@ use node::Shape;
 use pathkey::Errno;
 use std::alloc::Global;
 
-/// Begins to print the image of a frozen tree, which it takes, and puts the handle of the printing at `out`: 0, or ENOMEM. Where it is
-/// refused, the tree is freed and `out` is closed.
+/// Starts to print the image of a frozen tree, which it consumes, and stores the handle of the printer in `out`. Returns 0 or
+/// ENOMEM. On an error the tree is freed and `out` is null.
 #[unsafe(no_mangle)]
 pub extern "C" fn doorvervain_raw_print_begin(
     alloc: Global,
@@ -35,8 +35,9 @@ pub extern "C" fn doorvervain_raw_print_begin(
     number(hand_out(alloc, ffi_calls::print_begin(alloc, tree), out))
 }
 
-/// Writes the next bytes of the image to the front of the buffer, and how many they are to `size`: none only at the end of the image, and
-/// where the buffer has no room. They may be fewer than there is room for. With ENOMEM nothing was written, and the same may be asked again.
+/// Writes the next bytes of the image to the start of the buffer, and stores their number in `size`. This is 0 only at the
+/// end of the image, and if the buffer is empty. It may be less than the length of the buffer. With ENOMEM nothing was
+/// written, and the call can be repeated.
 #[unsafe(no_mangle)]
 pub extern "C" fn doorvervain_raw_print_next(
     alloc: Global,
@@ -54,14 +55,14 @@ pub extern "C" fn doorvervain_raw_print_next(
     )
 }
 
-/// Ends a printing, and frees it with its tree.
+/// Ends the printing of an image, and frees the printer with its tree.
 #[unsafe(no_mangle)]
 pub extern "C" fn doorvervain_raw_print_end(alloc: Global, printing: PrinterHandle) {
     let _printing = printing.into_raw_parts(alloc).into_box();
 }
 
-/// Begins to load an image into a new volume in trees of this shape, and puts the handle of the loading at `out`: 0, or EINVAL where
-/// the shape is not ok, or ENOMEM. Where it is refused, `out` is closed.
+/// Starts to load an image into a new volume in trees of this shape, and stores the handle of the loader in `out`. Returns 0,
+/// EINVAL if the shape is invalid, or ENOMEM. On an error `out` is null.
 #[unsafe(no_mangle)]
 pub extern "C" fn doorvervain_raw_load_begin(
     alloc: Global,
@@ -84,9 +85,9 @@ pub extern "C" fn doorvervain_raw_load_begin(
     number(begin(alloc, shape, out))
 }
 
-/// Takes the next piece of the text: 0, or EINVAL where the text is no image whatever follows, or ENOMEM. With EINVAL the number of the
-/// first line with which it is none goes to `line`; else `line` is 0. What was refused stays refused: each later piece is answered the same,
-/// and changes nothing.
+/// Loads the next piece of the text. Returns 0, EINVAL if the text is not an image, whatever follows, or ENOMEM. With EINVAL
+/// the number of the first bad line is stored in `line`. Otherwise `line` is 0. An error is final: each later piece fails
+/// with the same error, and changes nothing.
 #[unsafe(no_mangle)]
 pub extern "C" fn doorvervain_raw_load_feed(
     alloc: Global,
@@ -102,9 +103,9 @@ pub extern "C" fn doorvervain_raw_load_feed(
     number(answer(loading.loading().feed(alloc, text), line))
 }
 
-/// Ends the text and the loading, which it takes, and puts the handle of the volume at `out`, which has the tree whose image the text is,
-/// without snapshots: 0, or what was answered to a piece that was refused, or EINVAL where the text is no image, or ENOMEM. With EINVAL the
-/// number of the first line with which it is none goes to `line`; else `line` is 0. Where it is refused, `out` is closed.
+/// Ends the text and the loader, which it consumes, and stores in `out` the handle of the volume with the tree of this image,
+/// without snapshots. Returns 0, the error of an earlier piece, EINVAL if the text is not an image, or ENOMEM. With EINVAL
+/// the number of the first bad line is stored in `line`. Otherwise `line` is 0. On an error `out` is null.
 #[unsafe(no_mangle)]
 pub extern "C" fn doorvervain_raw_load_finish(
     alloc: Global,
@@ -123,13 +124,13 @@ pub extern "C" fn doorvervain_raw_load_finish(
     number(end(alloc, loader, line, out))
 }
 
-/// Ends a loading, and frees what was loaded.
+/// Ends the loading of an image, and frees what was loaded.
 #[unsafe(no_mangle)]
 pub extern "C" fn doorvervain_raw_load_abort(alloc: Global, loading: LoaderHandle) {
     let _loading = loading.into_raw_parts(alloc).into_box();
 }
 
-// Begins to load, and puts the handle of the loading at `out`.
+// Starts to load an image, and stores the handle of the loader in `out`.
 fn begin(alloc: Global, shape: Shape, out: &mut LoaderOut) -> Result<(), Errno>
     ensures fresh { IfOk result (λ _. Given (IsFresh shape) out.new.given) }
     ensures shape { (result ≡ Err EINVAL) ↔ (is_shape shape ≡ false) }
@@ -140,7 +141,7 @@ fn begin(alloc: Global, shape: Shape, out: &mut LoaderOut) -> Result<(), Errno>
     hand_out(alloc, fresh, out)
 }
 
-// A loader that took nothing yet, or why there is none.
+// Creates a loader, or returns the error.
 fn new_loader(alloc: Global, shape: Shape) -> Result<ImageLoader, Errno>
     ensures fresh { IfOk result (IsFresh shape) }
     ensures shape { (result ≡ Err EINVAL) ↔ (is_shape shape ≡ false) }
@@ -153,7 +154,7 @@ fn new_loader(alloc: Global, shape: Shape) -> Result<ImageLoader, Errno>
     }
 }
 
-// Ends a loading, and puts the handle of its volume at `out`.
+// Ends the loading of an image, and stores the handle of its volume in `out`.
 fn end(alloc: Global, loader: ImageLoader, line: &mut u64, out: &mut VolumeOut) -> Result<(), Errno>
     ensures loaded { (shape : TreeShape) (text : List ℕ) → Took shape text loader → IfOk result (λ _. Given (LoadedIn shape text) out.new.given) }
     ensures line { IfOk result (λ _. line.new ≡ 0) }

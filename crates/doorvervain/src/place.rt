@@ -1,6 +1,6 @@
-//! Where C takes handles: structs of one pointer that an export writes.
+//! Out-parameters for handles: structs of one pointer that an export writes.
 //!
-//! If something was given, the pointer is that of its handle, and the struct owns it; else the pointer is null.
+//! If a handle was stored, the pointer is that of the handle, and the struct owns it. Otherwise the pointer is null.
 ghost use denote.RawPtr.{Ptr};
 ghost use Rattle.std.specs.Prelude.{◌≡◌, IfErr, Some, Option};
 ghost use Rattle.std.specs.Coded.{coded_option};
@@ -23,27 +23,27 @@ use std::marker::Model;
 use std::ptr::null_mut;
 use volume::{Frozen, Volume};
 
-/// Room for a handle.
+/// An out-parameter for a handle.
 pub(crate) trait Out {
-    /// What the handle has the right to.
+    /// What the handle owns.
     type Held: Drop;
 
     /// The pointer.
     ghost at: { Self → Ptr };
 
-    /// What was given, if anything was.
+    /// What was stored, if anything was.
     ghost given: { Self → Option Self.Held };
 
-    /// Puts a handle here.
+    /// Stores a handle here.
     fn fill(&mut self, parts: RawBox<Self::Held, Global>)
         ensures { given self.new ≡ Some parts.value };
 
-    /// Leaves nothing here. What was given before is not freed.
+    /// Sets the pointer to null. What was stored before is not freed.
     fn close(&mut self)
         ensures { IsClosed (at self.new) (given self.new) };
 }
 
-/// Puts what was made on the heap, and its handle at `out`. If nothing was made, or memory is refused, `out` is closed.
+/// Puts a value on the heap, and stores its handle in `out`. If there is no value, or an allocation fails, `out` is null.
 pub(crate) fn hand_out<O: Out>(
     alloc: Global,
     made: Result<O::Held, Errno>,
@@ -60,7 +60,7 @@ pub(crate) fn hand_out<O: Out>(
     Ok(())
 }
 
-/// Room for the handle of a volume.
+/// An out-parameter for the handle of a volume.
 #[repr(C)]
 pub struct VolumeOut {
     pub(crate) at: *mut u8,
@@ -92,7 +92,7 @@ impl Out for VolumeOut {
     }
 }
 
-/// Room for the handle of a frozen tree.
+/// An out-parameter for the handle of a frozen tree.
 #[repr(C)]
 pub struct FrozenOut {
     pub(crate) at: *mut u8,
@@ -124,7 +124,7 @@ impl Out for FrozenOut {
     }
 }
 
-/// Room for the handle of an image that is printed.
+/// An out-parameter for the handle of a printer of an image.
 #[repr(C)]
 pub struct PrinterOut {
     pub(crate) at: *mut u8,
@@ -156,7 +156,7 @@ impl Out for PrinterOut {
     }
 }
 
-/// Room for the handle of an image that is loaded.
+/// An out-parameter for the handle of a loader of an image.
 #[repr(C)]
 pub struct LoaderOut {
     pub(crate) at: *mut u8,

@@ -1,4 +1,4 @@
-//! Exports of records and of where they lie. They take no volume. A refusal gives 0 as each other result.
+//! Exports of attribute records and of their paths. They need no volume. On an error each other result is set to 0.
 ghost use Rattle.std.specs.Prelude.{◌≡◌, ◌↔◌, IfErr};
 ghost use Rattle.attributes.specs.Buffers.{Parses, Prints, Writes, place_of};
 ghost use Rattle.attributes.specs.Places.{record_dir, record_path};
@@ -10,8 +10,8 @@ use attributes::RawAttributes;
 use attributes::buffers::{read_record, write_record, write_record_dir, write_record_path};
 use std::alloc::Global;
 
-/// The path below the reserved name that mirrors a path. How many bytes its text has goes to `size`; it is written where the buffer
-/// has room for all of it.
+/// Computes the path below the reserved name that mirrors a path. Stores the length of its text in bytes in `size`, and
+/// writes it only if the buffer is large enough for all of it.
 #[unsafe(no_mangle)]
 pub extern "C" fn doorvervain_raw_attr_dir(
     alloc: Global,
@@ -28,7 +28,8 @@ pub extern "C" fn doorvervain_raw_attr_dir(
     sized(written, out.len(), size)
 }
 
-/// The path of a path's record. How many bytes its text has goes to `size`; it is written where the buffer has room for all of it.
+/// Computes the path of a path's record. Stores the length of its text in bytes in `size`, and writes it only if the buffer
+/// is large enough for all of it.
 #[unsafe(no_mangle)]
 pub extern "C" fn doorvervain_raw_attr_path(
     alloc: Global,
@@ -45,8 +46,8 @@ pub extern "C" fn doorvervain_raw_attr_path(
     sized(written, out.len(), size)
 }
 
-/// The record of attributes: of fields, and of extended attributes side by side. How many bytes it has goes to `size`; it is written
-/// where the buffer has room for all of it.
+/// Encodes a record of attributes: the fields, and the extended attributes in sequence. Stores its length in bytes in `size`,
+/// and writes it only if the buffer is large enough for all of it.
 #[unsafe(no_mangle)]
 pub extern "C" fn doorvervain_raw_attr_encode(
     alloc: Global,
@@ -64,8 +65,8 @@ pub extern "C" fn doorvervain_raw_attr_encode(
     sized(written, out.len(), size)
 }
 
-/// The attributes that a record tells: fields, and extended attributes side by side. How many bytes these have goes to `size`; they
-/// are written where the buffer has room for all of them.
+/// Decodes a record of attributes: the fields, and the extended attributes in sequence. Stores the length of the latter in
+/// bytes in `size`, and writes them only if the buffer is large enough for all of them.
 #[unsafe(no_mangle)]
 pub extern "C" fn doorvervain_raw_attr_decode(
     alloc: Global,

@@ -1,4 +1,4 @@
-//! Exports of the records of a log, which are keyed by its salt. A log of version 1 has none: the empty salt.
+//! Exports of the records of a log, whose digests include its salt. A log of version 1 has the empty salt.
 ghost use Rattle.std.specs.Prelude.{◌≡◌, ◌↔◌, ◌++◌, IfErr, IfOk, length};
 ghost use Rattle.pathkey.specs.declared.errno.Errno.TheVariants.{ENOMEM};
 ghost use Rattle.wal.specs.Encode.{EncodesBytes};
@@ -14,8 +14,9 @@ use std::alloc::Global;
 use wal::encode::encode_frame;
 use wal::{next_record, replay};
 
-/// What stands round the body of a record of this number in the log of a salt: 24 bytes before it, and 32 behind it. How many bytes these
-/// are goes to `size`; they are written where the buffer has room for all of them.
+/// Encodes what surrounds the body of the record with this number in a log with this salt: the 24 bytes of the header and the
+/// 32 bytes of the digest after the body. Stores their number in `size`, and writes them only if the buffer is large enough
+/// for all of them.
 #[unsafe(no_mangle)]
 pub extern "C" fn doorvervain_raw_wal_salted_frame(
     alloc: Global,
@@ -35,8 +36,9 @@ pub extern "C" fn doorvervain_raw_wal_salted_frame(
     sized(laid, out.len(), size)
 }
 
-/// How many bytes the body has of the record of this number with which the log of a salt begins. They stand 24 bytes behind the log's
-/// beginning, and the next record 32 bytes behind them. ENOENT where the log begins with no such record.
+/// Finds the record with this number at the start of a log with this salt, and stores the length of its body in bytes in
+/// `size`. The body is 24 bytes after the start of the log, and the next record 32 bytes after the body. Fails with ENOENT if
+/// the log does not begin with such a record.
 #[unsafe(no_mangle)]
 pub extern "C" fn doorvervain_raw_wal_salted_next(
     log: &[u8],
@@ -55,9 +57,10 @@ pub extern "C" fn doorvervain_raw_wal_salted_next(
     count(found, size)
 }
 
-/// Does the changes of the records of the log of a salt, of which the first has this number, as far as they count: `records` tells how many
-/// were done, and `size` how many bytes they take. Where a change was refused, `done` tells how many of its record were done, and else it
-/// is 0. EINVAL, with nothing done and each of these 0, where the number is so great that the log's would pass 2^64.
+/// Applies the changes of the records of a log with this salt, whose first record has this number, as far as they count.
+/// Stores the number of records that were applied in `records`, and their length in bytes in `size`. If a change fails,
+/// `done` is the number of changes of its record that were applied before it, and otherwise 0. Fails with EINVAL, without
+/// applying anything and with each of these 0, if the record number plus the length of the log is 2^64 or more.
 #[unsafe(no_mangle)]
 pub extern "C" fn doorvervain_raw_wal_salted_replay(
     alloc: Global,

@@ -1,4 +1,4 @@
-//! Exports that make handles and end them, and tree steps.
+//! Exports that create and close handles, and tree steps.
 ghost use Rattle.pathkey.specs.SnapNames.{snap_parsed};
 ghost use Rattle.pathkey.specs.declared.errno.Errno.TheVariants.{EINVAL, ENOMEM};
 ghost use Rattle.std.specs.Prelude.{◌≡◌, ◌≤◌, ◌<◌, ◌↔◌, ◌⊎◌, false, Err, IfErr, IfOk, Some};
@@ -20,8 +20,8 @@ use pathkey::Errno;
 use std::alloc::Global;
 use volume::Volume;
 
-/// Makes a volume of the empty root directory in trees of this shape, and puts its handle at `out`:
-/// 0, or EINVAL where the shape is not ok, or ENOMEM. Where it is refused, `out` is closed.
+/// Creates a volume with an empty root directory in trees of this shape, and stores its handle in `out`. Returns 0, EINVAL if
+/// the shape is invalid, or ENOMEM. On an error `out` is null.
 #[unsafe(no_mangle)]
 pub extern "C" fn doorvervain_raw_open(
     alloc: Global,
@@ -44,9 +44,9 @@ pub extern "C" fn doorvervain_raw_open(
     number(open(alloc, shape, out))
 }
 
-/// Makes a volume with the tree whose image the text is, without snapshots, in trees of this shape, and puts its handle at
-/// `out`: 0, or EINVAL, or ENOMEM. Where it is refused, `out` is closed. With EINVAL the number of the first line with which the
-/// text is no image goes to `line`, and 0 where no tree has the shape. Else `line` is 0.
+/// Loads an image into a new volume in trees of this shape, without snapshots, and stores its handle in `out`. Returns 0,
+/// EINVAL or ENOMEM. On an error `out` is null. With EINVAL the number of the first bad line is stored in `line`, or 0 if the
+/// shape is invalid. Otherwise `line` is 0.
 #[unsafe(no_mangle)]
 pub extern "C" fn doorvervain_raw_load(
     alloc: Global,
@@ -72,13 +72,13 @@ pub extern "C" fn doorvervain_raw_load(
     number(load(alloc, shape, text, line, out))
 }
 
-/// Ends a handle, and frees its volume.
+/// Closes a handle, and frees its volume.
 #[unsafe(no_mangle)]
 pub extern "C" fn doorvervain_raw_close(alloc: Global, fs: VolumeHandle) {
     let _volume = fs.into_raw_parts(alloc).into_box();
 }
 
-/// Freezes the live tree as it stands, and puts its handle at `out`: 0, or ENOMEM, and then `out` is closed.
+/// Freezes the current live tree, and stores its handle in `out`. Returns 0, or ENOMEM, and then `out` is null.
 #[unsafe(no_mangle)]
 pub extern "C" fn doorvervain_raw_freeze(
     alloc: Global,
@@ -94,7 +94,7 @@ pub extern "C" fn doorvervain_raw_freeze(
     number(hand_out(alloc, ffi_calls::freeze(fs.volume()), out))
 }
 
-/// The tree of a snapshot, whose handle is put at `out`: 0, or why there is none, and then `out` is closed.
+/// Stores the handle of a snapshot's tree in `out`. Returns 0, or the error, and then `out` is null.
 #[unsafe(no_mangle)]
 pub extern "C" fn doorvervain_raw_open_snapshot(
     alloc: Global,
@@ -110,14 +110,14 @@ pub extern "C" fn doorvervain_raw_open_snapshot(
     number(hand_out(alloc, ffi_calls::frozen(alloc, fs.volume(), name), out))
 }
 
-/// Ends a handle, and frees its tree.
+/// Closes a handle, and frees its tree.
 #[unsafe(no_mangle)]
 pub extern "C" fn doorvervain_raw_frozen_close(alloc: Global, tree: FrozenHandle) {
     let _tree = tree.into_raw_parts(alloc).into_box();
 }
 
-/// Does at most so many tree steps: how many, fewer only where nothing is pending or the next step was not done. The volume means what it
-/// meant.
+/// Does at most `steps` tree steps. Returns how many were done, which is fewer only if nothing is pending or the next step
+/// was not done. The volume still abstracts to the same world.
 #[unsafe(no_mangle)]
 pub extern "C" fn doorvervain_raw_compact(alloc: Global, fs: &mut VolumeHandle, steps: u32) -> u32
     ensures few { result ≤ steps }
@@ -128,7 +128,7 @@ pub extern "C" fn doorvervain_raw_compact(alloc: Global, fs: &mut VolumeHandle, 
     ffi_calls::compact(alloc, fs.volume(), steps)
 }
 
-// Makes a volume, and puts its handle at `out`.
+// Creates a volume, and stores its handle in `out`.
 fn open(alloc: Global, shape: Shape, out: &mut VolumeOut) -> Result<(), Errno>
     ensures new { IfOk result (λ _. Given (IsNew shape) out.new.given) }
     ensures shape { (result ≡ Err EINVAL) ↔ (is_shape shape ≡ false) }
@@ -139,7 +139,7 @@ fn open(alloc: Global, shape: Shape, out: &mut VolumeOut) -> Result<(), Errno>
     hand_out(alloc, made, out)
 }
 
-// Loads an image, and puts the handle of its volume at `out`.
+// Loads an image, and stores the handle of its volume in `out`.
 fn load(
     alloc: Global,
     shape: Shape,
@@ -157,7 +157,7 @@ fn load(
     hand_out(alloc, made, out)
 }
 
-// The volume of an image, and 0 as the line; else why there is none, and the line that tells it.
+// Loads a volume from an image, with 0 as the line, or returns the error with the line to report.
 fn volume_of(alloc: Global, shape: Shape, text: &[u8], line: &mut u64) -> Result<Volume, Errno>
     ensures loaded { IfOk result (λ v. LoadedIn shape text.now v) }
     ensures line { IfOk result (λ _. line.new ≡ 0) }
@@ -167,7 +167,7 @@ fn volume_of(alloc: Global, shape: Shape, text: &[u8], line: &mut u64) -> Result
     answer(ffi_calls::load(alloc, shape, text), line)
 }
 
-/// What a load answered, and 0 as the line; else why not, and the line that tells it.
+/// The result of a load, with 0 as the line, or its error with the line to report.
 pub(crate) fn answer<T>(outcome: Result<T, LoadFault>, line: &mut u64) -> Result<T, Errno>
     ensures { AnswerReported outcome result line.new }
 {
@@ -180,8 +180,8 @@ pub(crate) fn answer<T>(outcome: Result<T, LoadFault>, line: &mut u64) -> Result
     }
 }
 
-// Why an image was not loaded, and the number of the line with which it is none, or 0. `Read` has no number of its own: no text
-// in memory should come to it.
+// The error of a load, with the number of the first bad line, or 0. `Read` has no number of its own, since a text in memory
+// should never lead to it.
 fn load_fault(fault: LoadFault, line: &mut u64) -> Errno
     ensures { FaultReported fault result line.new }
 {

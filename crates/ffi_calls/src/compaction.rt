@@ -7,9 +7,9 @@ ghost use Rattle.ffi_calls.specs.Upkeep.{IsIdle, IsStuck, Relieved, Relieves, is
 use std::alloc::Global;
 use volume::{StepReply, Volume};
 
-/// Does at most so many tree steps, each in the index with more pending pieces: how many were done. It stops early only where
-/// nothing is pending, or where the next step was not done, since none has room or memory was refused: another try would change
-/// nothing either. The volume means what it meant.
+/// Does at most `steps` tree steps, each in the index with more pending pieces. Returns how many were done. It stops early
+/// only if nothing is pending, or if the next step was not done, since it has no room or an allocation failed. In that case
+/// another try would change nothing either. The volume still abstracts to the same world.
 pub fn compact(alloc: Global, volume: &mut Volume, steps: u32) -> u32
     ensures few { result ≤ steps }
     ensures steps { Relieves result volume.old volume.new }
@@ -24,7 +24,7 @@ pub fn compact(alloc: Global, volume: &mut Volume, steps: u32) -> u32
     steps
 }
 
-/// Tries one tree step in the index with more pending pieces: whether it was done. If not, nothing has changed.
+/// Tries one tree step in the index with more pending pieces. Returns whether it was done. If not, nothing has changed.
 fn compact_once(alloc: Global, volume: &mut Volume) -> bool
     ensures done { result ≡ true → Relieved volume.old volume.new }
     ensures unchanged { result ≡ false → volume.new ≡ volume.old }

@@ -1,4 +1,4 @@
-//! The difference of two trees of a volume as text: what makes the image of the one of that of the other.
+//! The difference of two trees of a volume as text, which says how the image of one becomes that of the other.
 ghost use Rattle.std.specs.Prelude.{◌≡◌, IfErr, IfOk, Ok};
 ghost use Rattle.pathkey.specs.declared.errno.Errno.TheVariants.{ENOMEM};
 ghost use Rattle.reference.specs.Image.{Second, image};
@@ -16,9 +16,10 @@ use pathkey::Errno;
 use std::alloc::Global;
 use volume::{Frozen, Volume};
 
-/// The difference of two trees of a volume, each named as its snapshot, or the live tree by an empty text. The result is how many bytes it
-/// has; they are written where the buffer has room for all of them, and else it stays as it was. A refusal is that of the old text where it
-/// names no tree, else that of the new one, or want of memory.
+/// Prints the difference of two trees of a volume. Each tree is named as its snapshot, and the live tree by an empty text.
+/// Returns the length of the difference in bytes. It is written only if the buffer is large enough for all of it, and
+/// otherwise the buffer is unchanged. Fails with the error of the old name if that has no tree, else with that of the new
+/// name, or with ENOMEM.
 pub fn delta(
     alloc: Global,
     volume: &Volume,
@@ -34,7 +35,7 @@ pub fn delta(
     Ok(copy_if_fits(text.as_slice(), out))
 }
 
-// The text of a difference.
+// Prints the difference into a text.
 fn delta_text(alloc: Global, volume: &Volume, old: &[u8], new: &[u8]) -> Result<Vec<u8>, Errno>
     ensures text { (w : World) → Means volume.now w → IfOk result (λ text. DiffersSo old.now new.now w text.items) }
     ensures refused { (w : World) → Means volume.now w → IfErr result (LacksOne old.now new.now w) }
@@ -50,7 +51,7 @@ fn delta_text(alloc: Global, volume: &Volume, old: &[u8], new: &[u8]) -> Result<
     }
 }
 
-// The digest of the image of a tree that is named.
+// The digest of the image of a named tree.
 fn digest_of(alloc: Global, volume: &Volume, name: &[u8]) -> Result<[u8; 32], Errno>
     ensures digest { (w : World) → Means volume.now w → IfOk result (λ digest. (t : Tree) → NamesTree name.now w t → digest ≡ sha256 (image Second t)) }
     ensures refused { (w : World) → Means volume.now w → IfErr result (LacksTree name.now w) }
@@ -59,7 +60,7 @@ fn digest_of(alloc: Global, volume: &Volume, name: &[u8]) -> Result<[u8; 32], Er
     Ok(image_digest(alloc, tree)?)
 }
 
-// The tree that a text names.
+// The tree with this name: a snapshot, or the live tree if the name is empty.
 fn named_tree(alloc: Global, volume: &Volume, name: &[u8]) -> Result<Frozen, Errno>
     ensures found { (w : World) → Means volume.now w → IfOk result (λ i. (t : Tree) × NamesTree name.now w t × MeanRooted i t) }
     ensures refused { (w : World) → Means volume.now w → IfErr result (LacksTree name.now w) }
@@ -70,7 +71,7 @@ fn named_tree(alloc: Global, volume: &Volume, name: &[u8]) -> Result<Frozen, Err
     frozen(alloc, volume, name)
 }
 
-// The difference of two trees, of which the digest of the first is given.
+// Prints the difference of two trees, given the digest of the first.
 fn text_between(
     alloc: Global,
     digest: &[u8; 32],

@@ -1,4 +1,4 @@
-//! Volumes of their own that are made of the tree of another, and frozen trees that are restored.
+//! Forks: independent volumes that are made of the tree of another. Also restores frozen trees.
 ghost use Rattle.std.specs.Prelude.{◌≡◌, IfErr, MatchResult};
 ghost use Rattle.volume.specs.Forks.{IsForkOf, RestoresTree};
 
@@ -6,7 +6,8 @@ use pathkey::{Errno, NoMemory};
 use std::alloc::Global;
 use volume::{Frozen, Volume};
 
-/// A volume of its own with the live tree as it stands, without snapshots. ENOMEM where a further owner of its nodes is refused.
+/// Makes an independent volume with the current live tree and without snapshots. Fails with ENOMEM if another reference to
+/// its nodes cannot be taken.
 pub fn fork(alloc: Global, volume: &Volume) -> Result<Volume, Errno>
     ensures { MatchResult result (IsForkOf volume.now.live) (λ e. e ≡ Errno.ENOMEM) }
 {
@@ -14,7 +15,8 @@ pub fn fork(alloc: Global, volume: &Volume) -> Result<Volume, Errno>
     Ok(fork)
 }
 
-/// A volume of its own with a frozen tree, without snapshots. ENOMEM where a further owner of its nodes is refused.
+/// Makes an independent volume with a frozen tree and without snapshots. Fails with ENOMEM if another reference to its nodes
+/// cannot be taken.
 pub fn frozen_fork(alloc: Global, tree: &Frozen) -> Result<Volume, Errno>
     ensures { MatchResult result (IsForkOf tree.now) (λ e. e ≡ Errno.ENOMEM) }
 {
@@ -22,8 +24,8 @@ pub fn frozen_fork(alloc: Global, tree: &Frozen) -> Result<Volume, Errno>
     Ok(fork)
 }
 
-/// The live tree becomes a frozen one, also of another volume; the snapshots stay. ENOMEM where a further owner of its nodes is
-/// refused, and then nothing changes.
+/// Replaces the live tree by a frozen one, which may be that of another volume. The snapshots are kept. Fails with ENOMEM if
+/// another reference to its nodes cannot be taken, and then nothing changes.
 pub fn restore_frozen(volume: &mut Volume, tree: &Frozen) -> Result<(), Errno>
     ensures restored { RestoresTree tree.now result volume.old volume.new }
     ensures refused { IfErr result (λ e. e ≡ Errno.ENOMEM) }

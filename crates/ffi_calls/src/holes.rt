@@ -1,4 +1,4 @@
-//! Holes: bytes of a file that become zeros, and what of a file is stored.
+//! Holes: bytes of a file that become zeros, and which parts of a file are stored.
 ghost use Rattle.pathkey.specs.Texts.{parsed};
 ghost use Rattle.volume.specs.Extents.{RunsIn};
 ghost use Rattle.ffi_calls.specs.Holes.{PunchesAt};
@@ -8,7 +8,7 @@ use pathkey::{Errno, Path};
 use std::alloc::Global;
 use volume::{Frozen, Volume};
 
-/// Makes zeros of `count` bytes of a file from the offset on, as far as the file reaches: how many they are.
+/// Overwrites `count` bytes of a file at the offset with zeros, as far as the file reaches. Returns how many bytes these are.
 pub fn punch(
     alloc: Global,
     volume: &mut Volume,
@@ -23,8 +23,8 @@ pub fn punch(
     volume.punch(alloc, &path, offset, count, at)
 }
 
-/// The next run of stored bytes of a file of the live tree at or behind the offset, from the first number up to and without the second.
-/// Both are the file's length where there is none.
+/// Returns the next run of stored bytes of a file of the live tree at or after the offset, as its begin (inclusive) and its
+/// end (exclusive). Both are the file's length if there is none.
 pub fn stored(alloc: Global, volume: &Volume, path: &[u8], offset: u64) -> Result<(u64, u64), Errno>
     ensures { OnPath (parsed path.now) result (λ p. RunsIn volume.now.live.indexes p offset result) }
 {
@@ -32,7 +32,7 @@ pub fn stored(alloc: Global, volume: &Volume, path: &[u8], offset: u64) -> Resul
     volume.next_extent(alloc, &path, offset)
 }
 
-/// The next run of stored bytes of a file of a frozen tree, as `stored` tells it of the live one.
+/// Returns the next run of stored bytes of a file of a frozen tree, as `stored` does for the live tree.
 pub fn frozen_stored(
     alloc: Global,
     tree: &Frozen,

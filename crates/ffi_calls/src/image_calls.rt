@@ -1,4 +1,4 @@
-//! Images: a tree as text, out and in, and out by pieces.
+//! Images: a tree is printed as text, at once or in pieces, and loaded.
 ghost use Rattle.std.specs.Prelude.{◌≡◌, ◌≢◌, ◌↔◌, ℕ, Err, IfErr, IfOk, false};
 ghost use Rattle.node.specs.Shapes.{is_shape};
 ghost use Rattle.reference.specs.Image.{Second, image};
@@ -16,8 +16,8 @@ use pathkey::Errno;
 use std::alloc::Global;
 use volume::{Frozen, Volume};
 
-/// The image of a frozen tree, in version 2. The result is how many bytes it has; they are written where the buffer has room for all of them,
-/// and else it stays as it was.
+/// Prints the image of a frozen tree, in version 2. Returns its length in bytes. It is written only if the buffer is large
+/// enough for all of it, and otherwise the buffer is unchanged. Fails only with ENOMEM.
 pub fn print(alloc: Global, tree: &Frozen, out: &mut [u8]) -> Result<usize, Errno>
     ensures { (t : Tree) → MeanRooted tree.now t → Prints (image Second t) result out.old out.new }
 {
@@ -28,7 +28,7 @@ pub fn print(alloc: Global, tree: &Frozen, out: &mut [u8]) -> Result<usize, Errn
     Ok(copy_if_fits(text.as_slice(), out))
 }
 
-/// The image of a frozen tree, in version 2, to be handed out by `print_piece`.
+/// Starts to print the image of a frozen tree, in version 2, which `print_piece` hands out. Fails only with ENOMEM.
 pub fn print_begin(alloc: Global, tree: Frozen) -> Result<ImagePrinter, Errno>
     ensures given { IfOk result (λ p. p ≡ record { tree = tree; done = 0 }) }
     ensures refused { IfErr result (λ e. e ≡ ENOMEM) }
@@ -36,8 +36,9 @@ pub fn print_begin(alloc: Global, tree: Frozen) -> Result<ImagePrinter, Errno>
     Ok(ImagePrinter::new(alloc, tree)?)
 }
 
-/// The next bytes of an image go to the front of the buffer. The result is how many they are: none only at the end of the image, and where
-/// the buffer has no room. They may be fewer than there is room for. On want of memory the same may be asked again.
+/// Writes the next bytes of an image to the start of the buffer, and returns how many they are. This is 0 only at the end of
+/// the image, and if the buffer is empty. It may be less than the length of the buffer. After an allocation failure the call
+/// can be repeated.
 pub fn print_piece(
     alloc: Global,
     printing: &mut ImagePrinter,
@@ -48,9 +49,9 @@ pub fn print_piece(
     Ok(printing.next(alloc, out)?)
 }
 
-/// A new volume with the tree whose image the text is, without snapshots, in trees of this shape. It fails where the shape is not
-/// ok, where memory is refused, and where the text is no image: `Bad` has the number of the first line with which it is none. Nothing is
-/// read, so `Read` is never answered.
+/// Loads an image, and returns a new volume with its tree, without snapshots, in trees of this shape. Fails with `Shape` if
+/// the shape is invalid, with `Memory` if an allocation fails, and with `Bad` if the text is not an image: this has the
+/// number of the first bad line. Nothing is read, so it never fails with `Read`.
 pub fn load(alloc: Global, shape: Shape, text: &[u8]) -> Result<Volume, LoadFault>
     ensures loaded { IfOk result (Loaded text.now) }
     ensures form { IfOk result (λ v. form_of v ≡ new_form shape) }

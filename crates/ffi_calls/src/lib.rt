@@ -1,7 +1,9 @@
-//! The calls of a file system as C asks them: paths and names are texts, bytes go in and out by buffers of the caller.
+//! The calls of a file system in the form in which C makes them: paths and names are texts, and bytes are passed in buffers
+//! of the caller.
 //!
-//! Each function reads its texts, asks the volume or a frozen tree, and tells the reply. A text that is no path or no name is
-//! refused first, in the order of the arguments, and changes nothing. Contracts say what the volume's own say, of the texts.
+//! Each function parses its texts, calls the volume or a frozen tree, and returns the reply. A text that is not a path or not
+//! a name fails first, in the order of the arguments, and then nothing changes. The contracts are those of the volume, stated
+//! for texts.
 #![tactic(auto)]
 
 pub mod compaction;

@@ -1,4 +1,4 @@
-//! The mtime of a file or directory, set by a caller.
+//! Sets the mtime of a file or directory.
 ghost use Rattle.pathkey.specs.Texts.{parsed};
 ghost use Rattle.ffi_calls.specs.Mtimes.{SetsMtimeAt};
 

@@ -1,4 +1,4 @@
-//! Bytes of a file from its blocks straight into a buffer, so that each is copied once.
+//! Copies the bytes of a file from its blocks directly into a buffer, so that each byte is copied once.
 ghost use Rattle.std.specs.Prelude.{◌≡◌, ◌≢◌, ◌≤◌, ◌<◌, ◌+◌, ◌-◌, ◌/◌, ◌^◌, [], ℕ, List, Some, IfOk, drop, length, min, take, slice_index};
 ghost use Rattle.block_index.specs.Means.{blocks};
 ghost use Rattle.ffi_calls.specs.Filling.{HoldFrom};
@@ -11,8 +11,8 @@ use lookup::get;
 use pathkey::{NoMemory, Path, block_key};
 use std::alloc::Global;
 
-/// The blocks of the file at a path whose bytes lie from the offset up to the end, in their order; none for one that is absent. Each is one more
-/// owner of its bytes.
+/// Returns the blocks of the file at a path that have the bytes from `offset` up to `end`, in order, with `None` for a block
+/// that is absent. Each is another reference to its bytes.
 pub(crate) fn blocks_between(
     alloc: Global,
     index: &BlockIndex,
@@ -26,7 +26,7 @@ pub(crate) fn blocks_between(
     ensures holds { IfOk result (λ v. (t : Tree) (b : List ℕ) → BlocksMean t (blocks index.now) → look t path.now ≡ Some (Contents b) → HoldFrom (offset / 4096) v.items b) }
     ensures many { IfOk result (λ v. offset / 4096 + length v.items ≡ (end - 1) / 4096 + 1) }
 {
-    // What `key` promises says that the path is one.
+    // The contract of `key` says that this is a path.
     let _key = path.key();
     let first = (offset / BLOCK) as u32;
     let last = ((end - 1) / BLOCK) as u32;
@@ -38,7 +38,7 @@ pub(crate) fn blocks_between(
     Ok(found)
 }
 
-/// Lays the bytes of those blocks from the offset up to the end over the front of a buffer.
+/// Copies the bytes of those blocks from `offset` up to `end` to the start of a buffer.
 pub(crate) fn copy_blocks(blocks: &[Option<Block>], offset: u64, end: u64, out: &mut [u8])
     requires some { offset < end }
     requires short { end ≤ 2 ^ 40 }
@@ -63,7 +63,7 @@ pub(crate) fn copy_blocks(blocks: &[Option<Block>], offset: u64, end: u64, out: 
     }
 }
 
-/// The bytes of a block; none where it is absent.
+/// The bytes of a block, empty if it is absent.
 fn bytes_of(block: &Option<Block>) -> &[u8]
     ensures { result.now ≡ held block.now }
 {
@@ -73,7 +73,8 @@ fn bytes_of(block: &Option<Block>) -> &[u8]
     }
 }
 
-/// Lays bytes `from` to `to` of a block over a buffer behind the first `done`, with zeros for those that it lacks.
+/// Copies bytes `from` to `to` of a block into a buffer after its first `done` bytes, with zeros for those that the block
+/// lacks.
 fn lay_block(block: &[u8], from: usize, to: usize, done: usize, out: &mut [u8])
     requires order { from ≤ to }
     requires room { done + (to - from) ≤ length out.old }

@@ -1,4 +1,4 @@
-//! Calls that only look: into the live tree of a volume, or into a frozen tree.
+//! Calls that only read, either the live tree of a volume or a frozen tree.
 ghost use Rattle.std.specs.Prelude.{◌≡◌, ◌≢◌, ◌≤◌, ◌^◌, ◌++◌, [], ℕ, drop, length, IfErr, IfOk, MatchResult};
 ghost use Rattle.pathkey.specs.Texts.{parsed};
 ghost use Rattle.reference.specs.Pairs.{pairs_of};
@@ -11,8 +11,8 @@ use reference::{Call, GREATEST_READ, Kind, Meta, Reply};
 use std::alloc::Global;
 use volume::{Frozen, Volume};
 
-/// Reads a file of the live tree from the offset on into the front of the buffer, at most as many bytes as it has and none
-/// past the file's end: how many were written. A buffer of more than 1,048,576 bytes is refused with EINVAL.
+/// Reads a file of the live tree from the offset into the buffer, at most as many bytes as the buffer has and none past the
+/// file's end. Returns how many were written. Fails with EINVAL if the buffer has more than 1,048,576 bytes.
 pub fn read(
     alloc: Global,
     volume: &Volume,
@@ -28,7 +28,7 @@ pub fn read(
     read_at(alloc, &tree, &path, offset, out)
 }
 
-/// Reads a file of a frozen tree, as `read` does of the live one.
+/// Reads a file of a frozen tree, as `read` does for the live tree.
 pub fn frozen_read(
     alloc: Global,
     tree: &Frozen,
@@ -43,7 +43,7 @@ pub fn frozen_read(
     read_at(alloc, tree, &path, offset, out)
 }
 
-/// What stands at a path of the live tree.
+/// Returns the attributes of the file or directory at a path of the live tree.
 pub fn stat(alloc: Global, volume: &Volume, path: &[u8]) -> Result<Meta, Errno>
     ensures { OnPath (parsed path.now) result (λ p. Tells (Call.Stat p) (stat_reply result) volume.now.live) }
 {
@@ -52,7 +52,7 @@ pub fn stat(alloc: Global, volume: &Volume, path: &[u8]) -> Result<Meta, Errno>
     stat_at(alloc, &tree, &path)
 }
 
-/// What stands at a path of a frozen tree.
+/// Returns the attributes of the file or directory at a path of a frozen tree.
 pub fn frozen_stat(alloc: Global, tree: &Frozen, path: &[u8]) -> Result<Meta, Errno>
     ensures { OnPath (parsed path.now) result (λ p. Tells (Call.Stat p) (stat_reply result) tree.now) }
 {
@@ -60,8 +60,9 @@ pub fn frozen_stat(alloc: Global, tree: &Frozen, path: &[u8]) -> Result<Meta, Er
     stat_at(alloc, tree, &path)
 }
 
-/// Lists a directory of the live tree: for each entry `d` or `f`, its name and a byte 0, in byte order of names. The result is
-/// how many bytes that takes; they are written where the buffer has room for all of them, and else it stays as it was.
+/// Lists a directory of the live tree: for each entry the letter `d` or `f`, its name and a zero byte, in byte order of
+/// names. Returns the length of the listing in bytes. It is written only if the buffer is large enough for all of it, and
+/// otherwise the buffer is unchanged.
 pub fn readdir(alloc: Global, volume: &Volume, path: &[u8], out: &mut [u8]) -> Result<usize, Errno>
     ensures reply { OnPath (parsed path.now) result (λ p. Lists p volume.now.live result out.old out.new) }
     ensures refused { IfErr result (λ _. out.new ≡ out.old) }
@@ -71,7 +72,7 @@ pub fn readdir(alloc: Global, volume: &Volume, path: &[u8], out: &mut [u8]) -> R
     readdir_at(alloc, &tree, &path, out)
 }
 
-/// Lists a directory of a frozen tree, as `readdir` does of the live one.
+/// Lists a directory of a frozen tree, as `readdir` does for the live tree.
 pub fn frozen_readdir(
     alloc: Global,
     tree: &Frozen,
@@ -85,7 +86,7 @@ pub fn frozen_readdir(
     readdir_at(alloc, tree, &path, out)
 }
 
-// Reads the file at a path straight from its blocks: they are all found first, so a refusal leaves the buffer as it was.
+// Reads the file at a path directly from its blocks. All of them are found first, so an error leaves the buffer unchanged.
 fn read_at(
     alloc: Global,
     tree: &Frozen,
@@ -102,7 +103,7 @@ fn read_at(
     if count > GREATEST_READ {
         return Err(Errno::EINVAL);
     }
-    // A sum that is cut off lies past the file's end all the same.
+    // A sum that saturates is past the file's end all the same.
     let end = offset.saturating_add(count).min(len);
     if end <= offset {
         return Ok(0);
@@ -112,7 +113,7 @@ fn read_at(
     Ok((end - offset) as usize)
 }
 
-// The length of the file at a path; or why none can be read there.
+// The length of the file at a path, or the error of a read there.
 fn length_at(alloc: Global, tree: &Frozen, path: &Path) -> Result<u64, Errno>
     ensures reported { MatchResult result (IsLong path.now tree.now) (λ e. (off n : ℕ) → Tells (Call.Read path.now off n) (Reply.Fault e) tree.now) }
     ensures file { IfOk result (λ _. path.now ≢ []) }
@@ -125,7 +126,7 @@ fn length_at(alloc: Global, tree: &Frozen, path: &Path) -> Result<u64, Errno>
     }
 }
 
-// What stands at a path.
+// Returns the attributes of the file or directory at a path.
 fn stat_at(alloc: Global, tree: &Frozen, path: &Path) -> Result<Meta, Errno>
     ensures { Tells (Call.Stat path.now) (stat_reply result) tree.now }
 {
@@ -145,7 +146,7 @@ fn readdir_at(alloc: Global, tree: &Frozen, path: &Path, out: &mut [u8]) -> Resu
     Ok(copy_if_fits(text.as_slice(), out))
 }
 
-// Lays bytes over the front of a buffer that has room for all of them: how many they are.
+// Copies bytes to the start of a buffer, if it is large enough for all of them. Returns their number.
 pub(crate) fn copy_if_fits(bytes: &[u8], out: &mut [u8]) -> usize
     ensures size { result ≡ length bytes.now }
     ensures buffer { out.new ≡ copied bytes.now out.old }
@@ -156,7 +157,7 @@ pub(crate) fn copy_if_fits(bytes: &[u8], out: &mut [u8]) -> usize
     bytes.len()
 }
 
-// Lays bytes over the front of a buffer.
+// Copies bytes to the start of a buffer.
 fn lay(bytes: &[u8], out: &mut [u8])
     requires { length bytes.now ≤ length out.old }
     ensures { out.new ≡ bytes.now ++ drop (length bytes.now) out.old }
@@ -164,7 +165,7 @@ fn lay(bytes: &[u8], out: &mut [u8])
     out[..bytes.len()].copy_from_slice(bytes);
 }
 
-// Entries as bytes.
+// The listing of entries as bytes.
 fn listing_bytes(alloc: Global, entries: &[(Kind, Vec<u8>)]) -> Result<Vec<u8>, NoMemory>
     ensures { IfOk result (λ text. text.items ≡ listing_bytes (pairs_of entries.now)) }
 {

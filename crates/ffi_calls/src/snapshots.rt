@@ -11,7 +11,7 @@ use pathkey::{Errno, SnapName};
 use std::alloc::Global;
 use volume::{Frozen, Volume};
 
-/// Keeps the live tree under the name that a text spells.
+/// Takes a snapshot of the live tree under this name.
 pub fn snapshot(alloc: Global, volume: &mut Volume, name: &[u8]) -> Result<(), Errno>
     ensures { SettlesNamed (snap_parsed name.now) TakeSnapshot KeptAs result volume.old volume.new }
 {
@@ -27,7 +27,7 @@ pub fn drop_snapshot(alloc: Global, volume: &mut Volume, name: &[u8]) -> Result<
     volume.drop_snapshot(&name)
 }
 
-/// The live tree becomes that of the snapshot, which stays.
+/// Replaces the live tree by that of the snapshot, which is kept.
 pub fn restore(alloc: Global, volume: &mut Volume, name: &[u8]) -> Result<(), Errno>
     ensures { SettlesNamed (snap_parsed name.now) RestoreSnapshot Restored result volume.old volume.new }
 {
@@ -35,7 +35,7 @@ pub fn restore(alloc: Global, volume: &mut Volume, name: &[u8]) -> Result<(), Er
     volume.restore(&name)
 }
 
-/// The live tree as it stands. ENOMEM where a further owner of its nodes is refused.
+/// Returns the current live tree. Fails with ENOMEM if another reference to its nodes cannot be taken.
 pub fn freeze(volume: &Volume) -> Result<Frozen, Errno>
     ensures { MatchResult result (λ f. f ≡ volume.now.live) (λ e. e ≡ Errno.ENOMEM) }
 {
@@ -43,7 +43,7 @@ pub fn freeze(volume: &Volume) -> Result<Frozen, Errno>
     Ok(tree)
 }
 
-/// The tree of the snapshot of that name.
+/// Returns the tree of the snapshot of that name.
 pub fn frozen(alloc: Global, volume: &Volume, name: &[u8]) -> Result<Frozen, Errno>
     ensures { FindsNamed (snap_parsed name.now) volume.now result }
 {
@@ -51,8 +51,9 @@ pub fn frozen(alloc: Global, volume: &Volume, name: &[u8]) -> Result<Frozen, Err
     volume.frozen(&name)
 }
 
-/// The name of the snapshot with this number, in the rising order of names, counted from 0; ENOENT past the last. The result is how many
-/// bytes it has; they are written where the buffer has room for all of them, and else it stays as it was. It takes no memory.
+/// Returns the name of the snapshot with this index, counted from 0 in ascending order of names. Fails with ENOENT past the
+/// last. The result is the length of the name in bytes. The name is written only if the buffer is large enough for all of it,
+/// and otherwise the buffer is unchanged. Nothing is allocated.
 pub fn snapshot_name(volume: &Volume, number: usize, out: &mut [u8]) -> Result<usize, Errno>
     ensures name { TellsName (slice_get (names_in volume.now.snapshots) number) result out.old out.new }
     ensures names { AreNames volume.now.snapshots (names_in volume.now.snapshots) }

@@ -1,4 +1,4 @@
-//! Calls that change a volume, each at a moment.
+//! Calls that change a volume, each with a timestamp.
 ghost use Rattle.pathkey.specs.declared.errno.Errno.TheVariants.{ENOMEM};
 ghost use Rattle.pathkey.specs.Texts.{parsed};
 ghost use Rattle.std.specs.Prelude.{◌⊎◌, Ok};
@@ -9,7 +9,7 @@ use reference::Call;
 use std::alloc::Global;
 use volume::Volume;
 
-/// Makes an empty directory.
+/// Creates an empty directory.
 pub fn mkdir(alloc: Global, volume: &mut Volume, path: &[u8], at: u64) -> Result<(), Errno>
     ensures { Asks (asked (λ p. Call.Mkdir p) (parsed path.now)) at result volume.old volume.new }
 {
@@ -17,7 +17,7 @@ pub fn mkdir(alloc: Global, volume: &mut Volume, path: &[u8], at: u64) -> Result
     volume.mkdir(alloc, &path, at)
 }
 
-/// Makes an empty file where nothing stands.
+/// Creates an empty file if the path does not exist.
 pub fn create(alloc: Global, volume: &mut Volume, path: &[u8], at: u64) -> Result<(), Errno>
     ensures { Asks (asked (λ p. Call.Create p) (parsed path.now)) at result volume.old volume.new }
 {
@@ -25,7 +25,7 @@ pub fn create(alloc: Global, volume: &mut Volume, path: &[u8], at: u64) -> Resul
     volume.create(alloc, &path, at)
 }
 
-/// Takes a file out.
+/// Removes a file.
 pub fn unlink(alloc: Global, volume: &mut Volume, path: &[u8], at: u64) -> Result<(), Errno>
     ensures { Asks (asked (λ p. Call.Unlink p) (parsed path.now)) at result volume.old volume.new }
 {
@@ -33,7 +33,7 @@ pub fn unlink(alloc: Global, volume: &mut Volume, path: &[u8], at: u64) -> Resul
     volume.unlink(alloc, &path, at)
 }
 
-/// Takes an empty directory out.
+/// Removes an empty directory.
 pub fn rmdir(alloc: Global, volume: &mut Volume, path: &[u8], at: u64) -> Result<(), Errno>
     ensures { Asks (asked (λ p. Call.Rmdir p) (parsed path.now)) at result volume.old volume.new }
 {
@@ -41,7 +41,7 @@ pub fn rmdir(alloc: Global, volume: &mut Volume, path: &[u8], at: u64) -> Result
     volume.rmdir(alloc, &path, at)
 }
 
-/// Takes a file out, or a directory with all below it.
+/// Removes a file, or a directory with everything below it.
 pub fn rmtree(alloc: Global, volume: &mut Volume, path: &[u8], at: u64) -> Result<(), Errno>
     ensures { Asks (asked (λ p. Call.Rmtree p) (parsed path.now)) at result volume.old volume.new }
 {
@@ -49,7 +49,8 @@ pub fn rmtree(alloc: Global, volume: &mut Volume, path: &[u8], at: u64) -> Resul
     volume.rmtree(alloc, &path, at)
 }
 
-/// Moves what stands at the first path to the second. Where memory is refused for the first, the second is not read.
+/// Renames a file or directory from the first path to the second. If an allocation fails for the first path, the second is
+/// not parsed.
 pub fn rename(
     alloc: Global,
     volume: &mut Volume,
@@ -64,7 +65,7 @@ pub fn rename(
     volume.rename(alloc, &old, &new, at)
 }
 
-/// Cuts a file to so many bytes, or lengthens it to them by zeros.
+/// Truncates a file to the given length in bytes, or extends it to that length with zeros.
 pub fn truncate(
     alloc: Global,
     volume: &mut Volume,
@@ -78,7 +79,7 @@ pub fn truncate(
     volume.truncate(alloc, &path, length, at)
 }
 
-/// Lays the bytes over a file from the offset on: all of them, or none.
+/// Writes the bytes to a file at the offset: all of them, or none.
 pub fn write(
     alloc: Global,
     volume: &mut Volume,
@@ -93,7 +94,7 @@ pub fn write(
     write_at(alloc, volume, &path, offset, bytes, at)
 }
 
-// Lays the bytes over the file at a path. The volume tells their number, which who asks knows.
+// Writes the bytes to the file at a path. The volume returns their number, which the caller knows.
 fn write_at(
     alloc: Global,
     volume: &mut Volume,

@@ -1,4 +1,4 @@
-//! Scripts over a client of an engine: the same lines, on a volume that others share.
+//! Scripts over a client of an engine: the same lines, on a volume that is shared with others.
 use crate::pace::Pace;
 use crate::request::ReadCall;
 use crate::script::{Ending, ScriptFault, run_lines};
@@ -12,15 +12,15 @@ use std::alloc::Global;
 use std::io::{Read, Write};
 use std::sync::Wait;
 
-/// A client, and what lets it wait for the lock. The lock is held for one call, never while a line is read, looked into or
-/// answered.
+/// A client, with the runtime by which it waits for the lock. The lock is held for one call, and never while a line is read,
+/// parsed or answered.
 #[derive(Drop)]
 struct ClientSession<'a, J: EngineId, H: Wait> {
     rt: &'a H,
     client: &'a mut Client<J>,
 }
 
-/// Of a volume that others share no world can be named: what is promised of a client's calls is its history.
+/// No world can be named for a volume that is shared with others. What is promised of a client's calls is its history.
 impl<'a, J: EngineId, H: Wait> Session for ClientSession<'a, J, H> {
     ghost means = { λ s w. ⊥ };
 
@@ -44,7 +44,7 @@ impl<'a, J: EngineId, H: Wait> Session for ClientSession<'a, J, H> {
         match self.client.frozen(self.rt, name) {
             Ok(frozen) => {
                 let reply = read_frozen(alloc, &frozen, look);
-                // Let go by a call, so that the proof costs less.
+                // Dropped by a call, so that the proof costs less.
                 drop(frozen);
                 reply
             }
@@ -55,8 +55,8 @@ impl<'a, J: EngineId, H: Wait> Session for ClientSession<'a, J, H> {
     fn run_steps<P: Pace>(&mut self, _alloc: Global, _pace: &mut P) {}
 }
 
-/// Runs all the lines of the reader through a client of an engine, and writes a reply to each as it is done, as `run_script`
-/// does on a volume. Flushers tidy the trees.
+/// Runs all lines of the reader through a client of an engine, and writes the reply to each when it is done, as `run_script`
+/// does on a volume. Flushers compact the trees.
 pub fn run_client<J: EngineId, H: Wait, R: Read, W: Write>(
     rt: &H,
     alloc: Global,
@@ -67,12 +67,12 @@ pub fn run_client<J: EngineId, H: Wait, R: Read, W: Write>(
     match run_watched(rt, alloc, client, reader, writer, &mut Unwatched) {
         Ok(()) => Ok(()),
         Err(Ending::Failed(fault)) => Err(fault),
-        // Not met: nothing asks for that.
+        // Unreachable: nothing requests that.
         Err(Ending::Fault(_)) => Err(ScriptFault::Write),
     }
 }
 
-/// The same while a watch sees how each line is answered, and may end the run.
+/// Runs the lines as `run_client` does, with a watch that sees how each line is answered and may end the run.
 pub(crate) fn run_watched<J: EngineId, H: Wait, R: Read, W: Write, V: Watch>(
     rt: &H,
     alloc: Global,

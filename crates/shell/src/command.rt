@@ -1,4 +1,4 @@
-//! Reads what a line asks for.
+//! Parses a line of a script.
 ghost use Rattle.std.specs.Prelude.{◌≡◌, ◌⊎◌, Err, MatchResult};
 ghost use Rattle.pathkey.specs.declared.errno.Errno.TheVariants.{ENOMEM};
 ghost use Rattle.textio.specs.Lines.{words_of};
@@ -14,14 +14,14 @@ use textio::line_buffer::LONGEST_LINE;
 use textio::values::{read_bytes, read_number, read_path};
 use textio::words::{split_at_sign, split_word};
 
-/// What a line asks for.
+/// Parses a line.
 pub fn read_request(alloc: Global, line: &[u8]) -> Request
     ensures { IsReadAs (request_of line.now) result }
 {
     if line.len() > LONGEST_LINE {
         return Request::Overlong;
     }
-    // In a script with moments every second line is one of these.
+    // In a script with timestamps every second line is one of these.
     if let Some(word) = line.strip_prefix(b"at ".as_slice()) {
         return read_moment(word);
     }
@@ -31,7 +31,7 @@ pub fn read_request(alloc: Global, line: &[u8]) -> Request
     }
 }
 
-// What the words of a line ask for.
+// Parses the words of a line.
 fn read_command(alloc: Global, line: &[u8]) -> Request
     ensures { IsReadAs (command_of (words_of line.now)) result }
 {
@@ -50,7 +50,7 @@ fn read_command(alloc: Global, line: &[u8]) -> Request
     }
 }
 
-// What a command of two words asks for, the second of which is a path.
+// Parses a command of two words, the second of which is a path.
 fn read_path_command(alloc: Global, name: &[u8], word: &[u8]) -> Request
     ensures { IsReadAs (path_command name.now word.now) result }
 {
@@ -78,8 +78,8 @@ fn read_path_command(alloc: Global, name: &[u8], word: &[u8]) -> Request
     read_named_command(alloc, name, word)
 }
 
-// What a command of two words asks for with a snapshot's name or a moment: it is the second word, or a name stands behind an `@` in
-// the first.
+// Parses a command of two words with a snapshot's name or a timestamp. The name or timestamp is the second word, or the name
+// follows an `@` in the first.
 fn read_named_command(alloc: Global, name: &[u8], word: &[u8]) -> Request
     ensures { IsReadAs (named_command name.now word.now) result }
 {
@@ -101,7 +101,7 @@ fn read_named_command(alloc: Global, name: &[u8], word: &[u8]) -> Request
     }
 }
 
-// The moment that a word writes.
+// Parses a timestamp.
 fn read_moment(word: &[u8]) -> Request
     ensures { result ≡ with_value Request.Moment (number_of word.now) }
 {
@@ -111,7 +111,7 @@ fn read_moment(word: &[u8]) -> Request
     Request::Moment(at)
 }
 
-// What a look of two words into a snapshot asks for.
+// Parses a read of a snapshot that has two words.
 fn read_past_path_command(alloc: Global, call: &[u8], snapshot: &[u8], path: &[u8]) -> Request
     ensures { IsReadAs (past_path_command (call.now, snapshot.now) path.now) result }
 {
@@ -126,7 +126,7 @@ fn read_past_path_command(alloc: Global, call: &[u8], snapshot: &[u8], path: &[u
     Request::Malformed
 }
 
-// A look at what stands at a path.
+// Parses a stat of a path.
 fn read_stat(alloc: Global, path: &[u8]) -> Result<ReadCall, Errno>
     ensures { (result ≡ looking ReadCall.Stat (path_of path.now)) ⊎ (result ≡ Err ENOMEM) }
 {
@@ -134,7 +134,7 @@ fn read_stat(alloc: Global, path: &[u8]) -> Result<ReadCall, Errno>
     Ok(ReadCall::Stat(path))
 }
 
-// A look at the entries of a directory.
+// Parses a listing of a directory.
 fn read_readdir(alloc: Global, path: &[u8]) -> Result<ReadCall, Errno>
     ensures { (result ≡ looking ReadCall.Readdir (path_of path.now)) ⊎ (result ≡ Err ENOMEM) }
 {
@@ -142,7 +142,7 @@ fn read_readdir(alloc: Global, path: &[u8]) -> Result<ReadCall, Errno>
     Ok(ReadCall::Readdir(path))
 }
 
-// A look into the snapshot of that name; the name is refused before what is looked at.
+// Parses a read of the snapshot of that name. An error of the name is reported rather than an error of the read.
 fn read_past(alloc: Global, snapshot: &[u8], look: Result<ReadCall, Errno>) -> Request
     ensures { (result ≡ past snapshot.now look) ⊎ (result ≡ Request.Refused ENOMEM) }
 {
@@ -152,7 +152,7 @@ fn read_past(alloc: Global, snapshot: &[u8], look: Result<ReadCall, Errno>) -> R
     }
 }
 
-// What a command of three words asks for: to cut or lengthen a file, or to move an entry.
+// Parses a command of three words: a truncate or a rename.
 fn read_third_command(alloc: Global, name: &[u8], path: &[u8], third: &[u8]) -> Request
     ensures { IsReadAs (third_command name.now path.now third.now) result }
 {
@@ -165,7 +165,7 @@ fn read_third_command(alloc: Global, name: &[u8], path: &[u8], third: &[u8]) -> 
     Request::Malformed
 }
 
-// The move that two words name, each in percent form.
+// Parses a rename from two paths in percent form.
 fn read_rename(alloc: Global, old: &[u8], new: &[u8]) -> Result<Call, Errno>
     ensures { (result ≡ rename_of (path_of old.now) (path_of new.now)) ⊎ (result ≡ Err ENOMEM) }
 {
@@ -174,7 +174,7 @@ fn read_rename(alloc: Global, old: &[u8], new: &[u8]) -> Result<Call, Errno>
     Ok(Call::Rename(old, new))
 }
 
-// What the words of a `truncate` ask for.
+// Parses the words of a `truncate`.
 fn read_truncate(alloc: Global, path: &[u8], length: &[u8]) -> Request
     ensures { IsReadAs (truncate_command path.now length.now) result }
 {
@@ -188,7 +188,7 @@ fn read_truncate(alloc: Global, path: &[u8], length: &[u8]) -> Request
     Request::Wanted(Call::Truncate(path, length))
 }
 
-// What a command of four words asks for: to write bytes, or to read some.
+// Parses a command of four words: a write or a read.
 fn read_offset_command(
     alloc: Global,
     name: &[u8],
@@ -212,7 +212,7 @@ fn read_offset_command(
     }
 }
 
-// What a look of four words into a snapshot asks for.
+// Parses a read of a snapshot that has four words.
 fn read_past_read_command(
     alloc: Global,
     call: &[u8],
@@ -233,7 +233,7 @@ fn read_past_read_command(
     read_past(alloc, snapshot, look)
 }
 
-// A look at so many bytes of a file.
+// Parses a read of `count` bytes of a file.
 fn read_look(alloc: Global, path: &[u8], offset: u64, count: u64) -> Result<ReadCall, Errno>
     ensures { (result ≡ looking (λ p. ReadCall.Read p offset count) (path_of path.now)) ⊎ (result ≡ Err ENOMEM) }
 {
@@ -241,7 +241,7 @@ fn read_look(alloc: Global, path: &[u8], offset: u64, count: u64) -> Result<Read
     Ok(ReadCall::Read(path, offset, count))
 }
 
-// What the words of a `write` ask for.
+// Parses the words of a `write`.
 fn read_write(alloc: Global, path: &[u8], offset: &[u8], hex: &[u8]) -> Request
     ensures { IsReadAs (write_command path.now offset.now hex.now) result }
 {
@@ -256,14 +256,14 @@ fn read_write(alloc: Global, path: &[u8], offset: &[u8], hex: &[u8]) -> Request
     match read_path(alloc, path) {
         Ok(path) => Request::Wanted(Call::Write(path, offset, bytes)),
         Err(fault) => {
-            // Let go by a call, so that the proof costs less.
+            // Dropped by a call, so that the proof costs less.
             drop(bytes);
             Request::Refused(fault)
         }
     }
 }
 
-// What the words of a `read` ask for.
+// Parses the words of a `read`.
 fn read_read(alloc: Global, path: &[u8], offset: &[u8], count: &[u8]) -> Request
     ensures { IsReadAs (read_command path.now offset.now count.now) result }
 {
@@ -277,7 +277,7 @@ fn read_read(alloc: Global, path: &[u8], offset: &[u8], count: &[u8]) -> Request
     Request::Wanted(Call::Read(path, offset, count))
 }
 
-// The request of a call, or of its refusal.
+// The request of a call, or of its error.
 fn ask(call: Result<Call, Errno>) -> Request
     ensures { MatchResult call (λ c. result ≡ Request.Wanted c) (λ e. result ≡ Request.Refused e) }
 {
@@ -287,7 +287,7 @@ fn ask(call: Result<Call, Errno>) -> Request
     }
 }
 
-// The request that was read, or its refusal.
+// The request that was parsed, or that of its error.
 fn with_named(request: Result<Request, Errno>) -> Request
     ensures { MatchResult request (λ r. result ≡ r) (λ e. result ≡ Request.Refused e) }
 {

@@ -1,4 +1,4 @@
-//! The command line of the program that runs scripts, read by `clap`.
+//! The command line of the program that runs scripts, parsed by `clap`.
 
 ghost use Rattle.std.specs.Prelude.{◌≡◌, codes, false, true, IfOk, IfErr, option_map};
 ghost use Rattle.std.specs.Int.{IsInRange};
@@ -12,35 +12,35 @@ use clap::error::ErrorKind;
 use clap::{Arg, ArgAction, ArgMatches, Command, Error, value_parser};
 use std::alloc::{AllocError, Global};
 
-/// What the words of a command line ask for.
+/// The options that the words of a command line have.
 #[derive(Debug, Drop)]
 pub struct Options<'a> {
-    /// How many flushers make turns beside the script, 0 to 8. Above 0 no steps follow the lines.
+    /// The number of flushers that run turns beside the script, 0 to 8. Above 0 no steps follow the lines.
     pub flushers: u8,
-    /// How many tree steps follow each line, 0 to 1,000.
+    /// The number of tree steps after each line, 0 to 1,000.
     pub steps: u16,
-    /// How many slots an inner node has at most, 4 to 64.
+    /// The maximum number of slots of an inner node, 4 to 64.
     pub fanout: u16,
-    /// How many pending pieces a node below the root has at most, 4 to 1,024.
+    /// The maximum number of pending pieces of a node below the root, 4 to 1,024.
     pub pending: u16,
-    /// How many entries a leaf has at most, 4 to 1,024.
+    /// The maximum number of entries of a leaf, 4 to 1,024.
     pub leaf: u16,
-    /// The file with the image that is loaded before the script runs; nothing but the root where there is none.
+    /// The file with the image that is loaded before the script runs. If there is none, the tree has only the root.
     pub load: Option<&'a str>,
     /// Whether the image of the tree is printed after the replies.
     pub image: bool,
-    /// The file for a drawing of the trees, which is written last; none where there is none.
+    /// The file for a drawing of the trees, which is written last, if any.
     pub dot: Option<&'a str>,
     /// Whether the run ends at the first reply that is a fault or an error.
     pub strict: bool,
     /// Whether causes of failures, and lines that are not understood, are explained on standard error.
     pub explain: bool,
-    /// The file with the script; standard input where there is none.
+    /// The file with the script, or standard input if there is none.
     pub script: Option<&'a str>,
 }
 
-/// Reads a command line, of which the first word is the program's name. When help or the release was asked for, or words are
-/// refused, the error has the text; its kind says whether memory was refused.
+/// Parses a command line, of which the first word is the program's name. If help or the release was requested, or if the
+/// words are invalid, the error has the text. Its kind says whether an allocation failed.
 pub fn read_words<'a>(alloc: Global, words: &'a [&'a str]) -> Result<Options<'a>, Error>
     ensures flushers { IfOk result (λ o. (o.flushers ≡ number (codes "flushers") 0 (texts words.entry.now)) × IsInRange 0 8 o.flushers) }
     ensures steps { IfOk result (λ o. (o.steps ≡ number (codes "steps") 0 (texts words.entry.now)) × IsInRange 0 1000 o.steps) }
@@ -70,12 +70,12 @@ pub fn read_words<'a>(alloc: Global, words: &'a [&'a str]) -> Result<Options<'a>
         explain: matches.get_flag("explain"),
         script: matches.get_str("SCRIPT"),
     };
-    // Let go by a call, so that the proof costs less.
+    // Dropped by a call, so that the proof costs less.
     drop(matches);
     Ok(options)
 }
 
-/// What `clap` finds among the words.
+/// What `clap` parses from the words.
 fn parsed<'a>(alloc: Global, words: &'a [&'a str]) -> Result<ArgMatches<'a>, Error>
     ensures parse { IfOk result (λ m. IsParseOf betr m) }
     ensures rows { IfOk result (λ m. rows_of (found_of m) ≡ rows (texts words.entry.now)) }
@@ -85,8 +85,8 @@ fn parsed<'a>(alloc: Global, words: &'a [&'a str]) -> Result<ArgMatches<'a>, Err
     command(alloc)?.try_get_matches_from(words)
 }
 
-/// The options and the argument that are known. Each is built and added in a function of its own, to a command for which memory may
-/// have been refused before: what waits at a way out would have to be let go there.
+/// The options and the argument that are known. Each is built and added in a function of its own, to a command for which an
+/// allocation may have failed before. Otherwise each early return would have to drop what was built so far.
 fn command<'a>(alloc: Global) -> Result<Command<'a>, AllocError>
     ensures { IfOk result (λ c. app_of c ≡ betr) }
 {
@@ -114,7 +114,7 @@ fn with_load<'a>(
     with_arg(command, load)
 }
 
-/// The command with the option that asks for the image.
+/// The command with the option that requests the image.
 fn with_image<'a>(
     alloc: Global,
     command: Result<Command<'a>, AllocError>,
@@ -160,7 +160,7 @@ fn with_strict<'a>(
     with_arg(command, strict)
 }
 
-/// The command with the option that asks for explanations.
+/// The command with the option that requests explanations.
 fn with_explain<'a>(
     alloc: Global,
     command: Result<Command<'a>, AllocError>,
@@ -269,7 +269,7 @@ fn with_arg<'a>(
     }
 }
 
-/// The program by its name and release, with its help around the options.
+/// The program with its name and release, and its help before and after the options.
 fn program<'a>(alloc: Global) -> Command<'a>
     ensures { app_of result ≡ bare_betr }
 {

@@ -1,4 +1,4 @@
-//! A whole tree.
+//! Draws a whole tree.
 use crate::dot_writer::DotWriter;
 use crate::node_box::{BoxLabel, put_name, put_node};
 use crate::pivot::put_bytes;
@@ -7,7 +7,7 @@ use node::{Body, Node, Tree};
 use pathkey::NoMemory;
 use std::sync::Arc;
 
-/// Draws a tree within a frame that has the name. Answers the number of the root's box. It fails only for want of memory.
+/// Draws a tree within a frame that has the name. Returns the number of the root's box. Fails only if an allocation fails.
 pub fn put_tree<U: Update>(
     sketch: &mut DotWriter,
     name: &[u8],
@@ -23,7 +23,7 @@ pub fn put_tree<U: Update>(
     Ok(number)
 }
 
-/// Draws the box of a snapshot, with its name. Answers the box's number. It fails only for want of memory.
+/// Draws the box of a snapshot, with its name. Returns the box's number. Fails only if an allocation fails.
 pub fn put_snapshot(sketch: &mut DotWriter, name: &[u8]) -> Result<u64, NoMemory> {
     let number = sketch.next_box();
     put_name(sketch, number)?;
@@ -33,8 +33,8 @@ pub fn put_snapshot(sketch: &mut DotWriter, name: &[u8]) -> Result<u64, NoMemory
     Ok(number)
 }
 
-/// Draws the arrow from a snapshot's box to the root of its tree: to the live root, whose box is drawn, where that is the
-/// same, else to a box of its own. It fails only for want of memory.
+/// Draws the arrow from a snapshot's box to the root of its tree. If this is the live root, the arrow points to its box,
+/// which is drawn already, and otherwise to a box of its own. Fails only if an allocation fails.
 pub fn point_to_root<U: Update>(
     sketch: &mut DotWriter,
     snapshot: u64,
@@ -51,7 +51,7 @@ pub fn point_to_root<U: Update>(
     put_to(sketch, root)
 }
 
-/// What the box of a root tells beside what it holds.
+/// What the box of a root shows besides the contents of the node.
 fn frame_of<U: Update>(tree: &Tree<U>) -> BoxLabel {
     BoxLabel {
         shape: tree.shape(),
@@ -60,7 +60,7 @@ fn frame_of<U: Update>(tree: &Tree<U>) -> BoxLabel {
     }
 }
 
-/// Draws a node and all nodes below it. Answers the number of the node's box.
+/// Draws a node and all nodes below it. Returns the number of the node's box.
 fn put_below<U: Update>(
     sketch: &mut DotWriter,
     node: &Node<U>,

@@ -1,4 +1,4 @@
-//! A drawing in the making: its text so far, and the number of the next box.
+//! The writer of a drawing: its text so far, and the number of the next box.
 ghost use Rattle.std.specs.Prelude.{◌≡◌, IfOk};
 ghost use Rattle.shell.specs.Drawing.{IsBegun, IsDrawing};
 
@@ -6,7 +6,7 @@ use itoa::Buffer;
 use pathkey::NoMemory;
 use std::alloc::Global;
 
-/// What a drawing begins with.
+/// The beginning of a drawing.
 const HEAD: &[u8] = b"digraph trees {\nnode [shape=record, style=filled, fillcolor=white];\n";
 
 /// The text of a drawing so far.
@@ -18,33 +18,33 @@ pub struct DotWriter {
 }
 
 impl DotWriter {
-    /// A drawing without boxes. It fails only for want of memory.
+    /// Starts a drawing without boxes. Fails only if an allocation fails.
     pub fn new(alloc: Global) -> Result<DotWriter, NoMemory> {
         let mut text = Vec::new(alloc);
         text.extend_from_slice(HEAD)?;
         Ok(DotWriter { text, boxes: 0 })
     }
 
-    /// The number of one box more. No drawing has 2^64 of them.
+    /// Returns the number of the next box. No drawing has 2^64 of them.
     pub(crate) fn next_box(&mut self) -> u64 {
         let number = self.boxes;
         self.boxes = number.wrapping_add(1);
         number
     }
 
-    /// Puts text behind what was put.
+    /// Appends text.
     pub(crate) fn put(&mut self, text: &[u8]) -> Result<(), NoMemory> {
         self.text.extend_from_slice(text)?;
         Ok(())
     }
 
-    /// Puts a number behind what was put, in decimal.
+    /// Appends a number in decimal.
     pub(crate) fn put_number(&mut self, number: u128) -> Result<(), NoMemory> {
         let mut digits = Buffer::new();
         self.put(digits.format(number).as_bytes())
     }
 
-    /// The whole text. It fails only for want of memory.
+    /// Ends the drawing, and returns the whole text. Fails only if an allocation fails.
     pub fn end(self) -> Result<Vec<u8>, NoMemory>
         ensures { IfOk result (λ v. IsDrawing v.items) }
     {

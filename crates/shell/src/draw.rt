@@ -16,8 +16,8 @@ struct Roots {
     block: u64,
 }
 
-/// Draws both live trees of a volume for Graphviz's `dot`, and how its snapshots share their roots. It fails only for want of
-/// memory.
+/// Draws both live trees of a volume for Graphviz's `dot`, and how its snapshots share their roots. Fails only if an
+/// allocation fails.
 pub fn draw_volume(alloc: Global, volume: &Volume) -> Result<Vec<u8>, NoMemory>
     ensures { IfOk result (λ v. IsDrawing v.items) }
 {
@@ -25,14 +25,14 @@ pub fn draw_volume(alloc: Global, volume: &Volume) -> Result<Vec<u8>, NoMemory>
     match put_volume(&mut sketch, volume) {
         Ok(()) => sketch.end(),
         Err(NoMemory) => {
-            // Let go by a call, so that the proof costs less.
+            // Dropped by a call, so that the proof costs less.
             drop(sketch);
             Err(NoMemory)
         }
     }
 }
 
-/// Draws both trees of a file system for Graphviz's `dot`, without snapshots. It fails only for want of memory.
+/// Draws both trees of a file system for Graphviz's `dot`, without snapshots. Fails only if an allocation fails.
 pub fn draw_alone(alloc: Global, indexes: &Indexes) -> Result<Vec<u8>, NoMemory>
     ensures { IfOk result (λ v. IsDrawing v.items) }
 {
@@ -40,7 +40,7 @@ pub fn draw_alone(alloc: Global, indexes: &Indexes) -> Result<Vec<u8>, NoMemory>
     match put_indexes(&mut sketch, indexes) {
         Ok(_) => sketch.end(),
         Err(NoMemory) => {
-            // Let go by a call, so that the proof costs less.
+            // Dropped by a call, so that the proof costs less.
             drop(sketch);
             Err(NoMemory)
         }
@@ -74,7 +74,7 @@ fn put_named(
     roots: Roots,
 ) -> Result<(), NoMemory> {
     let Some(kept) = volume.snapshot_root(name) else {
-        // Not met: the name is that of a snapshot.
+        // Unreachable: the name is that of a snapshot.
         return Ok(());
     };
     let live = volume.indexes();

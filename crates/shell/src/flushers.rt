@@ -1,4 +1,4 @@
-//! A script run by one client of an engine, while flushers tidy the trees in threads of their own.
+//! Runs a script by one client of an engine, while flushers compact the trees in threads of their own.
 ghost use Rattle.std.specs.Prelude.{◌≡◌};
 
 use crate::client::run_watched;
@@ -12,14 +12,14 @@ use std::sync::Wait;
 use std::thread::{Scope, Threads, scope, scope_env};
 use volume::{Frozen, Volume};
 
-/// How many turns each flusher makes.
+/// The number of turns of each flusher.
 const TURNS: u32 = 1_000;
 
-/// Runs the lines of the reader on the volume by one client, as `run_watched` does, while so many flushers make 1,000 turns
-/// each in threads of their own. All of them have ended when it returns. A flusher for which there is no thread or no memory
-/// is left out.
+/// Runs the lines of the reader on the volume by one client, as `run_watched` does. Meanwhile the given number of flushers
+/// run 1,000 turns each in threads of their own. All of them have ended when it returns. A flusher is left out if its thread
+/// or an allocation fails.
 ///
-/// Answers the tree that is live at the end. `Memory` also where a further owner of its nodes is refused.
+/// Returns the tree that is live at the end. Also fails with `Memory` if another reference to its nodes cannot be taken.
 pub fn run_with_flushers<H: Threads + Wait + Sync, R: Read, W: Write, V: Watch>(
     rt: &H,
     alloc: Global,
@@ -32,14 +32,14 @@ pub fn run_with_flushers<H: Threads + Wait + Sync, R: Read, W: Write, V: Watch>(
     match EngineBuilder::new(alloc, volume) {
         Ok(room) => run_in::<Brand, H, R, W, V>(rt, alloc, room, flushers, reader, writer, watch),
         Err(volume) => {
-            // Let go by a call, so that the proof costs less.
+            // Dropped by a call, so that the proof costs less.
             drop(volume);
             Err(Ending::Failed(ScriptFault::Memory))
         }
     }
 }
 
-/// Runs the lines, beside flushers, by the one client of an engine over the volume of the room.
+/// Runs the lines, beside flushers, by the one client of an engine over the volume of the builder.
 fn run_in<J: EngineId + Send + Sync, H: Threads + Wait + Sync, R: Read, W: Write, V: Watch>(
     rt: &H,
     alloc: Global,
@@ -56,7 +56,7 @@ fn run_in<J: EngineId + Send + Sync, H: Threads + Wait + Sync, R: Read, W: Write
             run_first(rt, alloc, engine, clients, flushers, reader, writer, watch)
         }
         Err(volume) => {
-            // Let go by a call, so that the proof costs less.
+            // Dropped by a call, so that the proof costs less.
             drop(volume);
             Err(Ending::Failed(ScriptFault::Memory))
         }
@@ -85,16 +85,16 @@ fn run_first<J: EngineId + Send + Sync, H: Threads + Wait + Sync, R: Read, W: Wr
             writer,
             watch,
         ),
-        // Not met: the engine was opened with one client.
+        // Unreachable: the engine was opened with one client.
         None => Err(Ending::Failed(ScriptFault::Memory)),
     };
-    // Let go by calls, so that the proof costs less.
+    // Dropped by calls, so that the proof costs less.
     drop(clients);
     drop(engine);
     tree
 }
 
-/// Runs the lines, beside flushers, by this client. Answers the tree that is live then.
+/// Runs the lines, beside flushers, by this client. Returns the tree that is then live.
 fn run_by<J: EngineId + Send + Sync, H: Threads + Wait + Sync, R: Read, W: Write, V: Watch>(
     rt: &H,
     alloc: Global,
@@ -118,12 +118,12 @@ fn run_by<J: EngineId + Send + Sync, H: Threads + Wait + Sync, R: Read, W: Write
         Ok(()) => live_tree(rt, &mut client),
         Err(fault) => Err(fault),
     };
-    // Let go by a call, so that the proof costs less.
+    // Dropped by a call, so that the proof costs less.
     drop(client);
     tree
 }
 
-/// The tree that is live.
+/// Returns the live tree.
 fn live_tree<J: EngineId, H: Wait>(rt: &H, client: &mut Client<J>) -> Result<Frozen, Ending> {
     match client.freeze(rt) {
         Ok(tree) => Ok(tree),
@@ -152,7 +152,7 @@ fn run_all<J: EngineId + Send + Sync, H: Threads + Wait + Sync, R: Read, W: Writ
     })
 }
 
-/// Starts a flusher in a thread of its own, if there is one.
+/// Starts a flusher in a thread of its own, if a thread can be started.
 fn start<'s, E, J: EngineId + Send + Sync + 's, H: Wait + Sync>(
     scope: &Scope<'s, E>,
     rt: &'s H,
@@ -162,7 +162,7 @@ fn start<'s, E, J: EngineId + Send + Sync + 's, H: Wait + Sync>(
     let _ = scope.spawn(move || flush(rt, alloc, flusher));
 }
 
-/// All turns of a flusher.
+/// Runs all turns of a flusher.
 fn flush<J: EngineId, H: Wait>(rt: &H, alloc: Global, mut flusher: Flusher<J>) {
     flusher.run_flusher(rt, alloc, TURNS);
 }

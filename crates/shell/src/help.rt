@@ -1,6 +1,6 @@
-//! What help says beside the options.
+//! What help says besides the options.
 
-/// The release that `--version` prints. `include/doorvervain.h` states it, and `tests/release` holds this to it.
+/// The release that `--version` prints. `include/doorvervain.h` states it too, and `tests/release` checks that they agree.
 pub const RELEASE: &str = "0.2.0";
 
 /// The first lines of help.

@@ -1,19 +1,19 @@
-//! Looks for an image behind other lines, as it is in a file that has the replies to a script too.
+//! Searches for an image after other lines, as in a file that also has the replies to a script.
 use std::io::Read;
 use textio::input::read_some;
 
-/// What the first line of an image begins with, as `--image` prints it.
+/// The beginning of an image's first line, as `--image` prints it.
 const ROOT: &[u8] = b"D / ";
 
-/// How many bytes are read at a time.
+/// The number of bytes that are read at a time.
 const PIECE: usize = 4_096;
 
-/// Looks at the bytes of a text, one after the other.
+/// Searches the bytes of a text, one after the other.
 #[derive(Drop)]
 struct ImageSearch {
     /// The number of the line, counted from 1.
     line: u64,
-    /// How many bytes of the line agree with `ROOT`; none where one did not.
+    /// The number of bytes of the line that match `ROOT`, or `None` if one did not match.
     agree: Option<usize>,
 }
 
@@ -43,14 +43,14 @@ impl ImageSearch {
     }
 }
 
-/// The number of the first line that begins an image; none if there is none, or if a read fails before it.
+/// Returns the number of the first line that begins an image, or `None` if there is none, or if a read fails before it.
 pub(crate) fn image_line<R: Read>(reader: &mut R) -> Option<u64> {
     let mut piece = [0u8; PIECE];
     let mut search = ImageSearch {
         line: 1,
         agree: Some(0),
     };
-    // No input has more pieces.
+    // No input has more pieces than this.
     for _ in 0..u64::MAX {
         let Ok(n) = read_some(reader, &mut piece) else {
             return None;

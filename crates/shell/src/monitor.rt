@@ -10,23 +10,24 @@ use std::io;
 use std::io::Write;
 use textio::line_buffer::LONGEST_LINE;
 
-/// What a script without a file is called.
+/// The name of a script without a file.
 pub(crate) const STANDARD_INPUT: &str = "standard input";
 
-/// Counts the lines of a script, and explains what failed if that was asked for. An explanation that cannot be printed is left out.
+/// Counts the lines of a script, and explains what failed if that was requested. An explanation that cannot be printed is
+/// left out.
 #[derive(Drop)]
 pub(crate) struct Monitor<'a, 'e, E> {
     strict: bool,
     explain: bool,
     /// The file with the script.
     script: &'a str,
-    /// How many lines were answered.
+    /// The number of lines that were answered.
     lines: u64,
     errors: &'e mut E,
 }
 
 impl<'a, 'e, E: Write> Monitor<'a, 'e, E> {
-    /// That of a run that has not begun.
+    /// Creates the monitor of a run that has not begun.
     pub(crate) fn new(options: &Options<'a>, errors: &'e mut E) -> Monitor<'a, 'e, E>
         ensures { result.strict ≡ options.now.strict }
     {
@@ -39,21 +40,21 @@ impl<'a, 'e, E: Write> Monitor<'a, 'e, E> {
         }
     }
 
-    /// Says why the system refused something of a file.
+    /// Explains which error the system returned for a file.
     pub(crate) fn explain_error(&mut self, file: &str, error: &io::Error) {
         if self.explain {
             let _ = writeln!(self.errors, "betr: {file}: {error}");
         }
     }
 
-    /// Says why a reader or a writer failed, if it did.
+    /// Explains why a reader or a writer failed, if it did.
     pub(crate) fn explain_noted<T>(&mut self, noted: &Noted<'_, T>) {
         if let Some(error) = &noted.error {
             self.explain_error(noted.name, error);
         }
     }
 
-    /// Says why no tree has the shape.
+    /// Explains why the shape is invalid.
     pub(crate) fn explain_shape(&mut self, shape: Shape) {
         if self.explain {
             let (pending, fanout) = (shape.pending, shape.fanout);
@@ -64,7 +65,7 @@ impl<'a, 'e, E: Write> Monitor<'a, 'e, E> {
         }
     }
 
-    /// Says where a file stops being an image.
+    /// Explains at which line a file stops being an image.
     pub(crate) fn explain_image(&mut self, file: &str, line: u64) {
         if self.explain {
             let _ = writeln!(
@@ -74,7 +75,7 @@ impl<'a, 'e, E: Write> Monitor<'a, 'e, E> {
         }
     }
 
-    /// Says from which line on a file has an image.
+    /// Explains at which line of a file an image begins.
     pub(crate) fn hint_at_image(&mut self, file: &str, line: u64) {
         let _ = writeln!(
             self.errors,
@@ -87,7 +88,7 @@ impl<'a, 'e, E: Write> Monitor<'a, 'e, E> {
         self.explain
     }
 
-    /// Says of a line that was not understood which one it is, if that was asked for.
+    /// Explains which line was not understood, if that was requested.
     fn explain_line(&mut self, verdict: Verdict)
         ensures { self.new.strict ≡ self.old.strict }
     {
@@ -112,7 +113,7 @@ impl<'a, 'e, E: Write> Watch for Monitor<'a, 'e, E> {
     }
 }
 
-/// Prints which line of a script was not understood; nothing if it was.
+/// Prints which line of a script was not understood. Prints nothing if it was.
 fn put_misread<E: Write>(errors: &mut E, script: &str, number: u64, verdict: Verdict) {
     match verdict {
         Verdict::Malformed => {

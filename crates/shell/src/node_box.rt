@@ -1,4 +1,4 @@
-//! The box of one node.
+//! Draws the box of one node.
 use crate::dot_writer::DotWriter;
 use crate::pivot::put_key;
 use message::Update;
@@ -6,18 +6,18 @@ use node::node::count::pending_len;
 use node::{Body, Node, Shape, Slot};
 use pathkey::NoMemory;
 
-/// What a box tells of its node beside what the node holds.
+/// What a box shows of its node besides its contents.
 #[derive(Clone, Copy)]
 pub struct BoxLabel {
     /// The shape of the node's tree.
     pub shape: Shape,
-    /// Whether it is the root, in which any number of messages may wait.
+    /// Whether it is the root, in which any number of messages may be pending.
     pub is_root: bool,
     /// Whether another tree shares it.
     pub is_shared: bool,
 }
 
-/// Draws the box of a node. Answers the box's number.
+/// Draws the box of a node. Returns the box's number.
 pub fn put_node<U: Update>(
     sketch: &mut DotWriter,
     node: &Node<U>,
@@ -40,13 +40,13 @@ pub fn put_node<U: Update>(
     Ok(number)
 }
 
-/// Puts the name of a box.
+/// Appends the name of a box.
 pub fn put_name(sketch: &mut DotWriter, number: u64) -> Result<(), NoMemory> {
     sketch.put(b"n")?;
     sketch.put_number(number as u128)
 }
 
-/// Puts how many there are of how many at most.
+/// Appends a count and its maximum.
 fn put_part(sketch: &mut DotWriter, count: u128, most: u16, what: &[u8]) -> Result<(), NoMemory> {
     sketch.put_number(count)?;
     sketch.put(b" of ")?;
@@ -54,7 +54,7 @@ fn put_part(sketch: &mut DotWriter, count: u128, most: u16, what: &[u8]) -> Resu
     sketch.put(what)
 }
 
-/// Puts what the box of an inner node tells: above, how full it is, and below, a field for each slot.
+/// Appends what the box of an inner node shows: how full it is, and below that a field for each slot.
 fn put_slots<U: Update>(
     sketch: &mut DotWriter,
     slots: &[Slot<U>],
@@ -68,7 +68,7 @@ fn put_slots<U: Update>(
     sketch.put(b"}}")
 }
 
-/// Puts how many messages wait in a node.
+/// Appends the number of messages that are pending in a node.
 fn put_waiting(sketch: &mut DotWriter, count: u128, frame: BoxLabel) -> Result<(), NoMemory> {
     if frame.is_root {
         sketch.put_number(count)?;
@@ -77,7 +77,7 @@ fn put_waiting(sketch: &mut DotWriter, count: u128, frame: BoxLabel) -> Result<(
     put_part(sketch, count, frame.shape.pending, b" messages")
 }
 
-/// Puts a field for each slot.
+/// Appends a field for each slot.
 fn put_fields<U: Update>(sketch: &mut DotWriter, slots: &[Slot<U>]) -> Result<(), NoMemory> {
     let mut number: u64 = 0;
     for slot in slots {
@@ -90,7 +90,7 @@ fn put_fields<U: Update>(sketch: &mut DotWriter, slots: &[Slot<U>]) -> Result<()
     Ok(())
 }
 
-/// Puts the field of a slot: its pivot, and how many messages wait.
+/// Appends the field of a slot: its pivot, and the number of pending messages.
 fn put_field<U: Update>(
     sketch: &mut DotWriter,
     number: u64,

@@ -1,4 +1,4 @@
-//! A reader or a writer that keeps why it failed.
+//! A reader or a writer that remembers why it failed.
 use std::io;
 use std::io::{ErrorKind, Read, Write};
 
@@ -11,7 +11,7 @@ pub(crate) struct Noted<'a, T> {
 }
 
 impl<'a, T> Noted<'a, T> {
-    /// One that has not failed.
+    /// Wraps a stream that has not failed.
     pub(crate) fn new(name: &'a str, stream: &'a mut T) -> Noted<'a, T> {
         Noted {
             name,
@@ -20,7 +20,7 @@ impl<'a, T> Noted<'a, T> {
         }
     }
 
-    /// Keeps an error, unless a signal came between, and hands it on.
+    /// Stores an error, unless it is an interruption by a signal, and returns it.
     fn note(&mut self, error: io::Error) -> io::Error {
         if error.kind() != ErrorKind::Interrupted {
             self.error = Some(same_error(&error));
@@ -54,7 +54,7 @@ impl<'a, W: Write> Write for Noted<'a, W> {
     }
 }
 
-/// An error of the same number, or else of the same kind.
+/// Copies an error with the same number, or else with the same kind.
 fn same_error(error: &io::Error) -> io::Error {
     match error.raw_os_error() {
         Some(number) => io::Error::from_raw_os_error(number),

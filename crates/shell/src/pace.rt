@@ -6,19 +6,19 @@ use node::StepReply;
 use std::alloc::Global;
 use volume::{Step, Volume};
 
-/// Which tree steps are done between the lines of a script. Whatever it picks, the replies are the same.
+/// Decides which tree steps are done between the lines of a script. The replies are the same whatever it picks.
 pub trait Pace {
-    /// How many steps are picked after the line that was just done.
+    /// The number of steps to pick after the line that was just done.
     fn turns(&mut self) -> u16;
 
     /// The next step to try, if any.
     fn pick(&mut self, volume: &Volume) -> Option<Step>;
 
-    /// What the step that was picked last has answered.
+    /// Reports the reply to the step that was picked last.
     fn saw(&mut self, reply: StepReply);
 }
 
-/// Does the steps that the pace picks after a line: the volume means what it meant.
+/// Does the steps that the pace picks after a line. The volume still abstracts to the same world.
 pub fn run_steps<P: Pace>(alloc: Global, volume: &mut Volume, pace: &mut P)
     ensures { (w : World) → Means volume.old w → Means volume.new w }
 {

@@ -2,22 +2,22 @@
 use crate::dot_writer::DotWriter;
 use pathkey::{Key, NoMemory};
 
-/// How many bytes of a path are told at most.
+/// The maximum number of bytes of a path that are shown.
 const LONGEST: usize = 32;
 
-/// How many bytes of the beginning of a longer path are told.
+/// The number of bytes that are shown from the beginning of a longer path.
 const FRONT: usize = 12;
 
-/// How many bytes of its end.
+/// The number of bytes that are shown from its end.
 const BACK: usize = 17;
 
 /// The digits of the percent form.
 const DIGITS: &[u8; 16] = b"0123456789ABCDEF";
 
-/// Puts a key: a path, and behind `#` the number of its block where the key has one.
+/// Appends a key: a path, and after `#` the index of its block if the key has one.
 pub fn put_key(sketch: &mut DotWriter, key: &Key) -> Result<(), NoMemory> {
     match key.as_bytes() {
-        // No path has an empty name, so two zeros stand side by side before a block's number alone.
+        // No path has an empty name, so two zeros are adjacent only before a block's index.
         [path @ .., 0, 0, a, b, c, d] => {
             put_path(sketch, path)?;
             sketch.put(b"#")?;
@@ -28,7 +28,7 @@ pub fn put_key(sketch: &mut DotWriter, key: &Key) -> Result<(), NoMemory> {
     }
 }
 
-/// Puts a path, from its names with a zero between each and the next; of a long one its beginning and its end.
+/// Appends a path, given as its names separated by zeros. Of a long path only its beginning and its end are appended.
 fn put_path(sketch: &mut DotWriter, names: &[u8]) -> Result<(), NoMemory> {
     sketch.put(b"/")?;
     if names.len() <= LONGEST {
@@ -39,7 +39,7 @@ fn put_path(sketch: &mut DotWriter, names: &[u8]) -> Result<(), NoMemory> {
     put_bytes(sketch, &names[names.len() - BACK..])
 }
 
-/// Puts a part of a path, or a name.
+/// Appends a part of a path, or a name.
 pub fn put_bytes(sketch: &mut DotWriter, bytes: &[u8]) -> Result<(), NoMemory> {
     for &byte in bytes {
         put_byte(sketch, byte)?;
@@ -47,8 +47,8 @@ pub fn put_bytes(sketch: &mut DotWriter, bytes: &[u8]) -> Result<(), NoMemory> {
     Ok(())
 }
 
-/// Puts a byte: a slash for the end of a name; letters, digits, `.`, `_` and `-` as they are, all others in percent
-/// form. So what is put has no meaning to `dot`.
+/// Appends a byte: a slash for the end of a name, letters, digits, `.`, `_` and `-` unchanged, and all others in percent
+/// form. So nothing that is appended has a meaning to `dot`.
 fn put_byte(sketch: &mut DotWriter, byte: u8) -> Result<(), NoMemory> {
     if byte == 0 {
         return sketch.put(b"/");

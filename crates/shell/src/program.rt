@@ -1,4 +1,4 @@
-//! The program `betr`: runs a script over a new volume, as the words of a command line ask.
+//! The program `betr`: runs a script over a new volume, as the words of a command line request.
 use crate::command_line::{Options, read_words};
 use crate::draw::{draw_alone, draw_volume};
 use crate::flushers::run_with_flushers;
@@ -20,28 +20,28 @@ use std::{fs, io};
 use thiserror::Error;
 use volume::{Frozen, Volume};
 
-/// How many bytes of replies are gathered before they are written.
+/// The number of bytes of replies that are buffered before they are written.
 const OUTPUT_BUFFER: usize = 65_536;
 
-/// The status where all was done and printed.
+/// The status if everything was done and printed.
 const DONE: u8 = 0;
 
-/// The status where the program ended before that.
+/// The status if the program ended before that.
 const FAILED: u8 = 1;
 
-/// The status where the command line was refused.
+/// The status if the command line is invalid.
 const REFUSED: u8 = 2;
 
-/// Why the program ends before all is done and printed.
+/// Why the program ends before everything is done and printed.
 #[derive(Debug, Drop, Error)]
 enum Failure {
-    /// The command line was refused.
+    /// The command line is invalid.
     #[error(transparent)]
     Words(clap::Error),
-    /// Memory was refused.
+    /// An allocation failed.
     #[error("betr: no memory")]
     Memory,
-    /// No tree may have the shape.
+    /// The shape is invalid.
     #[error("betr: bad shape")]
     Shape,
     /// A file that was named could not be opened.
@@ -53,17 +53,18 @@ enum Failure {
     /// The script was not run to its end.
     #[error(transparent)]
     Script(Ending),
-    /// The image was not printed to its end.
+    /// The image was not printed completely.
     #[error(transparent)]
     Image(ImageFault),
-    /// What was to be printed or drawn last was not.
+    /// The last output, to be printed or drawn, could not be written.
     #[error("betr: write failed")]
     Write,
 }
 
-/// Does what the words of a command line ask for, and answers with what status the program ends. The first word is the program's
-/// name. A script that no file is named for is read from `input`; replies, the image and help go to `output`, and why the program ends
-/// early to `errors`, behind explanations if those were asked for: where that cannot be printed, the status is the same.
+/// Does what the words of a command line request, and returns the exit status of the program. The first word is the program's
+/// name. If no file is named for the script, it is read from `input`. Replies, the image and help are written to `output`. If
+/// the program ends early, the reason is written to `errors`, after explanations if those were requested. If it cannot be
+/// written, the status is the same.
 pub fn run_words<H: Files + Threads + Wait + Sync, R: Read, W: Write + Drop, E: Write>(
     rt: &H,
     alloc: Global,
@@ -80,12 +81,12 @@ pub fn run_words<H: Files + Threads + Wait + Sync, R: Read, W: Write + Drop, E: 
         Ok(()) => DONE,
         Err(failure) => report_failure(failure, errors),
     };
-    // Let go by a call, so that the proof costs less.
+    // Dropped by a call, so that the proof costs less.
     drop(ended);
     status
 }
 
-/// Prints why the program ends early. Answers with what status.
+/// Prints why the program ends early. Returns its exit status.
 fn report_failure<E: Write>(failure: &Failure, errors: &mut E) -> u8 {
     match failure {
         Failure::Words(error) => {
@@ -99,10 +100,10 @@ fn report_failure<E: Write>(failure: &Failure, errors: &mut E) -> u8 {
     }
 }
 
-/// Prints help or the release, when either was asked for.
+/// Prints help or the release if either was requested.
 fn end_unread<W: Write>(error: clap::Error, output: &mut W) -> Result<(), Failure> {
     if error.kind() == ErrorKind::OutOfMemory {
-        // Let go by a call, so that the proof costs less.
+        // Dropped by a call, so that the proof costs less.
         drop(error);
         return Err(Failure::Memory);
     }
@@ -113,7 +114,7 @@ fn end_unread<W: Write>(error: clap::Error, output: &mut W) -> Result<(), Failur
         Ok(()) => flush(output),
         Err(_) => Err(Failure::Write),
     };
-    // Let go by a call, so that the proof costs less.
+    // Dropped by a call, so that the proof costs less.
     drop(error);
     ended
 }
@@ -155,14 +156,14 @@ fn run<H: Files + Threads + Wait + Sync, R: Read, W: Write, E: Write>(
             )
         }
         Err(failure) => {
-            // Let go by a call, so that the proof costs less.
+            // Dropped by a call, so that the proof costs less.
             drop(volume);
             Err(failure)
         }
     }
 }
 
-/// The volume that the options start with: a new one, or that of the image which they name.
+/// Makes the volume that the options start with: a new one, or that of the image that they name.
 fn first_volume<F: Files, E: Write>(
     rt: &F,
     alloc: Global,
@@ -180,12 +181,12 @@ fn first_volume<F: Files, E: Write>(
     }
     match options.load {
         Some(path) => load(rt, alloc, shape, path, monitor),
-        // A shape that is ok is refused only for want of memory.
+        // For a valid shape this fails only if an allocation fails.
         None => Volume::new(alloc, shape).map_err(|_| Failure::Memory),
     }
 }
 
-/// The volume of the image in a file.
+/// Loads the volume of the image in a file.
 fn load<F: Files, E: Write>(
     rt: &F,
     alloc: Global,
@@ -205,7 +206,7 @@ fn load<F: Files, E: Write>(
     }
 }
 
-/// Explains why the text of a file is no image: there may be an image behind replies.
+/// Explains why the text of a file is not an image. There may be an image after replies.
 fn explain_load<F: Files, E: Write>(
     rt: &F,
     path: &str,
@@ -243,7 +244,7 @@ fn open<F: Files, E: Write>(
     }
 }
 
-/// Prints the replies to a script, gathered into large writes, and then the image if the options ask for it.
+/// Prints the replies to a script, in large buffered writes, and then the image if the options request it.
 fn print<H: Files + Threads + Wait + Sync, R: Read, W: Write, E: Write>(
     rt: &H,
     alloc: Global,
@@ -260,7 +261,7 @@ fn print<H: Files + Threads + Wait + Sync, R: Read, W: Write, E: Write>(
     ended
 }
 
-/// The same to a writer of replies that keeps why it failed.
+/// Prints the replies and the image as `print` does, to a writer that remembers why it failed.
 fn print_gathered<H: Files + Threads + Wait + Sync, R: Read, W: Write, E: Write>(
     rt: &H,
     alloc: Global,
@@ -273,14 +274,14 @@ fn print_gathered<H: Files + Threads + Wait + Sync, R: Read, W: Write, E: Write>
     match BufWriter::with_capacity(alloc, OUTPUT_BUFFER, output) {
         Ok(mut buffer) => print_all(rt, alloc, volume, options, script, &mut buffer, monitor),
         Err(_) => {
-            // Let go by a call, so that the proof costs less.
+            // Dropped by a call, so that the proof costs less.
             drop(volume);
             Err(Failure::Memory)
         }
     }
 }
 
-/// Prints the replies to a script, while flushers tidy if there are some, and what the options ask for behind them.
+/// Prints the replies to a script, while flushers compact the trees if there are some, and then what the options request.
 fn print_all<H: Files + Threads + Wait + Sync, R: Read, W: Write, E: Write>(
     rt: &H,
     alloc: Global,
@@ -293,14 +294,14 @@ fn print_all<H: Files + Threads + Wait + Sync, R: Read, W: Write, E: Write>(
     if options.flushers == 0 {
         let mut volume = volume;
         let ended = print_lines(rt, alloc, &mut volume, options, script, writer, monitor);
-        // Let go by a call, so that the proof costs less.
+        // Dropped by a call, so that the proof costs less.
         drop(volume);
         return ended;
     }
     match run_with_flushers(rt, alloc, volume, options.flushers, script, writer, monitor) {
         Ok(tree) => {
             let ended = print_tree(rt, alloc, &tree, options, writer, monitor);
-            // Let go by a call, so that the proof costs less.
+            // Dropped by a call, so that the proof costs less.
             drop(tree);
             ended
         }
@@ -308,7 +309,7 @@ fn print_all<H: Files + Threads + Wait + Sync, R: Read, W: Write, E: Write>(
     }
 }
 
-/// Prints the image of a tree if that is asked for, and then draws it.
+/// Prints the image of a tree if that is requested, and then draws it.
 fn print_tree<F: Files, W: Write, E: Write>(
     rt: &F,
     alloc: Global,
@@ -324,7 +325,7 @@ fn print_tree<F: Files, W: Write, E: Write>(
     }
 }
 
-/// Prints the replies to a script on a volume, with steps of tidying after each line, and what the options ask for behind them.
+/// Prints the replies to a script on a volume, with tree steps after each line, and then what the options request.
 fn print_lines<F: Files, R: Read, W: Write, E: Write>(
     rt: &F,
     alloc: Global,
@@ -338,7 +339,7 @@ fn print_lines<F: Files, R: Read, W: Write, E: Write>(
     run_lines(alloc, volume, &mut 0, script, writer, &mut pace, monitor).map_err(Failure::Script)?;
     let tree = volume.freeze().map_err(|_| Failure::Memory)?;
     let printed = print_end(alloc, &tree, options.image, writer);
-    // Let go by a call, so that the proof costs less.
+    // Dropped by a call, so that the proof costs less.
     drop(tree);
     printed?;
     match options.dot {
@@ -347,7 +348,7 @@ fn print_lines<F: Files, R: Read, W: Write, E: Write>(
     }
 }
 
-/// Writes a drawing into a file.
+/// Writes a drawing to a file.
 fn save<F: Files, E: Write>(
     rt: &F,
     path: &str,
@@ -357,7 +358,7 @@ fn save<F: Files, E: Write>(
     match drawing {
         Ok(text) => {
             let saved = fs::write(rt, path, text.as_slice());
-            // Let go by a call, so that the proof costs less.
+            // Dropped by a call, so that the proof costs less.
             drop(text);
             report_saved(path, saved, monitor)
         }
@@ -380,7 +381,7 @@ fn report_saved<E: Write>(
     }
 }
 
-/// Prints the image of a tree if that is asked for, and writes out what is gathered.
+/// Prints the image of a tree if that is requested, and flushes the writer.
 fn print_end<W: Write>(
     alloc: Global,
     tree: &Frozen,
@@ -393,7 +394,7 @@ fn print_end<W: Write>(
     flush(writer)
 }
 
-/// Writes out what is gathered.
+/// Flushes the writer.
 fn flush<W: Write>(writer: &mut W) -> Result<(), Failure> {
     writer.flush().map_err(|_| Failure::Write)
 }

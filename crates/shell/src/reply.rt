@@ -15,7 +15,7 @@ use textio::output::{WriteFailed, put};
 use textio::text::{is_plain, put_hex, put_number, put_number_line, put_percent};
 use textio::write_buffer::WriteBuffer;
 
-/// Writes the lines of a reply, or a beginning of them.
+/// Writes the lines of a reply, or a prefix of them.
 pub fn write_reply<W: Write>(writer: &mut W, reply: &Reply) -> Result<(), WriteFailed>
     ensures ok { OnOk result (Appends (W.contents writer.old) (W.contents writer.new) (reply_text reply.now)) }
     ensures err { OnErr result (AppendsPart (W.contents writer.old) (W.contents writer.new) (reply_text reply.now)) }
@@ -30,7 +30,7 @@ pub fn write_reply<W: Write>(writer: &mut W, reply: &Reply) -> Result<(), WriteF
     }
 }
 
-/// Writes the line of a refusal, or a beginning of it.
+/// Writes the line of an error, or a prefix of it.
 pub fn put_fault<W: Write>(writer: &mut W, fault: Errno) -> Result<(), WriteFailed>
     ensures ok { OnOk result (Appends (W.contents writer.old) (W.contents writer.new) (codes "fault " ++ word_of fault ++ codes "\n")) }
     ensures err { OnErr result (AppendsPart (W.contents writer.old) (W.contents writer.new) (codes "fault " ++ word_of fault ++ codes "\n")) }
@@ -41,7 +41,7 @@ pub fn put_fault<W: Write>(writer: &mut W, fault: Errno) -> Result<(), WriteFail
     Ok(())
 }
 
-// Writes the line of what stands at a path, or a beginning of it.
+// Writes the line of a stat, or a prefix of it.
 fn put_stat<W: Write>(
     writer: &mut W,
     kind: Kind,
@@ -57,7 +57,7 @@ fn put_stat<W: Write>(
     Ok(())
 }
 
-// What stands before the length of what stands at a path.
+// What precedes the length in the reply to a stat.
 fn stat_word(kind: Kind) -> &'static [u8]
     ensures { result.now ≡ stat_word kind }
 {
@@ -67,7 +67,7 @@ fn stat_word(kind: Kind) -> &'static [u8]
     }
 }
 
-// Writes the line of bytes that were read, or a beginning of it.
+// Writes the line of bytes that were read, or a prefix of it.
 fn put_data<W: Write>(writer: &mut W, bytes: &[u8]) -> Result<(), WriteFailed>
     ensures ok { OnOk result (Appends (W.contents writer.old) (W.contents writer.new) (codes "bytes " ++ hex_text bytes.now ++ codes "\n")) }
     ensures err { OnErr result (AppendsPart (W.contents writer.old) (W.contents writer.new) (codes "bytes " ++ hex_text bytes.now ++ codes "\n")) }
@@ -78,7 +78,7 @@ fn put_data<W: Write>(writer: &mut W, bytes: &[u8]) -> Result<(), WriteFailed>
     Ok(())
 }
 
-// Writes the lines of the entries of a directory, or a beginning of them.
+// Writes the lines of the entries of a directory, or a prefix of them.
 fn put_names<W: Write>(writer: &mut W, entries: &[(Kind, Vec<u8>)]) -> Result<(), WriteFailed>
     ensures ok { OnOk result (Appends (W.contents writer.old) (W.contents writer.new) (reply_text (Names (pairs_of entries.now)))) }
     ensures err { OnErr result (AppendsPart (W.contents writer.old) (W.contents writer.new) (reply_text (Names (pairs_of entries.now)))) }
@@ -88,7 +88,7 @@ fn put_names<W: Write>(writer: &mut W, entries: &[(Kind, Vec<u8>)]) -> Result<()
     Ok(())
 }
 
-// Writes the lines of entries, or a beginning of them.
+// Writes the lines of entries, or a prefix of them.
 fn put_entries<W: Write>(writer: &mut W, entries: &[(Kind, Vec<u8>)]) -> Result<(), WriteFailed>
     ensures ok { OnOk result (Appends (W.contents writer.old) (W.contents writer.new) (flat_map entry_line (pairs_of entries.now))) }
     ensures err { OnErr result (AppendsPart (W.contents writer.old) (W.contents writer.new) (flat_map entry_line (pairs_of entries.now))) }
@@ -100,7 +100,7 @@ fn put_entries<W: Write>(writer: &mut W, entries: &[(Kind, Vec<u8>)]) -> Result<
     gathered.write_out(writer)
 }
 
-// Puts the line of an entry behind what is gathered; of a name with an escaped byte all is written.
+// Appends the line of an entry to the buffer. If the name has a byte to escape, the buffer and the line are written at once.
 fn gather_entry<W: Write>(
     gathered: &mut WriteBuffer,
     writer: &mut W,
@@ -117,7 +117,7 @@ fn gather_entry<W: Write>(
     put_entry(writer, kind, name)
 }
 
-// The same of a name of which each byte stands for itself.
+// Appends the line of an entry whose name has no byte to escape.
 fn gather_plain<W: Write>(
     gathered: &mut WriteBuffer,
     writer: &mut W,
@@ -134,7 +134,7 @@ fn gather_plain<W: Write>(
     Ok(())
 }
 
-// Writes the line of an entry, or a beginning of it.
+// Writes the line of an entry, or a prefix of it.
 fn put_entry<W: Write>(writer: &mut W, kind: Kind, name: &[u8]) -> Result<(), WriteFailed>
     ensures ok { OnOk result (Appends (W.contents writer.old) (W.contents writer.new) (entry_line (kind, name.now))) }
     ensures err { OnErr result (AppendsPart (W.contents writer.old) (W.contents writer.new) (entry_line (kind, name.now))) }
@@ -145,7 +145,7 @@ fn put_entry<W: Write>(writer: &mut W, kind: Kind, name: &[u8]) -> Result<(), Wr
     Ok(())
 }
 
-// What stands before a name.
+// What precedes a name.
 fn name_word(kind: Kind) -> &'static [u8]
     ensures { result.now ≡ name_word kind }
 {

@@ -1,39 +1,39 @@
-//! What a line of a script asks for.
+//! The request of a line of a script.
 
 use pathkey::{Errno, Path, SnapName};
 use reference::Call;
 
-/// What a line asks for.
+/// The request of a line.
 #[derive(Drop)]
 pub enum Request {
-    /// Nothing: an empty line or a note.
+    /// Nothing: an empty line or a comment.
     Silent,
-    /// Too long to be looked at.
+    /// Too long to be parsed.
     Overlong,
-    /// No command, or not its number of words.
+    /// Not a command, or not its number of words.
     Malformed,
-    /// A call that is refused before it is done.
+    /// A call that fails before it is executed.
     Refused(Errno),
-    /// The moment of the calls that follow.
+    /// The timestamp of the calls that follow.
     Moment(u64),
     /// A file call.
     Wanted(Call),
-    /// The live tree is to be kept under the name.
+    /// Take a snapshot of the live tree under the name.
     Snapshot(SnapName),
-    /// The snapshot of that name is to go.
+    /// Remove the snapshot of that name.
     DropSnapshot(SnapName),
-    /// The live tree is to become that of the snapshot.
+    /// Replace the live tree by that of the snapshot.
     Restore(SnapName),
-    /// A look into the tree of the snapshot of that name.
+    /// Read the tree of the snapshot of that name.
     Past(SnapName, ReadCall),
 }
 
 /// A file call that reads.
 #[derive(Drop)]
 pub enum ReadCall {
-    /// So many bytes of a file at most, from an offset on.
+    /// At most the given number of bytes of a file, from the offset.
     Read(Path, u64, u64),
-    /// What stands at a path.
+    /// The attributes of the file or directory at a path.
     Stat(Path),
     /// The entries of a directory.
     Readdir(Path),

@@ -1,4 +1,4 @@
-//! Runs a script: reads it piece by piece, does each line, and writes its reply.
+//! Runs a script: reads it piece by piece, executes each line, and writes its reply.
 ghost use Rattle.std.specs.Prelude.{◌≡◌, ◌≢◌, ◌≤◌, ◌<◌, ◌+◌, ◌∷◌, ℕ, List, [], length, vec_capacity, IfErr, IfOk, OnOk, OnErr};
 ghost use Rattle.std.specs.Io.KnownBytes.{Appends, Keeps};
 ghost use Rattle.textio.specs.Parts.{AppendsPart};
@@ -33,23 +33,23 @@ use volume::Volume;
 /// Why a script was not read to its end, or its replies not written.
 #[derive(Debug, Drop, PartialEq, Eq, Error)]
 pub enum ScriptFault {
-    /// Memory for the run could not be had; nothing was read.
+    /// An allocation for the run failed. Nothing was read.
     #[error("betr: no memory")]
     Memory,
-    /// The reader failed; each whole line before was done and answered.
+    /// The reader failed. Each complete line before was executed and answered.
     #[error("betr: read failed")]
     Read,
-    /// The writer failed; no line after that of the reply was done.
+    /// The writer failed. No line after the one of this reply was executed.
     #[error("betr: write failed")]
     Write,
 }
 
-/// Runs all the lines of the reader on the volume, and writes a reply to each as it is done. The calls before the first line that
-/// sets the moment are done at 0. After each line the pace picks tree steps; whatever they are, the replies and what the volume
-/// means are the same.
+/// Runs all lines of the reader on the volume, and writes the reply to each when it is done. The calls before the first line
+/// that sets the timestamp have the timestamp 0. After each line the pace picks tree steps. Whatever they are, the replies
+/// and the world that the volume abstracts to are the same.
 ///
-/// At most one line is held, and of a line that is too long no more than shows that it is. The writer is flushed before each
-/// read and at the end.
+/// At most one line is held, and of a line that is too long only as much as shows that it is. The writer is flushed before
+/// each read and at the end.
 pub fn run_script<R: Read, W: Write, P: Pace>(
     alloc: Global,
     volume: &mut Volume,
@@ -70,24 +70,25 @@ pub fn run_script<R: Read, W: Write, P: Pace>(
     match run_lines(alloc, volume, &mut at, reader, writer, pace, &mut Unwatched) {
         Ok(()) => Ok(()),
         Err(Ending::Failed(fault)) => Err(fault),
-        // Not met: nothing asks for that.
+        // Unreachable: nothing requests that.
         Err(Ending::Fault(_)) => Err(ScriptFault::Write),
     }
 }
 
-/// Why a run that is watched ended before the end of its script.
+/// Why a watched run ended before the end of its script.
 #[derive(Debug, Drop, PartialEq, Eq, Error)]
 pub enum Ending {
-    /// As a script's.
+    /// The script failed.
     #[error(transparent)]
     Failed(ScriptFault),
-    /// The line of this number, counted from 1, was answered by a fault or an error, and the run was to end there.
+    /// The line with this number, counted from 1, was answered by a fault or an error, and the run had to end there.
     #[error("betr: fault at line {0}")]
     Fault(u64),
 }
 
-// Runs all the lines of the reader on a session, as `run_script` does on a volume; if the watch is strict, up to the first that is
-// answered by a fault or an error. A session that others share means no world that a contract could name, and then nothing is said.
+// Runs all lines of the reader on a session, as `run_script` does on a volume. If the watch is strict, it stops after the
+// first line that is answered by a fault or an error. A session that is shared with others means no world that a contract
+// could name, and then nothing is promised.
 pub(crate) fn run_lines<S: Session, R: Read, W: Write, P: Pace, V: Watch>(
     alloc: Global,
     session: &mut S,
@@ -127,7 +128,7 @@ pub(crate) fn run_lines<S: Session, R: Read, W: Write, P: Pace, V: Watch>(
     )
 }
 
-// Reads and does piece after piece, in the given buffers.
+// Reads and executes piece after piece, in the given buffers.
 fn run_over<S: Session, R: Read, W: Write, P: Pace, V: Watch>(
     alloc: Global,
     session: &mut S,
@@ -152,7 +153,7 @@ fn run_over<S: Session, R: Read, W: Write, P: Pace, V: Watch>(
     ensures fault { (n : ℕ) → result ≡ Err (Ending.Fault n) → Leads (Meant (S.means session.old) at.old) (Meant (S.means session.new) at.new)
         (DoesUntil (Answered (V.is_strict watch.old)) (IsHalt (V.is_strict watch.old) Halt.Fault) (R.remaining reader.old)) (Appends (W.contents writer.old) (W.contents writer.new)) }
 {
-    // No input has more pieces.
+    // No input has more pieces than this.
     for _ in 0..u64::MAX {
         if let Err(WriteFailed) = flush(writer) {
             return Err(Ending::Failed(ScriptFault::Write));
@@ -173,7 +174,7 @@ fn run_over<S: Session, R: Read, W: Write, P: Pace, V: Watch>(
     Err(Ending::Failed(ScriptFault::Read))
 }
 
-// Writes out what is gathered, if the writer did not fail. Returns why the run ends.
+// Flushes the writer, unless it failed. Returns why the run ends.
 fn end_early<W: Write, V: Watch>(halt: Halt, writer: &mut W, watch: &V) -> Ending
     ensures keeps { Keeps (W.contents writer.old) (W.contents writer.new) }
     ensures memory { result ≢ Ending.Failed ScriptFault.Memory }
@@ -186,8 +187,8 @@ fn end_early<W: Write, V: Watch>(halt: Halt, writer: &mut W, watch: &V) -> Endin
     Ending::Fault(watch.lines())
 }
 
-// Does each line that ends in a piece of the text, and holds what follows the last of them. A line is copied only where it began
-// in an earlier piece.
+// Executes each line that ends in a piece of the text, and holds what follows the last of them. A line is only copied if it
+// began in an earlier piece.
 fn take_piece<S: Session, W: Write, P: Pace, V: Watch>(
     alloc: Global,
     session: &mut S,
@@ -222,7 +223,7 @@ fn take_piece<S: Session, W: Write, P: Pace, V: Watch>(
     Ok(())
 }
 
-// Does the last line, where the text does not end with a line feed.
+// Executes the last line, if the text does not end with a line feed.
 fn finish<S: Session, W: Write, P: Pace, V: Watch>(
     alloc: Global,
     session: &mut S,
@@ -244,7 +245,7 @@ fn finish<S: Session, W: Write, P: Pace, V: Watch>(
     write_out(writer)
 }
 
-// Writes out what is gathered.
+// Flushes the writer.
 fn write_out<W: Write>(writer: &mut W) -> Result<(), Halt>
     ensures keeps { Keeps (W.contents writer.old) (W.contents writer.new) }
     ensures err { OnErr result (result ≡ Err Halt.Write) }
@@ -255,7 +256,7 @@ fn write_out<W: Write>(writer: &mut W) -> Result<(), Halt>
     }
 }
 
-// Does one line and writes its reply, and then does the steps that the pace picks.
+// Executes one line and writes its reply, and then does the steps that the pace picks.
 fn do_line<S: Session, W: Write, P: Pace, V: Watch>(
     alloc: Global,
     session: &mut S,
@@ -281,7 +282,7 @@ fn do_line<S: Session, W: Write, P: Pace, V: Watch>(
     Ok(())
 }
 
-// Does one line and writes its reply. Returns whether that is a fault or an error.
+// Executes one line and writes its reply. Returns whether that is a fault or an error.
 fn answer_line<S: Session, W: Write>(
     alloc: Global,
     session: &mut S,
@@ -296,12 +297,12 @@ fn answer_line<S: Session, W: Write>(
 {
     let request = read_request(alloc, line);
     let answered = answer(alloc, session, at, &request, writer);
-    // Let go by a call: its kinds are not told apart here.
+    // Dropped by a call: its variants are not distinguished here.
     drop(request);
     answered
 }
 
-// Does what is asked for, and writes the reply. Returns whether that is a fault or an error.
+// Executes a request, and writes the reply. Returns whether that is a fault or an error.
 fn answer<S: Session, W: Write>(
     alloc: Global,
     session: &mut S,
@@ -346,7 +347,7 @@ fn answer<S: Session, W: Write>(
     }
 }
 
-// Writes a line, and returns what it is known to be.
+// Writes a line, and returns the given verdict of it.
 fn put_line<W: Write>(writer: &mut W, line: &[u8], verdict: Verdict) -> Result<Verdict, WriteFailed>
     requires { fails verdict ≡ is_fault line.now }
     ensures ok { IfOk result (λ v. Judges v (W.contents writer.old) (W.contents writer.new) line.now) }
@@ -356,7 +357,7 @@ fn put_line<W: Write>(writer: &mut W, line: &[u8], verdict: Verdict) -> Result<V
     Ok(verdict)
 }
 
-// Writes the line of a refusal.
+// Writes the line of an error.
 fn put_refusal<W: Write>(writer: &mut W, fault: Errno) -> Result<Verdict, WriteFailed>
     ensures ok { IfOk result (λ v. Judges v (W.contents writer.old) (W.contents writer.new) (reply_text (Fault fault))) }
     ensures err { OnErr result (AppendsPart (W.contents writer.old) (W.contents writer.new) (reply_text (Fault fault))) }
@@ -372,7 +373,7 @@ fn put_reply<W: Write>(writer: &mut W, reply: Reply) -> Result<Verdict, WriteFai
 {
     let verdict = Verdict::of_reply(&reply);
     let reported = write_reply(writer, &reply);
-    // Let go by a call, so that the proof costs less.
+    // Dropped by a call, so that the proof costs less.
     drop(reply);
     reported?;
     Ok(verdict)

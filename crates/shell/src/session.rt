@@ -1,4 +1,4 @@
-//! What the lines of a script are done on: a volume, or a client of an engine that others share.
+//! What the lines of a script are executed on: a volume, or a client of an engine whose volume is shared.
 ghost use Rattle.reference.specs.Worlds.{World, TakeSnapshot, DropSnapshot, RestoreSnapshot, Ask, Replied, Settled, Fits, next};
 ghost use Rattle.shell.specs.Script.{Tells};
 ghost use Rattle.shell.specs.Sessions.{Goes, IsReported};
@@ -11,18 +11,18 @@ use reference::{Call, Reply};
 use std::alloc::Global;
 use volume::{Frozen, Volume};
 
-/// What the lines of a script are done on. Contracts see which worlds it means.
+/// What the lines of a script are executed on. Contracts see which worlds it abstracts to.
 pub trait Session {
     ghost use Rattle.reference.specs.Worlds.{World};
 
-    /// The worlds that it means.
+    /// The worlds that it abstracts to.
     ghost means: { Self → World → Type 0 };
 
-    /// Does a file call at a moment.
+    /// Does a file call with a timestamp.
     fn call(&mut self, alloc: Global, call: &Call, at: u64) -> Reply
         ensures { Goes (means self.old) (means self.new) (Ask call.now at) (Replied result) };
 
-    /// Keeps the live tree under the name.
+    /// Takes a snapshot of the live tree under the name.
     fn snapshot(&mut self, alloc: Global, name: &SnapName) -> Result<(), Errno>
         ensures { Goes (means self.old) (means self.new) (TakeSnapshot name.now) (Settled result) };
 
@@ -30,15 +30,15 @@ pub trait Session {
     fn drop_snapshot(&mut self, name: &SnapName) -> Result<(), Errno>
         ensures { Goes (means self.old) (means self.new) (DropSnapshot name.now) (Settled result) };
 
-    /// The live tree becomes that of the snapshot.
+    /// Replaces the live tree by that of the snapshot.
     fn restore(&mut self, name: &SnapName) -> Result<(), Errno>
         ensures { Goes (means self.old) (means self.new) (RestoreSnapshot name.now) (Settled result) };
 
-    /// The reply to a look into the snapshot of that name.
+    /// Returns the reply to a read of the snapshot of that name.
     fn read_snapshot(&mut self, alloc: Global, name: &SnapName, look: &ReadCall) -> Reply
         ensures { (w : World) → means self.old w → Tells w name.now look.now result × means self.new w };
 
-    /// Does the steps that the pace picks after a line, where the pace has a volume to look at.
+    /// Does the steps that the pace picks after a line, if there is a volume for the pace to inspect.
     fn run_steps<P: Pace>(&mut self, alloc: Global, pace: &mut P)
         ensures { (w : World) → means self.old w → means self.new w };
 }
@@ -74,7 +74,7 @@ impl Session for Volume {
     }
 }
 
-/// The reply to a look into a tree that stands still.
+/// Returns the reply to a read of a frozen tree.
 pub(crate) fn read_frozen(alloc: Global, frozen: &Frozen, look: &ReadCall) -> Reply
     ensures { IsReported look.now result frozen.now }
 {

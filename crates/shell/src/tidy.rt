@@ -1,35 +1,37 @@
-//! The pace of the program: where enough waits, the heaviest slot is flushed, and what makes room for that is done. Nodes on the flush's
-//! path that removals left nearly empty are merged before.
+//! The pace of the program: if enough messages are pending, it flushes the fullest slot, and does the steps that make room
+//! for that. Nodes on the flush's path that removals left nearly empty are merged first.
 //!
-//! No claim rests on its choices.
+//! No claim depends on its choices.
 use crate::pace::Pace;
 use node::{StepReply, TreeStep};
 use steps::preemptive_split;
 use volume::{Index, MAX_ATTEMPTS, Step, Volume};
 
-/// For how many lines a pace that found nothing to do does not look again: a look weighs both roots.
+/// The number of lines for which a pace that found nothing to do does not inspect the trees again, since that measures both
+/// roots.
 const REST: u8 = 7;
 
-/// At most so many steps after each line, of the index in which more pieces wait. As long as fewer messages than an eighth of what
-/// a node may hold wait in its heaviest slot, none is done: a flush of few messages costs about as much as one of many.
+/// Does at most a given number of steps after each line, in the index with more pending pieces. No step is done while the
+/// fullest slot has fewer messages than an eighth of what a node may hold, since a flush of few messages costs about as much
+/// as one of many.
 #[derive(Drop)]
 pub struct Tidy {
     turns: u16,
     /// The step that was picked last.
     last: Option<Step>,
-    /// How many steps in a row had no room, the last one among them. They go on over the lines: with one step a line, too, what
-    /// makes room comes to its turn.
+    /// The number of consecutive steps without room, up to the last one. It is kept from line to line, so that the steps that
+    /// make room are also reached with one step for each line.
     stuck: u8,
-    /// Whether the last steps reshape nodes before a flush. If they have no room, it is tried without that.
+    /// Whether the last steps reshape nodes before a flush. If they have no room, the flush is tried without that.
     reshapes: bool,
     /// Whether nothing was found to do since the last line.
     is_idle: bool,
-    /// For how many lines it does not look, since nothing was to do.
+    /// The number of lines for which it does not inspect the trees, since there was nothing to do.
     rest: u8,
 }
 
 impl Tidy {
-    /// A pace of at most so many steps after each line.
+    /// Creates a pace of at most `turns` steps after each line.
     pub fn new(turns: u16) -> Tidy {
         Tidy {
             turns,
@@ -41,7 +43,8 @@ impl Tidy {
         }
     }
 
-    /// What makes room for the step that had none, if it was one; else the heaviest flush, or what is better done before it.
+    /// Chooses the step that makes room for the last one, if that had none. Otherwise chooses the flush of the fullest slot,
+    /// or the step that is better done before it.
     fn choose_step(&mut self, volume: &Volume) -> Option<Step> {
         match self.last {
             Some(step) if self.stuck > 0 => self.choose_other(volume, step),
@@ -49,7 +52,8 @@ impl Tidy {
         }
     }
 
-    /// What makes room for this step; the flush itself where none is known and the step was to reshape nodes before it.
+    /// Chooses the step that makes room for this step. If none is known, and the step was to reshape nodes before a flush,
+    /// chooses the flush itself.
     fn choose_other(&mut self, volume: &Volume, step: Step) -> Option<Step> {
         let other = volume.make_room(step);
         if other.is_some() || !self.reshapes {
@@ -59,7 +63,7 @@ impl Tidy {
         heaviest(volume)
     }
 
-    /// The heaviest flush, or the step that reshapes nodes on its path.
+    /// Chooses the flush of the fullest slot, or the step that reshapes nodes on its path.
     fn choose_flush(&mut self, volume: &Volume) -> Option<Step> {
         let flush = heaviest(volume)?;
         let first = reshaping(volume, flush);
@@ -99,8 +103,8 @@ impl Pace for Tidy {
     }
 }
 
-/// The heaviest flush of the index in which more pieces wait, that of the metadata where both have as many; none where too few
-/// wait in its heaviest slot.
+/// The flush of the fullest slot in the index with more pending pieces, or in the metadata index if both have the same
+/// number. Returns `None` if too few messages are pending in that slot.
 fn heaviest(volume: &Volume) -> Option<Step> {
     let index = volume.busier();
     if longest(volume, index) < enough(volume) {
@@ -110,14 +114,14 @@ fn heaviest(volume: &Volume) -> Option<Step> {
     Some(Step { index, step })
 }
 
-/// The step that reshapes nodes on the path of a flush before it is tried; none where it is to be tried at once.
+/// The step that reshapes nodes on the path of a flush before it is tried, or `None` if the flush can be tried at once.
 fn reshaping(volume: &Volume, flush: Step) -> Option<Step> {
     let index = flush.index;
     let step = reshaping_in(volume, index, flush.step)?;
     Some(Step { index, step })
 }
 
-/// The same in the tree of the index.
+/// The step that reshapes nodes on the path of a flush in the tree of the index.
 fn reshaping_in(volume: &Volume, index: Index, flush: TreeStep) -> Option<TreeStep> {
     let indexes = volume.indexes();
     match index {
@@ -126,7 +130,7 @@ fn reshaping_in(volume: &Volume, index: Index, flush: TreeStep) -> Option<TreeSt
     }
 }
 
-/// How many messages wait in the longest list of an index.
+/// The number of messages in the longest list of an index.
 fn longest(volume: &Volume, index: Index) -> usize {
     let indexes = volume.indexes();
     let weight = match index {
@@ -136,7 +140,7 @@ fn longest(volume: &Volume, index: Index) -> usize {
     weight.longest
 }
 
-/// How many messages have to wait in a slot before it is flushed.
+/// The number of messages that have to be pending in a slot before it is flushed.
 fn enough(volume: &Volume) -> usize {
     let pending = volume.indexes().meta.tree.shape().pending;
     (usize::from(pending) / 8).max(1)

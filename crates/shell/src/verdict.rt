@@ -1,4 +1,4 @@
-//! How a line of a script was answered, and why no more lines are done.
+//! How a line of a script was answered, and why no more lines are executed.
 ghost use Rattle.std.specs.Prelude.{◌≡◌};
 ghost use Rattle.shell.specs.Verdicts.{fails, is_refusal};
 
@@ -7,7 +7,7 @@ use reference::Reply;
 /// How a line was answered.
 #[derive(Clone, Copy, Debug, Drop, PartialEq, Eq)]
 pub enum Verdict {
-    /// Not at all, or by a reply that is no fault.
+    /// Not at all, or by a reply that is not a fault.
     Done,
     /// By a fault.
     Fault,
@@ -18,7 +18,7 @@ pub enum Verdict {
 }
 
 impl Verdict {
-    /// That of a reply to a call.
+    /// The verdict of a reply to a call.
     pub fn of_reply(reply: &Reply) -> Verdict
         ensures { fails result ≡ is_refusal reply.now }
     {
@@ -39,11 +39,11 @@ impl Verdict {
     }
 }
 
-/// Why no more lines are done.
+/// Why no more lines are executed.
 #[derive(Clone, Copy, Debug, Drop, PartialEq, Eq)]
 pub enum Halt {
     /// The writer failed.
     Write,
-    /// The reply was a fault or an error, and the run was to end there.
+    /// The reply was a fault or an error, and the run had to end there.
     Fault,
 }

@@ -1,4 +1,4 @@
-//! Handles lend what they hold.
+//! Borrows what a handle owns.
 ghost use Rattle.std.specs.Prelude.{◌≡◌};
 ghost use types.Logic.{sem};
 ghost use Rattle.doorvervain.specs.Follows.{frozen_follows, handle_follows, loading_follows, printing_follows};
@@ -8,7 +8,7 @@ use images::{ImageLoader, ImagePrinter};
 use volume::{Frozen, Volume};
 
 impl VolumeHandle {
-    /// The volume that it holds.
+    /// The volume of this handle.
     pub(crate) fn volume(&mut self) -> &mut Volume
         ensures* writes_back { sem 𝓛 (handle_follows self.entry result) }
         ensures value { result.now ≡ self.old.volume }
@@ -19,7 +19,7 @@ impl VolumeHandle {
 }
 
 impl FrozenHandle {
-    /// The tree that it holds.
+    /// The tree of this handle.
     pub(crate) fn tree(&mut self) -> &mut Frozen
         ensures* writes_back { sem 𝓛 (frozen_follows self.entry result) }
         ensures value { result.now ≡ self.old.tree }
@@ -30,7 +30,7 @@ impl FrozenHandle {
 }
 
 impl PrinterHandle {
-    /// The printing that it holds.
+    /// The printer of this handle.
     pub(crate) fn printing(&mut self) -> &mut ImagePrinter
         ensures* writes_back { sem 𝓛 (printing_follows self.entry result) }
         ensures value { result.now ≡ self.old.printing }
@@ -41,7 +41,7 @@ impl PrinterHandle {
 }
 
 impl LoaderHandle {
-    /// The loading that it holds.
+    /// The loader of this handle.
     pub(crate) fn loading(&mut self) -> &mut ImageLoader
         ensures* writes_back { sem 𝓛 (loading_follows self.entry result) }
         ensures value { result.now ≡ self.old.loading }

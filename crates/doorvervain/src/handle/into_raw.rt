@@ -1,4 +1,4 @@
-//! Handles give back the boxes that they were made of.
+//! Turns handles back into the boxes that they were made of.
 ghost use Rattle.std.specs.Prelude.{◌≡◌};
 
 use super::{FrozenHandle, LoaderHandle, PrinterHandle, VolumeHandle};
@@ -8,7 +8,7 @@ use std::alloc::Global;
 use volume::{Frozen, Volume};
 
 impl VolumeHandle {
-    /// What the box of the volume is made of.
+    /// The parts of the volume's box.
     pub(crate) fn into_raw_parts(self, alloc: Global) -> RawBox<Volume, Global>
         ensures { result.value ≡ self.volume }
     {
@@ -21,7 +21,7 @@ impl VolumeHandle {
 }
 
 impl FrozenHandle {
-    /// What the box of the tree is made of.
+    /// The parts of the tree's box.
     pub(crate) fn into_raw_parts(self, alloc: Global) -> RawBox<Frozen, Global>
         ensures { result.value ≡ self.tree }
     {
@@ -34,7 +34,7 @@ impl FrozenHandle {
 }
 
 impl PrinterHandle {
-    /// What the box of the printing is made of.
+    /// The parts of the printer's box.
     pub(crate) fn into_raw_parts(self, alloc: Global) -> RawBox<ImagePrinter, Global>
         ensures { result.value ≡ self.printing }
     {
@@ -47,7 +47,7 @@ impl PrinterHandle {
 }
 
 impl LoaderHandle {
-    /// What the box of the loading is made of.
+    /// The parts of the loader's box.
     pub(crate) fn into_raw_parts(self, alloc: Global) -> RawBox<ImageLoader, Global>
         ensures { result.value ≡ self.loading }
     {
