@@ -18,7 +18,7 @@ use Rattle.call_compiler.proofs.Compiling.{After}
 use Rattle.call_compiler.proofs.RootMoment.{touched_moment}
 
 -- the outcome by the fault of the path
-outcome_of : Option Errno → ℕ → Tree → Path → Outcome
+abbrev outcome_of : Option Errno → ℕ → Tree → Path → Outcome
 outcome_of fault at t p = unless t (fault ∷ []) (touched at t p, Done)
 
 -- only an mtime that is set at the root itself becomes the root's

@@ -66,7 +66,7 @@ pub dated_moment : (at : ℕ) (t : Tree) → moment (dated at t) ≡ at
 dated_moment at (Dir date es) = refl
 dated_moment at (File date b) = refl
 
-touched_moment : (at : ℕ) (t : Tree) (p : Path) → moment (touched at t p) ≡ cond (is_root p) at (moment t)
+pub touched_moment : (at : ℕ) (t : Tree) (p : Path) → moment (touched at t p) ≡ cond (is_root p) at (moment t)
 touched_moment at t [] = dated_moment at t
 touched_moment at (Dir date es) (n ∷ p) = refl
 touched_moment at (File date b) (n ∷ p) = refl

@@ -173,7 +173,7 @@ fn read_mtime(
     requires { 13 ≡ head.kind }
     ensures { ReadsEntry head first.now second.now result }
 {
-    if !has_no_numbers(head) || !second.is_empty() {
+    if !second.is_empty() || !has_no_numbers(head) {
         return Err(Errno::EINVAL);
     }
     let path = read_path(alloc, first)?;
