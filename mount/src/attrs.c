@@ -1,4 +1,4 @@
-// Reads, writes, moves and removes attribute records ("Record" in docs/FORMATS.md).
+// Reads, writes, moves and removes attribute records ("Attribute record" in docs/FORMATS.md).
 //
 // Validity: a record counts if the library's parser accepts its whole text; any other text is reported once and passed
 // over, as if there were none. Invariant: an inode with the default attributes has no record, and every change of one

@@ -1,7 +1,7 @@
 // Files with several names, which are kept in the private directory `links`, by number.
 //
 // Invariant: the record of the file has the number of its names, and each name is an empty file whose record has the
-// file's number ("Record" in docs/FORMATS.md). A name and the count change in one transaction.
+// file's number ("Attribute record" in docs/FORMATS.md). A name and the count change in one transaction.
 #include "hardlinks.h"
 #include "entry_count.h"
 #include "exit_report.h"

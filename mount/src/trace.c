@@ -2,8 +2,8 @@
 // docs/FORMATS.md).
 //
 // Invariant: both files have the same number of lines, notes apart, so any program of the language gives the same
-// replies. A write that is longer than a line becomes several lines; one that fails, a hole, and a call that failed for
-// lack of memory become notes.
+// replies. A write that is longer than a line becomes several lines, and a hole writes of zeros. A write or a hole that
+// fails, and a call that failed for lack of memory, become notes.
 #include "exit_report.h"
 #include "backend.h"
 #include "memlimit.h"
