@@ -1,4 +1,4 @@
-use Rattle.std.proofs.Common.{◌∙◌, Bool, ap, refl, sym, subst}
+use Rattle.std.proofs.Common.{◌≡◌, ◌∙◌, Bool, ap, refl, sym, subst}
 use Rattle.call_compiler.specs.Compiled.{messages}
 use Rattle.call_compiler.specs.Mtimes.{SetsMtime as CompilesMtime}
 use Rattle.pathkey.specs.Names.{Path}
