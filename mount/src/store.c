@@ -354,6 +354,7 @@ static int write_rest(struct store *store) {
     int err = store_sync(store);
     if (err) err = store_checkpoint(store, NULL);
     int other = store_close_log(store);
+    if (!err && !other) store_note_last(store, true);
     return err ? err : other;
 }
 

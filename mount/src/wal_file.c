@@ -82,7 +82,7 @@ static void fill_ahead(struct store *store) {
 // whole knows that the disk lost it.
 static int put_sync_marker(struct store *store, struct wal_log *log) {
     struct record_frame frame;
-    int err = wal_frame(&frame, &log->salt, store_record(log->number, log->records), "", 0);
+    int err = wal_frame_by(&store->digest, &frame, &log->salt, store_record(log->number, log->records), "", 0);
     if (!err) err = wal_put_record(&store->record_buffer, &frame, "", 0);
     log->records += !err;
     log->marks += !err;
