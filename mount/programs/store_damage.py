@@ -303,7 +303,7 @@ def a_tree_that_is_changed_is_not_shown_where_its_checksums_are_missing(folder: 
     end_well(mount)
     for store in (with_snapshot, rescue_whole(folder, with_snapshot), rescue_whole(folder, folder / "store")):
         tree = max(store.glob("tree.*[0-9]"))
-        tree.write_bytes(tree.read_bytes().replace(b"file00", b"fileXX"))
+        tree.write_bytes(tree.read_bytes().replace(b"file ".hex().encode(), b"File ".hex().encode()))
         tree.with_name(f"{tree.name}.sum").unlink()
         mount = Mount(folder, "--store", store, *NEVER)
         assert not mount.stands and ".sum is missing" in mount.said(), mount.said()
