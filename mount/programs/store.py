@@ -276,13 +276,12 @@ def a_log_that_is_missing_is_told(folder: Path):
 
 @case
 def mounts_that_are_killed_young_come_to_write_an_image(folder: Path):
-    """A start that finds an image due, and more than twice as much log as there may be, writes it before the mount stands."""
+    """A start that finds more than twice as much log as there may be writes an image before the mount stands."""
     written = {}
     for number in range(16):
         mount = store_mount(folder, "--log-size", "100K")
         assert mount.stands and {it.name: it.read_bytes() for it in mount.point.iterdir()} == written, mount.said()
-        sizes = {kind: sum(it.stat().st_size for it in (folder / "store").glob(f"{kind}.*")) for kind in ("log", "tree")}
-        assert sizes["log"] < 250_000 + 2 * sizes["tree"], (number, sizes)
+        assert sum(it.stat().st_size for it in logs(folder)) < 250_000, (number, sorted(os.listdir(folder / "store")))
         written = {f"file{i}": WORKS.randbytes(90_000) for i in range(4)}
         for name, data in written.items():
             (mount.point / name).write_bytes(data)

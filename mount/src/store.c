@@ -385,12 +385,12 @@ static size_t max_pending(void) {
 }
 
 // Mounts that are killed one after the other may never have come to write a checkpoint. So where the logs are much longer
-// than they may be, that is done first; where it fails, it is tried again later.
+// than they may be, that is done first, which takes a part of the time of a start; where it fails, it is tried again later.
 static int load(struct store *store, const struct open_options *options, struct backend *backend) {
     progress_begin(store);
     int err = store_load(store, options, backend);
-    if (!err && store->wal_bytes > 2 * store->log_size && checkpoint_is_due(store)) {
-        progress_set(store, "writes tree", store->log.number + 1, store->wal_bytes);
+    if (!err && store->wal_bytes > 2 * store->log_size && !store_has_too_many(store)) {
+        progress_set(store, "writes tree", store->log.number + 1, 0);
         store_checkpoint(store, NULL);
     }
     progress_end(store);
