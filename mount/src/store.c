@@ -158,9 +158,10 @@ static bool has_little(struct store *store) {
 
 bool store_try_sync(struct store *store, int *err) {
     if (store->took > SOON || !has_little(store) || !lock_try(&store->wal_lock)) return false;
-    *err = take_and_sync(store, NULL);
+    bool does = !wal_lacks_zeros(store);
+    if (does) *err = take_and_sync(store, NULL);
     store_unlock_wal(store);
-    return true;
+    return does;
 }
 
 int store_end_request(struct store *store, bool *has_changed) {

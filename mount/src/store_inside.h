@@ -124,7 +124,7 @@ struct store {
     pthread_cond_t wakes, asks;
     struct waiters for_sync;       // for the next one
     struct waiters for_space;      // until fewer bytes of calls wait to be written
-    _Atomic uint64_t took;         // nanoseconds of the last sync
+    _Atomic uint64_t took;         // nanoseconds of the last sync that wrote no zeros ahead
     _Atomic uint64_t synced_at;    // when it ended, or when the mount began
     _Atomic bool writeback_wanted; // calls wait, or an image is due
     struct timespec next_sync;
@@ -178,6 +178,8 @@ void store_drop_in_flight(struct store *store);
 // Writes what was taken, and syncs; under `wal_lock`. A failure is noted, and changes are refused from then on.
 int wal_write_in_flight(struct store *store);
 int wal_sync_in_flight(struct store *store);
+// Whether the next sync writes zeros ahead of the records, which takes longer.
+bool wal_lacks_zeros(const struct store *store);
 uint64_t store_clock(void);
 // What was written is on its way to the disk, before it is synced.
 void store_begin_sync(struct store *store);
