@@ -77,7 +77,7 @@ def make_checkpoint(folder: Path, ends_well: bool) -> None:
 def make_two_logs(folder: Path, ends_well: bool) -> None:
     """The image between them was not written to its end."""
     mount = stands(store_mount(folder, *NEVER))
-    (mount.point / "large").write_bytes(WORKS.randbytes(8 << 20))
+    (mount.point / "large").write_bytes(WORKS.randbytes(1 << 20))
     (mount.point / "large").unlink()
     add(mount, 0, FILES - 3)
     (mount.point / ".snapshots/large").mkdir()
