@@ -189,6 +189,34 @@ def a_log_that_others_may_write_to_is_refused_by_its_name(folder: Path):
         mount = store_mount(folder)
         assert mount.stands == stands and (stands or f"{log.name}: it is no file of this" in mount.said()), mount.said()
         assert mount.end() == 0 if stands else mount.process.wait(timeout=60)
+    if not os.getuid():
+        os.chown(log, 65534, -1)
+        mount = store_mount(folder)
+        assert not mount.stands and f"{log.name}: it is no file of this" in mount.said(), mount.said()
+
+
+@case
+def an_image_goes_with_no_store(folder: Path):
+    (folder / "image").touch()
+    for option in ("--load", "--image"):
+        mount = store_mount(folder, option, folder / "image")
+        assert not mount.stands and "--store" in mount.said(), mount.said()
+    assert not (folder / "store").exists()
+
+
+@case
+def owners_and_bits_are_trusted(folder: Path):
+    owner, mode = (5, 6) if not os.getuid() else (os.getuid(), os.getgid()), 0o6751
+    for ends in (end_well, kill, end_well):
+        mount = store_mount(folder)
+        file = mount.point / ends.__name__
+        file.touch()
+        os.chown(file, *owner)
+        file.chmod(mode)
+        sync(mount.point)
+        told = [it.stat() for it in mount.point.iterdir()]
+        assert all((it.st_uid, it.st_gid) == owner and it.st_mode & 0o7777 == mode for it in told), told
+        ends(mount)
 
 
 @case
