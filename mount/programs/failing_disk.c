@@ -60,7 +60,7 @@ static void note(int file) {
     const char *folder = getenv("FAILING_SYNCED"), *name = folder ? name_of(file, path) : 0;
     if (!name || fstat(file, &stat) || !S_ISREG(stat.st_mode)) return;
     snprintf(to, sizeof to, "%s/%s", folder, name);
-    snprintf(part, sizeof part, "%s.part", to);
+    snprintf(part, sizeof part, "%s.new", to); // a log has its own name with .part
     FILE *out = fopen(part, "we");
     if (!out) abort();
     fprintf(out, "%ld\n", length_of(path));

@@ -9,12 +9,12 @@ from own_store import PROGRAMS, WORKS, logs
 class FailingDisk:
     """A disk below a store that fails when it is told to, and knows what was synced. Its syncs may take longer."""
 
-    def __init__(self, folder: Path, milliseconds: int = 0):
+    def __init__(self, folder: Path, milliseconds: int = 0, store: Path | None = None):
         library = folder / "failing_disk.so"
         subprocess.run(["gcc", "-shared", "-fPIC", "-O1", PROGRAMS / "failing_disk.c", "-o", library, "-ldl"], check=True)
         self.control, self.synced = folder / "fails", folder / "synced"
         self.synced.mkdir()
-        self.environment = {"LD_PRELOAD": str(library), "FAILING_STORE": str(folder / "store"),
+        self.environment = {"LD_PRELOAD": str(library), "FAILING_STORE": str(store or folder / "store"),
                             "FAILING_DISK": str(self.control), "FAILING_SYNCED": str(self.synced),
                             "FAILING_DELAY": str(milliseconds),
                             "ASAN_OPTIONS": os.environ.get("ASAN_OPTIONS", "") + ":verify_asan_link_order=0"}
@@ -25,11 +25,20 @@ class FailingDisk:
     def mend(self) -> None:
         self.control.unlink()
 
+    def forget(self) -> None:
+        """Another store begins."""
+        for note in self.synced.iterdir():
+            note.unlink()
+
+    def synced_bytes(self, name: str) -> int:
+        """So many of a log were on the disk, which gets its name behind its first sync."""
+        noted = [self.synced / name, self.synced / f"{name}.part"]
+        return max((int(it.read_text()) for it in noted if it.exists()), default=0)
+
     def lose_power(self, folder: Path) -> None:
         """Of what no sync came behind only a part is left, of each log another."""
         for log in logs(folder):
-            noted = [self.synced / log.name, self.synced / f"{log.name}.part"]  # a log gets its name behind its first sync
-            least = max((int(it.read_text()) for it in noted if it.exists()), default=0)
+            least = self.synced_bytes(log.name)
             whole = log.read_bytes()
             left = WORKS.randint(min(least, len(whole)), len(whole))
             torn = bytearray(whole[:left])

@@ -137,6 +137,13 @@ class Log:
             self.bodies.append(body)
             self.end += 56 + len(body)
 
+    def settled(self) -> int:
+        """Its records without the sync markers at its end."""
+        count = len(self.bodies)
+        while count > 1 and not self.bodies[count - 1]:
+            count -= 1
+        return count
+
     def is_new(self) -> bool:
         return len(self.data) == 56 + HEADER_BODY
 
@@ -148,9 +155,21 @@ class Log:
         return not marker_behind(self.data, self.end, self.salt, self.first + len(self.bodies))
 
 
+def check_note(store: Path, first: int, logs: list[Log]) -> None:
+    """What the last mount noted in `lock` of the newest log that it had; logs from this number on."""
+    text = (store / "lock").read_bytes() if (store / "lock").exists() else b""
+    form = rb"(doorvervain mount 2\n(?:began|ended) log (\d+) records (\d+) ([0-9a-f]{32})\n)end ([0-9a-f]{64})\n"
+    found = re.fullmatch(form, text)
+    if not found or digest(found[1]).hex().encode() != found[5] or int(found[2]) < first:
+        return
+    demand(int(found[2]) < first + len(logs), "a newer log that is missing")
+    log = logs[int(found[2]) - first]
+    demand(log.salt.hex().encode() == found[4] and log.settled() >= int(found[3]), "an older log")
+
+
 def read_logs(store: Path, count: int, salt: bytes) -> list[bytes]:
     """The bodies of all records that count."""
-    names, bodies, before = [], [], None
+    names, bodies, counting, before = [], [], [], None
     while (store / f"log.{count + len(names)}").exists():
         names.append(count + len(names))
     logs = [Log((store / f"log.{it}").read_bytes(), it) for it in names]
@@ -162,9 +181,11 @@ def read_logs(store: Path, count: int, salt: bytes) -> list[bytes]:
                 demand(log is logs[-1] and log.is_new(), "a log that is not whole")
                 break
         bodies += log.bodies[1:]
+        counting.append(log)
         before = log
     demand(before.is_whole(), "a record that was on the disk")
     demand(before is not logs[-1] or before.bodies[-3:] != [b""] * 3, "a log that is missing")
+    check_note(store, count, counting)
     return bodies
 
 

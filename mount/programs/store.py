@@ -189,6 +189,34 @@ def a_log_that_others_may_write_to_is_refused_by_its_name(folder: Path):
         mount = store_mount(folder)
         assert mount.stands == stands and (stands or f"{log.name}: it is no file of this" in mount.said()), mount.said()
         assert mount.end() == 0 if stands else mount.process.wait(timeout=60)
+    if not os.getuid():
+        os.chown(log, 65534, -1)
+        mount = store_mount(folder)
+        assert not mount.stands and f"{log.name}: it is no file of this" in mount.said(), mount.said()
+
+
+@case
+def an_image_goes_with_no_store(folder: Path):
+    (folder / "image").touch()
+    for option in ("--load", "--image"):
+        mount = store_mount(folder, option, folder / "image")
+        assert not mount.stands and "--store" in mount.said(), mount.said()
+    assert not (folder / "store").exists()
+
+
+@case
+def owners_and_bits_are_trusted(folder: Path):
+    owner, mode = (5, 6) if not os.getuid() else (os.getuid(), os.getgid()), 0o6751
+    for ends in (end_well, kill, end_well):
+        mount = store_mount(folder)
+        file = mount.point / ends.__name__
+        file.touch()
+        os.chown(file, *owner)
+        file.chmod(mode)
+        sync(mount.point)
+        told = [it.stat() for it in mount.point.iterdir()]
+        assert all((it.st_uid, it.st_gid) == owner and it.st_mode & 0o7777 == mode for it in told), told
+        ends(mount)
 
 
 @case
@@ -276,13 +304,12 @@ def a_log_that_is_missing_is_told(folder: Path):
 
 @case
 def mounts_that_are_killed_young_come_to_write_an_image(folder: Path):
-    """A start that finds an image due, and more than twice as much log as there may be, writes it before the mount stands."""
+    """A start that finds more than twice as much log as there may be writes an image before the mount stands."""
     written = {}
     for number in range(16):
         mount = store_mount(folder, "--log-size", "100K")
         assert mount.stands and {it.name: it.read_bytes() for it in mount.point.iterdir()} == written, mount.said()
-        sizes = {kind: sum(it.stat().st_size for it in (folder / "store").glob(f"{kind}.*")) for kind in ("log", "tree")}
-        assert sizes["log"] < 250_000 + 2 * sizes["tree"], (number, sizes)
+        assert sum(it.stat().st_size for it in logs(folder)) < 250_000, (number, sorted(os.listdir(folder / "store")))
         written = {f"file{i}": WORKS.randbytes(90_000) for i in range(4)}
         for name, data in written.items():
             (mount.point / name).write_bytes(data)

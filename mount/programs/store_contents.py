@@ -1,13 +1,14 @@
 """What users write into files counts for nothing in the log: contents that are logs, sync markers and checksums of stores.
 
 A disk of 32 MiB is filled with such files, which are synced now and then, until the log fails or the mount is killed; the log is then
-also cut and overwritten behind what was synced, as a loss of power may do. The next start has to be good, with each file that was
+also cut and overwritten behind what was synced, also by the mount's own timer, as a loss of power may do. The next start has to be good, with each file that was
 synced. ROUNDS is how often; the heavy run is `ROUNDS=200`.
 """
 import os
 import shutil
 from pathlib import Path
 
+from failing_disk import FailingDisk
 from own_mount import Mount, case, run_cases
 from own_store import WORKS, end_well, kill, on_small_disk, store_mount, sync
 
@@ -40,9 +41,9 @@ def contents(store: Path, other: bytes) -> bytes:
     return b"".join(WORKS.choices(kinds, k=WORKS.randrange(1, 8)))
 
 
-def write_until_full(mount: Mount, store: Path, other: bytes, most: int) -> tuple[dict[str, bytes], int]:
-    """The files that were synced, and how long the log was at the last sync."""
-    written, synced, length = {}, {}, 0
+def write_until_full(mount: Mount, store: Path, other: bytes, most: int) -> dict[str, bytes]:
+    """The files that were synced."""
+    written, synced = {}, {}
     for i in range(most):
         name, data = f"file{i}", contents(store, other)
         try:
@@ -51,10 +52,9 @@ def write_until_full(mount: Mount, store: Path, other: bytes, most: int) -> tupl
             if WORKS.random() < 0.2:
                 sync(mount.point)
                 synced = dict(written)
-                length = len((store / "log.0").read_bytes().rstrip(b"\0"))
         except OSError:
             break
-    return synced, length
+    return synced
 
 
 def lose_power(log: Path, length: int) -> None:
@@ -68,15 +68,16 @@ def lose_power(log: Path, length: int) -> None:
     log.write_bytes(data)
 
 
-def fill_and_start(folder: Path, disk: Path, other: bytes) -> None:
+def fill_and_start(folder: Path, disk: Path, other: bytes, shim: FailingDisk) -> None:
     shutil.rmtree(disk / "store", ignore_errors=True)
+    shim.forget()
     (disk / "other").write_bytes(bytes(WORKS.randrange(24, 30) * MEBIBYTE))
-    mount = Mount(folder, "--store", disk / "store", *NEVER)
+    mount = Mount(folder, "--store", disk / "store", *NEVER, environment=shim.environment)
     assert mount.stands, mount.said()
-    synced, length = write_until_full(mount, disk / "store", other, WORKS.choice([40, 4000]))
+    synced = write_until_full(mount, disk / "store", other, WORKS.choice([40, 4000]))
     kill(mount)
     (disk / "other").unlink()
-    lose_power(disk / "store/log.0", length)
+    lose_power(disk / "store/log.0", shim.synced_bytes("log.0"))
     mount = Mount(folder, "--store", disk / "store", *NEVER)
     assert mount.stands, mount.said()
     for name, data in synced.items():
@@ -89,8 +90,9 @@ def contents_are_no_markers(folder: Path):
     other = a_log(folder)
 
     def rounds(disk: Path) -> None:
+        shim = FailingDisk(folder, store=disk / "store")
         for _ in range(ROUNDS):
-            fill_and_start(folder, disk, other)
+            fill_and_start(folder, disk, other, shim)
         print(f"{ROUNDS} rounds")
 
     on_small_disk(folder, rounds)

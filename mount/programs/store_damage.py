@@ -4,6 +4,7 @@ Each of the stores has files that were made one after the other, with a sync beh
 right exactly if it has the first of these files with their bytes; and one that has not all of them is not shown in silence.
 ROUNDS is how many damages of each kind are tried of a file; the heavy run is `ROUNDS=200`.
 """
+import itertools
 import os
 import shutil
 import subprocess
@@ -76,7 +77,7 @@ def make_checkpoint(folder: Path, ends_well: bool) -> None:
 def make_two_logs(folder: Path, ends_well: bool) -> None:
     """The image between them was not written to its end."""
     mount = stands(store_mount(folder, *NEVER))
-    (mount.point / "large").write_bytes(WORKS.randbytes(8 << 20))
+    (mount.point / "large").write_bytes(WORKS.randbytes(1 << 20))
     (mount.point / "large").unlink()
     add(mount, 0, FILES - 3)
     (mount.point / ".snapshots/large").mkdir()
@@ -192,11 +193,12 @@ def try_damage(folder: Path, made: Made, name: str, what: str, damaged: bytes | 
         assert {it.name: digest(it) for it in (folder / "store").iterdir()} == before, (name, what)
         count = rescued(folder, name, what)
         # Which of two files is that of another store is not known: so the log is left out.
-        assert count == made.shown or not name.endswith(".sum") or "another store" in what, (name, what, count)
+        assert count == made.shown or not name.endswith((".sum", "lock")) or "another" in what, (name, what, count)
         return True
     try:
         count = shown(mount)
         assert count == made.shown or mount.said().strip(), (name, what, count, "in silence")
+        assert count == made.shown or name != "lock", (name, what, count)
     except AssertionError as fault:
         raise AssertionError(name, what, mount.said()) from fault
     finally:
@@ -207,7 +209,7 @@ def try_damage(folder: Path, made: Made, name: str, what: str, damaged: bytes | 
 def damage_each(folder: Path, made: Made, other: Made) -> None:
     refused = tried = 0
     for file in sorted(made.store.iterdir()):
-        if file.name == "lock" or not file.stat().st_size:
+        if not file.stat().st_size:
             continue
         alike = other.store / file.name
         for what, damaged in damages(file.name, file.read_bytes(), alike.read_bytes() if alike.exists() else None):
@@ -219,7 +221,7 @@ def damage_each(folder: Path, made: Made, other: Made) -> None:
 def damage_kind(folder: Path, kind) -> None:
     for ends_well in (True, False):
         made = make(folder, kind, ends_well, f"{kind.__name__}-{'ended' if ends_well else 'killed'}")
-        assert not try_damage(folder, made, "lock", "nothing", b"")
+        assert not try_damage(folder, made, "lock", "nothing", (made.store / "lock").read_bytes())
         other = make(folder, kind, ends_well, "other") if not (folder / "other").exists() else Made(folder / "other", FILES)
         damage_each(folder, made, other)
 
@@ -246,6 +248,74 @@ def files_of_an_earlier_number(folder: Path):
     made = make(folder, make_checkpoint, True, "made")
     for old, new in (("tree.0", "tree.1"), ("tree.0.sum", "tree.1.sum"), ("log.0", "log.1")):
         assert try_damage(folder, made, new, f"that is {old}", (first / old).read_bytes()), new
+
+
+STAGES = [(6, True), (7, True), (8, False), (8, True), (9, True), (10, True), (11, False), (11, False)]
+WITH_CHECKPOINT = 3
+
+
+def make_stages(folder: Path) -> list[Made]:
+    """A store as each of its mounts left it, which had so many files then, and ended or was killed. One wrote a checkpoint."""
+    made, before = [], 0
+    for number, (count, ends_well) in enumerate(STAGES):
+        mount = stands(store_mount(folder, *(("--log-size", "1K") if number == WITH_CHECKPOINT else NEVER)))
+        add(mount, before, count)
+        if number == WITH_CHECKPOINT:
+            sync(mount.point)
+            wait_for(folder, "log.0", False)
+        leave(mount, ends_well)
+        shutil.copytree(folder / "store", folder / f"stage{number}")
+        made.append(Made(folder / f"stage{number}", count))
+        before = count
+    shutil.rmtree(folder / "store")
+    return made
+
+
+def kind_of(name: str) -> str:
+    return "".join(it for it in name if not it.isdigit())
+
+
+@case
+def files_as_they_were_at_an_earlier_end(folder: Path):
+    made, tried, refused = make_stages(folder), 0, 0
+    for now, store in enumerate(made):
+        for file, then in itertools.product(sorted(store.store.iterdir()), range(now)):
+            for old in made[then].store.iterdir():
+                if kind_of(old.name) == kind_of(file.name) and old.read_bytes() != file.read_bytes():
+                    what = f"that is {old.name} as it was {now - then} mounts before"
+                    refused += try_damage(folder, store, file.name, what, old.read_bytes())
+                    tried += 1
+    print(f"of {tried} older files {refused} are refused")
+
+
+def rescue_whole(folder: Path, store: Path) -> Path:
+    new = folder / f"rescued-{store.name}"
+    subprocess.run([MOUNT, "--rescue", new, store], check=True, capture_output=True)
+    return new
+
+
+@case
+def a_tree_that_is_changed_is_not_shown_where_its_checksums_are_missing(folder: Path):
+    """Its number may be 0, with all files in it."""
+    with_snapshot = make(folder, make_checkpoint, True, "snapshot").store
+    mount = stands(store_mount(folder, *NEVER))
+    add(mount, 0, TAKEN)
+    end_well(mount)
+    for store in (with_snapshot, rescue_whole(folder, with_snapshot), rescue_whole(folder, folder / "store")):
+        tree = max(store.glob("tree.*[0-9]"))
+        tree.write_bytes(tree.read_bytes().replace(b"file ".hex().encode(), b"File ".hex().encode()))
+        tree.with_name(f"{tree.name}.sum").unlink()
+        mount = Mount(folder, "--store", store, *NEVER)
+        assert not mount.stands and ".sum is missing" in mount.said(), mount.said()
+
+
+@case
+def a_log_that_was_left_whole_is_not_cut_in_silence(folder: Path):
+    """Behind a clean end a record that is missing is told from one that was not synced."""
+    made = make(folder, make_log_alone, True, "made")
+    whole = (made.store / "log.0").read_bytes()
+    for at in list(records_in(whole))[:-3]:
+        assert try_damage(folder, made, "log.0", f"cut at {at}", whole[:at]), at
 
 
 @case

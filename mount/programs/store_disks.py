@@ -1,6 +1,7 @@
 """What a store keeps where the disk below it loses power, fails, or is full."""
 import errno
 import os
+import re
 import resource
 import shutil
 import socket
@@ -79,6 +80,7 @@ def fail_and_mend(folder: Path, what: str) -> None:
     mount = store_mount(folder, environment=disk.environment)
     (mount.point / "kept").write_text("kept")
     sync(mount.point)
+    taken = snapshot(mount, "taken")
     held = os.open(mount.point / "held", os.O_CREAT | os.O_WRONLY)
     other = os.open(mount.point / "other", os.O_CREAT | os.O_WRONLY)
     os.write(held, b"held")
@@ -87,6 +89,8 @@ def fail_and_mend(folder: Path, what: str) -> None:
     refused(errno.EIO, os.fsync, held)
     refused(errno.EIO, (mount.point / "later").write_text, "later")
     refused(errno.EIO, os.write, held, b"more")
+    refused(errno.EIO, snapshot, mount, "another")
+    taken.rmdir()
     assert (mount.point / "held").read_text() == "held"
     disk.mend()
     write_when_it_may(mount.point / "later")
@@ -109,6 +113,18 @@ def a_disk_whose_syncs_fail_is_told_until_an_image_is_whole(folder: Path):
 @case
 def a_disk_whose_writes_fail_is_told_until_an_image_is_whole(folder: Path):
     fail_and_mend(folder, "write")
+
+
+@case
+def a_long_start_says_what_it_is_at(folder: Path):
+    mount = store_mount(folder)
+    (mount.point / "file").write_text("file")
+    sync(mount.point)
+    kill(mount)
+    disk = FailingDisk(folder, 2500)
+    mount = store_mount(folder, environment=disk.environment)
+    assert mount.stands and re.search("replays log 0, [0-9]+ of [0-9]+ MB, after 2 s\n", mount.said()), mount.said()
+    end_well(mount)
 
 
 @case
@@ -166,7 +182,8 @@ def in_the_background_it_is_told_to_syslog(folder: Path):
             refused(errno.EIO, sync, point)
             disk.mend()
             log.settimeout(20)
-            assert b"changes are refused" in log.recv(4096)
+            while b"changes are refused" not in log.recv(4096):
+                pass  # other mounts of the machine tell something too
             subprocess.run([MOUNT, "--unmount", point], check=True)
         finally:
             os.unlink("/dev/log")

@@ -47,6 +47,14 @@ def change(works: random.Random, top: Path) -> None:
         pass
 
 
+def is_refused(store: Path) -> bool:
+    try:
+        Store(store)
+    except Damaged:
+        return True
+    return False
+
+
 def same(folder: Path, mount) -> None:
     """The store is read as its mount left it."""
     store = Store(folder / "whole")
@@ -83,11 +91,20 @@ def it_refuses_what_a_mount_refuses(folder: Path):
     whole = log.read_bytes()
     for at in WORKS.sample(range(len(whole) - 56), 20):
         log.write_bytes(whole[:at] + bytes([whole[at] ^ 4]) + whole[at + 1:])
-        try:
-            Store(folder / "store")
-        except Damaged:
-            continue
-        raise AssertionError(at)
+        assert is_refused(folder / "store"), at
+
+
+@case
+def it_refuses_a_log_as_it_was_at_an_earlier_end(folder: Path):
+    logs = []
+    for number in range(3):
+        mount = store_mount(folder)
+        (mount.point / f"file{number}").touch()
+        end_well(mount)
+        logs.append((folder / "store/log.0").read_bytes())
+    for log in logs:
+        (folder / "store/log.0").write_bytes(log)
+        assert is_refused(folder / "store") == (log != logs[-1])
 
 
 run_cases()

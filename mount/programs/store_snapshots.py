@@ -179,9 +179,10 @@ def each_image_has_those_that_stand(folder: Path):
     kill(mount)
     has(folder, wanted)
     mount = stands(store_mount(folder, *AT_ONCE))
+    last = max(int(name.split(".")[1]) for name in files(folder) if name.startswith("tree."))  # a start may write one
     for name in "bgfca":
         (mount.point / ".snapshots" / name).rmdir()
-    next_image(folder, mount, 4, image_files(4) - {"snapshots.4"})
+    next_image(folder, mount, last + 1, image_files(last + 1) - {f"snapshots.{last + 1}"})
     wanted = states(mount)
     kill(mount)
     has(folder, wanted)

@@ -158,9 +158,10 @@ static bool has_little(struct store *store) {
 
 bool store_try_sync(struct store *store, int *err) {
     if (store->took > SOON || !has_little(store) || !lock_try(&store->wal_lock)) return false;
-    *err = take_and_sync(store, NULL);
+    bool does = !wal_lacks_zeros(store);
+    if (does) *err = take_and_sync(store, NULL);
     store_unlock_wal(store);
-    return true;
+    return does;
 }
 
 int store_end_request(struct store *store, bool *has_changed) {
@@ -354,6 +355,7 @@ static int write_rest(struct store *store) {
     int err = store_sync(store);
     if (err) err = store_checkpoint(store, NULL);
     int other = store_close_log(store);
+    if (!err && !other) store_note_last(store, true);
     return err ? err : other;
 }
 
@@ -384,12 +386,12 @@ static size_t max_pending(void) {
 }
 
 // Mounts that are killed one after the other may never have come to write a checkpoint. So where the logs are much longer
-// than they may be, that is done first; where it fails, it is tried again later.
+// than they may be, that is done first, which takes a part of the time of a start; where it fails, it is tried again later.
 static int load(struct store *store, const struct open_options *options, struct backend *backend) {
     progress_begin(store);
     int err = store_load(store, options, backend);
-    if (!err && store->wal_bytes > 2 * store->log_size && checkpoint_is_due(store)) {
-        progress_set(store, "writes tree", store->log.number + 1, store->wal_bytes);
+    if (!err && store->wal_bytes > 2 * store->log_size && !store_has_too_many(store)) {
+        progress_set(store, "writes tree", store->log.number + 1, 0);
         store_checkpoint(store, NULL);
     }
     progress_end(store);

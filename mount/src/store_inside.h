@@ -97,9 +97,9 @@ struct store {
     // Under `wal_lock`.
     struct lock wal_lock;
     struct wal_log log;
-    _Atomic uint64_t wal_bytes; // bytes of all logs behind the tree's image; read without the lock
-    uint64_t checkpoint_at;     // how many of them make another image worth its while
-    bool is_synced;             // all of the log is on the disk
+    _Atomic uint64_t wal_bytes;    // bytes of all logs behind the tree's image; read without the lock
+    uint64_t checkpoint_at;        // how many of them make another image worth its while
+    bool is_synced;                // all of the log is on the disk
     struct sha256_function digest; // of records
     struct bytes record_buffer;    // records that are put together
     struct bytes frames;
@@ -124,7 +124,7 @@ struct store {
     pthread_cond_t wakes, asks;
     struct waiters for_sync;       // for the next one
     struct waiters for_space;      // until fewer bytes of calls wait to be written
-    _Atomic uint64_t took;         // nanoseconds of the last sync
+    _Atomic uint64_t took;         // nanoseconds of the last sync that wrote no zeros ahead
     _Atomic uint64_t synced_at;    // when it ended, or when the mount began
     _Atomic bool writeback_wanted; // calls wait, or an image is due
     struct timespec next_sync;
@@ -178,6 +178,8 @@ void store_drop_in_flight(struct store *store);
 // Writes what was taken, and syncs; under `wal_lock`. A failure is noted, and changes are refused from then on.
 int wal_write_in_flight(struct store *store);
 int wal_sync_in_flight(struct store *store);
+// Whether the next sync writes zeros ahead of the records, which takes longer.
+bool wal_lacks_zeros(const struct store *store);
 uint64_t store_clock(void);
 // What was written is on its way to the disk, before it is synced.
 void store_begin_sync(struct store *store);
@@ -207,17 +209,35 @@ void progress_end(struct store *store);
 
 // What tree.N.sum has.
 struct checkpoint_sum {
-    unsigned version; // 0: there is no such file; 1: that of release 0.2 and before, which has the tree's checksum alone
+    // 0: there is no such file; 1: that of release 0.2 and before, which has the tree's checksum alone
+    unsigned version;
     char tree[SHA256_DIGITS + 1];
     char snapshots[SHA256_DIGITS + 1]; // empty: there is no snapshots.N
     struct wal_salt salt;              // of log.N
 };
+// Parts of such texts: a salt, with the end of its line, as the last word of which it is read; and the last line, which
+// has the digest of those before.
+int store_put_salt(struct bytes *out, const struct wal_salt *salt);
+bool store_read_salt(const char *line, struct wal_salt *out);
+int store_put_digest(struct bytes *out);
 // The text of version 2.
 int store_print_sum(struct bytes *out, uint64_t number, const struct checkpoint_sum *sum);
 // EINVAL where the file is there, and is none; which is said.
 int store_read_sum(const struct store *store, uint64_t number, struct checkpoint_sum *out);
 // Whether the files of a checkpoint are what this says of them. What is not so is said.
 int store_check_files(const struct store *store, uint64_t number, const struct checkpoint_sum *sum);
+
+// ---- store_last.c
+
+// What `lock` has: the newest log, as a mount found it or left it on the disk.
+struct last_log {
+    bool is_known, has_ended; // has_ended: it was left so
+    uint64_t number, records; // of the log; without the sync markers at its end
+    struct wal_salt salt;
+};
+void store_read_last(const struct store *store, struct last_log *out);
+// Writes it, of the log that goes on or was closed. What failed is said, and then the next start may say more.
+void store_note_last(const struct store *store, bool has_ended);
 
 // ---- store_recover.c
 

@@ -8,11 +8,14 @@
 
 enum { SECONDS_BETWEEN_LINES = 2, MEGABYTE = 1000000 };
 
+// What is written has no known size.
 static void report(const struct store_progress *progress, unsigned seconds) {
     const char *what = progress->what;
-    if (what)
-        fprintf(stderr, "doorvervain-mount: %s: %s %" PRIu64 ", %" PRIu64 " of %" PRIu64 " MB, after %u s\n",
-                progress->folder, what, progress->number, progress->done / MEGABYTE, progress->total / MEGABYTE, seconds);
+    char total[32] = "";
+    if (!what) return;
+    if (progress->total) snprintf(total, sizeof total, " of %" PRIu64, progress->total / MEGABYTE);
+    fprintf(stderr, "doorvervain-mount: %s: %s %" PRIu64 ", %" PRIu64 "%s MB, after %u s\n", progress->folder, what,
+            progress->number, progress->done / MEGABYTE, total, seconds);
 }
 
 static void *run(void *self) {

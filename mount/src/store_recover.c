@@ -2,11 +2,11 @@
 // docs/FORMATS.md).
 //
 // Validity: each file is known by the one before it: tree.N and snapshots.N by their digests and log.N by its salt, in
-// tree.N.sum, and each later log by the salt and the number of records of the log before, in its header. Records are
-// replayed in order up to the first that is not complete. What is after that is cut off if it can be the end of a write
-// that was not synced: it is in the last log that has records, and no sync marker follows it. Else the store was
-// damaged, and nothing is written. The first byte is written only after all logs were replayed. A rescue takes what is
-// whole up to there, and writes nothing.
+// tree.N.sum, and each later log by the salt and the number of records of the log before, in its header. How many records
+// the newest log has at least is noted in the file lock. Records are replayed in order up to the first that is not
+// complete. What is after that is cut off if it can be the end of a write that was not synced: it is in the last log that
+// has records, no sync marker follows it, and no note counts it. Else the store was damaged, and nothing is written. The
+// first byte is written only after all logs were replayed. A rescue takes what is whole up to there, and writes nothing.
 #define _GNU_SOURCE
 #include "library.h"
 #include "own_file.h"
@@ -37,7 +37,8 @@ struct wal_file {
 struct wal_files {
     struct wal_file *at;
     size_t count;
-    size_t last; // the log that goes on
+    size_t last;           // the log that goes on
+    struct last_log noted; // what the last mount noted
 };
 
 // A checkpoint that is complete.
@@ -119,7 +120,8 @@ static bool is_salted(const struct wal_file *file) { return file->first; }
 static int read_header(const struct store *store, struct wal_file *file, bool may_be_old) {
     if (!wal_is_salted(file->bytes, file->length) && may_be_old) return 0;
     if (!wal_read_header(file->bytes, file->length, store_record(file->number, 0), &file->header))
-        return refuse(store, file, "its first record was on the disk, and is damaged or missing, or is that of another log");
+        return refuse(store, file,
+                      "its first record was on the disk, and is damaged or missing, or is that of another log");
     file->first = file->whole = WAL_HEADER_RECORD;
     file->records = 1;
     return 0;
@@ -233,22 +235,82 @@ static int check_end(const struct store *store, const struct wal_file *file, con
     return is_whole ? 0 : report_damage(store, file);
 }
 
-// What its mount had not synced is not there. Of version 1 it is not known how a mount ended.
-static void report_last(const struct store *store, const struct wal_file *file) {
-    if (!is_salted(file) || file->marks >= MARKS_OF_END) return;
+// What its mount had not synced is not there.
+static void report_kill(const struct store *store, const struct wal_file *file) {
     store_report(store, "log.%" PRIu64 ": its mount did not end well; record %zu, which ends at byte %zu, is the last",
                  file->number, file->records - 1, file->whole);
 }
 
-// A record that is not whole was not synced, and the log ends before it: but not where a mark behind it tells that it
-// was.
-static int check_last(const struct store *store, const struct wal_file *file) {
-    const char *rest = file->bytes + file->whole;
+// ---- what the last mount noted of the newest log
+
+static int report_missing_record(const struct store *store, const struct wal_file *file) {
+    store_report(store,
+                 "log.%" PRIu64 ": record %zu, at byte %zu, was on the disk and is missing, as the file lock tells",
+                 file->number, file->records - file->marks, file->whole - file->marks * WAL_MARKER);
+    return EINVAL;
+}
+
+static int report_old_note(const struct store *store, const struct wal_file *file) {
+    store_report(store, "lock: it is older than log.%" PRIu64, file->number);
+    return 0;
+}
+
+// A mount that began, and left the log as it was then, was killed; or the log is an older one.
+static int check_noted_log(const struct store *store, const struct wal_file *file, const struct last_log *noted,
+                           bool is_newest) {
+    uint64_t records = file->records - file->marks;
+    if (!wal_same_salt(&file->header.salt, &noted->salt))
+        return refuse(store, file, "it is not the log that the file lock names");
+    if (records < noted->records) return report_missing_record(store, file);
+    bool is_as_noted = records == noted->records && is_newest;
+    if (noted->has_ended && !is_as_noted) return report_old_note(store, file);
+    if (!noted->has_ended && is_as_noted && file->marks >= MARKS_OF_END) report_kill(store, file);
+    return 0;
+}
+
+// A loss of power may leave a text of which nothing is known.
+static int check_without_note(const struct store *store, const struct wal_file *newest) {
+    bool has_changes = newest->records - newest->marks > 1;
+    if (is_salted(newest) && has_changes)
+        store_report(store,
+                     "lock: it does not tell how many records log.%" PRIu64 " had: an older one would not be noticed",
+                     newest->number);
+    return 0;
+}
+
+static int check_noted(const struct store *store, const struct wal_files *files) {
+    const struct last_log *noted = &files->noted;
+    const struct wal_file *oldest = &files->at[0], *newest = &files->at[files->last];
+    if (!noted->is_known) return check_without_note(store, newest);
+    if (noted->number > newest->number) return refuse(store, newest, "the file lock names a later log");
+    if (noted->number < oldest->number) return noted->has_ended ? report_old_note(store, oldest) : 0;
+    const struct wal_file *file = oldest + (noted->number - oldest->number);
+    return check_noted_log(store, file, noted, file == newest);
+}
+
+// ---- the end of the newest log
+
+// Of version 1 it is not known how a mount ended.
+static void report_last(const struct store *store, const struct wal_file *file) {
+    if (is_salted(file) && file->marks < MARKS_OF_END) report_kill(store, file);
+}
+
+static bool has_marker_behind(const struct wal_file *file) {
+    return wal_find_sync_marker(file->bytes + file->whole, file->length - file->whole, &file->header.salt,
+                                store_record(file->number, file->records));
+}
+
+// A record that is not whole was not synced, and the log ends before it: but not where a mark behind it, or the last
+// mount, tells that it was.
+static int check_last(const struct store *store, const struct wal_files *files) {
+    const struct wal_file *file = &files->at[files->last];
     size_t count = file->length - file->whole;
     if (file->marks >= MARKS_OF_ROTATION) return report_missing(store, "log", file->number + 1, "");
-    if (!count || has_zeros_alone(file)) return report_last(store, file), 0;
-    if (wal_find_sync_marker(rest, count, &file->header.salt, store_record(file->number, file->records)))
-        return report_damage(store, file);
+    bool is_whole = !count || has_zeros_alone(file);
+    if (!is_whole && has_marker_behind(file)) return report_damage(store, file);
+    int err = check_noted(store, files);
+    if (err) return err;
+    if (is_whole) return report_last(store, file), 0;
     store_report(store, "log.%" PRIu64 ": record %zu, at byte %zu, is not whole, and is cut off with %zu bytes",
                  file->number, file->records, file->whole, count);
     return 0;
@@ -276,7 +338,7 @@ static int run_logs(struct store *store, struct wal_files *files) {
         int err = run_log(store, &files->at[i]);
         files->last = i;
         if (!err && is_ended(files, i)) continue;
-        if (!err && !has_bytes_behind(files, i)) return lose(store, check_last(store, &files->at[i]));
+        if (!err && !has_bytes_behind(files, i)) return lose(store, check_last(store, files));
         if (!err) err = check_end(store, &files->at[i], &files->at[i + 1]);
         if (err) return lose(store, err);
     }
@@ -289,7 +351,8 @@ static void report_left(const struct store *store, const struct wal_files *files
         const struct wal_file *file = &files->at[i];
         size_t count = 0, size = 0;
         for (size_t at = file->whole; file->first && at + WAL_MARKER <= file->length; at++)
-            if (wal_is_salted(file->bytes + at, file->length - at) && wal_next_any(file->bytes + at, file->length - at, &file->header.salt, &size))
+            if (wal_is_salted(file->bytes + at, file->length - at) &&
+                wal_next_any(file->bytes + at, file->length - at, &file->header.salt, &size))
                 count++, at += WAL_MARKER + size - 1;
         if (count) store_report(store, "log.%" PRIu64 ": %zu whole records behind that are left", file->number, count);
     }
@@ -328,9 +391,10 @@ static void go_on(struct store *store, struct wal_file *file) {
 
 // ---- a store that begins, and one of an older release
 
-// The first log of a new store has nothing yet. It has no file of checksums then, if its beginning was cut short.
+// The first log of a new store has nothing yet. It has no file of checksums then, if its beginning was cut short: no
+// mount has noted anything.
 static bool is_beginning(const struct wal_files *files, const struct checkpoint *checkpoint) {
-    if (checkpoint->number || checkpoint->sum.version > 1) return false;
+    if (checkpoint->number || checkpoint->sum.version > 1 || files->noted.is_known) return false;
     return !files->count || (is_salted(&files->at[0]) && files->at[0].length == files->at[0].first);
 }
 
@@ -376,12 +440,14 @@ static int write_first(struct store *store, struct wal_files *files, const struc
     if (!err && is_beginning(files, checkpoint)) err = begin(store, files, checkpoint);
     if (!err && fsync(store->directory)) err = errno;
     if (err) return store_report(store, "%s", strerror(err)), err;
+    store_note_last(store, false);
     if (is_old(files)) report_old(store);
     store_clear(store, checkpoint->number);
     return 0;
 }
 
 static int run_all(struct store *store, struct wal_files *files, const struct checkpoint *checkpoint) {
+    store_read_last(store, &files->noted);
     int err = open_files(store, files);
     if (!err) err = read_headers(store, files, &checkpoint->sum);
     if (!err) err = lose(store, check_beginning(store, files, checkpoint));
@@ -408,7 +474,7 @@ static int load_logs(struct store *store, const struct checkpoint *checkpoint) {
     struct bytes numbers = {NULL}, chosen = {NULL};
     int err = store_numbers(store, "log", "", &numbers);
     if (!err) err = lose(store, choose_logs(store, &numbers, checkpoint->number, &chosen));
-    struct wal_files files = {(struct wal_file *)chosen.at, chosen.length / sizeof(struct wal_file), 0};
+    struct wal_files files = {.at = (struct wal_file *)chosen.at, .count = chosen.length / sizeof(struct wal_file)};
     if (!err && !files.count && (checkpoint->number || checkpoint->sum.version > 1))
         err = lose(store, report_missing(store, "log", checkpoint->number, ""));
     if (!err) err = run_all(store, &files, checkpoint);

@@ -70,6 +70,7 @@ static int write_new(struct rescue *rescue) {
     new->is_synced = true;
     err = store_first_checkpoint(new);
     int other = store_close_log(new);
+    if (!err && !other) store_note_last(new, true);
     return err ? err : other;
 }
 

@@ -400,6 +400,15 @@ static int open_and_make(struct snapshot_reader *reader, const char *name, uint6
     return err;
 }
 
+// A name in a text that was changed has any bytes.
+static void report(const struct snapshot_reader *reader, const char *file, int err) {
+    struct bytes name = {NULL};
+    bool is_shown = !text_escape(&name, reader->name) && !bytes_append(&name, "", 1);
+    store_report(reader->store, "%s: the snapshot %s is not made: %s", file, is_shown ? name.at : "?",
+                 reader->why ? reader->why : strerror(err));
+    bytes_free(&name);
+}
+
 int store_make_snapshots(struct store *store, const struct backend *backend, uint64_t number, uint64_t *size) {
     struct snapshot_reader reader = {.store = store, .backend = backend, .name = "?"};
     char name[STORE_NAME];
@@ -407,8 +416,6 @@ int store_make_snapshots(struct store *store, const struct backend *backend, uin
     store_name(name, kind, number);
     int err = open_and_make(&reader, name, size);
     if (err && store->rescues) take_back(&reader);
-    if (err)
-        store_report(store, "%s: the snapshot %s is not made: %s", name, reader.name,
-                     reader.why ? reader.why : strerror(err));
+    if (err) report(&reader, name, err);
     return err;
 }

@@ -13,7 +13,7 @@
 enum { LONGEST_SUM = 4096 };
 static const char first_line[] = "doorvervain checkpoint 2\n";
 
-static int put_digest_of_lines(struct bytes *out) {
+int store_put_digest(struct bytes *out) {
     char digits[SHA256_DIGITS + 1];
     struct sha256 sum;
     int err = sha256_begin(&sum);
@@ -23,14 +23,19 @@ static int put_digest_of_lines(struct bytes *out) {
     return err ? err : bytes_print(out, "end %s\n", digits);
 }
 
+int store_put_salt(struct bytes *out, const struct wal_salt *salt) {
+    int err = 0;
+    for (size_t i = 0; !err && i < salt->length; i++) err = bytes_print(out, "%02x", salt->bytes[i]);
+    return err ? err : bytes_print(out, "\n");
+}
+
 int store_print_sum(struct bytes *out, uint64_t number, const struct checkpoint_sum *sum) {
     int err = bytes_print(out, "%s%s  tree.%" PRIu64 "\n", first_line, sum->tree, number);
     if (!err && *sum->snapshots) err = bytes_print(out, "%s  snapshots.%" PRIu64 "\n", sum->snapshots, number);
     else if (!err) err = bytes_print(out, "no snapshots.%" PRIu64 "\n", number);
     if (!err) err = bytes_print(out, "log %" PRIu64 " ", number);
-    for (size_t i = 0; !err && i < sum->salt.length; i++) err = bytes_print(out, "%02x", sum->salt.bytes[i]);
-    if (!err) err = bytes_print(out, "\n");
-    return err ? err : put_digest_of_lines(out);
+    if (!err) err = store_put_salt(out, &sum->salt);
+    return err ? err : store_put_digest(out);
 }
 
 // ---- reading
@@ -48,8 +53,8 @@ static const char *behind_line(const char *at) {
     return end ? end + 1 : at + strlen(at);
 }
 
-static bool read_salt(const char *at, struct wal_salt *out) {
-    const char *word = strrchr(at, ' ');
+bool store_read_salt(const char *line, struct wal_salt *out) {
+    const char *word = strrchr(line, ' ');
     out->length = WAL_SALT;
     if (!word || strlen(word) < 1 + 2 * WAL_SALT) return false;
     for (size_t i = 0; i < WAL_SALT; i++)
@@ -66,12 +71,13 @@ static bool read_parts(const char *text, struct checkpoint_sum *out) {
     if (!read_digits(&at, out->snapshots)) *out->snapshots = 0;
     at = behind_line(at);
     snprintf(line, sizeof line, "%.*s", (int)(behind_line(at) - at), at);
-    return read_salt(line, &out->salt);
+    return store_read_salt(line, &out->salt);
 }
 
 static bool is_text_of(const char *text, uint64_t number, const struct checkpoint_sum *sum) {
     struct bytes again = {NULL};
-    bool is = !store_print_sum(&again, number, sum) && again.length == strlen(text) && !memcmp(again.at, text, again.length);
+    bool is =
+        !store_print_sum(&again, number, sum) && again.length == strlen(text) && !memcmp(again.at, text, again.length);
     bytes_free(&again);
     return is;
 }
@@ -108,7 +114,8 @@ int store_read_sum(const struct store *store, uint64_t number, struct checkpoint
     out->version = 1;
     if (read_digits(&at, out->tree)) return 0;
     out->version = 2;
-    bool is = !strncmp(text, first_line, sizeof first_line - 1) && read_parts(text, out) && is_text_of(text, number, out);
+    bool is =
+        !strncmp(text, first_line, sizeof first_line - 1) && read_parts(text, out) && is_text_of(text, number, out);
     return is ? 0 : refuse(store, name, "it was cut or changed");
 }
 
@@ -121,7 +128,8 @@ static int check_file(const struct store *store, const char *kind, uint64_t numb
     int err = store_path(store, name, path);
     if (!err) err = sha256_of_file(path, found);
     if (err) return refuse(store, name, strerror(err));
-    return strcmp(wanted, found) ? refuse(store, name, "it was cut or changed: it has not the checksum in tree.N.sum") : 0;
+    return strcmp(wanted, found) ? refuse(store, name, "it was cut or changed: it has not the checksum in tree.N.sum")
+                                 : 0;
 }
 
 // By the rules of version 1 the snapshots have a checksum of their own.

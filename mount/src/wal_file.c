@@ -20,7 +20,10 @@
 enum {
     WRITTEN_AT_ONCE = 1 << 20,
     ROOM_KEPT = 8 << 20,
-    ZEROS_AHEAD = 1 << 20,
+    LEAST_AHEAD = 1 << 20,
+    MOST_AHEAD = 8 << 20,
+    PART_AHEAD = 8,
+    ENOUGH_AHEAD = 1 << 16,
     ENOUGH_TO_SHARE = 1 << 19,
     RECORDS_OF_A_LOG = 40,
     NANOSECONDS = 1000000000,
@@ -69,20 +72,27 @@ static int write_out(struct store *store) {
 }
 
 // Zeros behind the records: a file that keeps its length and its blocks is synced without its file system's journal.
-// Where there is no room for them, none are there.
+// Where there is no room for them, none are there. A long log has more of them, so that few syncs wait for them.
 static void fill_ahead(struct store *store) {
     static const char zeros[1 << 16];
     struct wal_log *log = &store->log;
-    if (log->allocated > log->length) return;
-    for (uint64_t end = log->length + ZEROS_AHEAD; log->allocated < end; log->allocated += sizeof zeros)
+    uint64_t ahead = log->length / PART_AHEAD;
+    if (ahead < LEAST_AHEAD) ahead = LEAST_AHEAD;
+    if (ahead > MOST_AHEAD) ahead = MOST_AHEAD;
+    for (uint64_t end = log->length + ahead; log->allocated < end; log->allocated += sizeof zeros)
         if (write_at(log->file, zeros, sizeof zeros, log->allocated)) return;
+}
+
+bool wal_lacks_zeros(const struct store *store) {
+    assert(lock_is_held(&store->wal_lock));
+    return store->log.allocated < store->log.length + ENOUGH_AHEAD;
 }
 
 // A record of no calls is a mark: all that lies before it was on the disk. So who finds a record before it that is not
 // whole knows that the disk lost it.
 static int put_sync_marker(struct store *store, struct wal_log *log) {
     struct record_frame frame;
-    int err = wal_frame(&frame, &log->salt, store_record(log->number, log->records), "", 0);
+    int err = wal_frame_by(&store->digest, &frame, &log->salt, store_record(log->number, log->records), "", 0);
     if (!err) err = wal_put_record(&store->record_buffer, &frame, "", 0);
     log->records += !err;
     log->marks += !err;
@@ -192,11 +202,12 @@ int wal_sync_in_flight(struct store *store) {
     int err = wal_write_in_flight(store);
     if (err || store->is_synced) return err;
     uint64_t begun = store_clock();
-    fill_ahead(store);
+    bool fills = wal_lacks_zeros(store);
+    if (fills) fill_ahead(store);
     if (fdatasync(store->log.file)) return fail(store, errno), EIO;
     store->is_synced = true;
     store->synced_at = store_clock();
-    store->took = store->synced_at - begun;
+    if (!fills) store->took = store->synced_at - begun;
     return 0;
 }
 
