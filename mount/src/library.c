@@ -1,8 +1,7 @@
 // The backend over the static library, in this process.
 //
 // Invariant: one call of a volume runs at a time (the request lock, or the one thread that has a fork), and a call that
-// fails changes nothing. Steps of
-// the tree that are owed for changes are counted here and done by `compact`.
+// fails changes nothing. Steps of the tree that are owed for changes are counted here and done by `compact`.
 #include "doorvervain.h"
 #include "image.h"
 #include "library.h"
