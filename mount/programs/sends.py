@@ -13,7 +13,7 @@ from own_mount import MOUNT, Mount, case, run_cases
 from own_store import WORKS, end_well, fill, kill, snapshot, store_mount, sync
 from seen import alike, seen
 
-ROUNDS, KILLS, MANY, CHANGES = 25, 12, 1500, 12
+ROUNDS, KILLS, MANY, CHANGES = 25, 12, 1500, 8
 
 
 def two_mounts(folder: Path, *options) -> tuple[Mount, Mount]:
