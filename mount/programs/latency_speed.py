@@ -13,7 +13,7 @@ from itertools import count
 from pathlib import Path
 from typing import NamedTuple
 
-FILES, NAMES, DELAY, MEBIBYTES, MORE = 20_000, 100_000, 200, 1024, 40
+FILES, CHANGED, NAMES, DELAY, MEBIBYTES, MORE = 20_000, 10_000, 100_000, 200, 1024, 40
 SECONDS, PERIOD = 5.0, 0.005
 PROGRAMS = Path(__file__).resolve().parent
 # What is done beside, again and again until a file stands.
@@ -21,6 +21,13 @@ LIST = "os.listdir(sys.argv[2])"
 SYNC = "os.write(file, b'x'); os.fsync(file)"
 RUN = "subprocess.run(sys.argv[2:], check=True, stdout=subprocess.DEVNULL)"
 KNOWN = "[os.stat(entry.path) for entry in os.scandir(sys.argv[2])]; subprocess.run(sys.argv[3:], check=True)"
+# Of 64 MiB, past the kernel's cache.
+OPEN = """file = os.open(sys.argv[2], os.O_CREAT | os.O_RDWR | os.O_DIRECT)
+data, number = mmap.mmap(-1, 1 << 20), 0
+data.write(os.urandom(1 << 20))"""
+WRITE = "os.pwritev(file, [data], (number := (number + 1) % 64) << 20)"
+READ = "assert os.preadv(file, [data], (number := (number + 1) % 64) << 20) == 1 << 20"
+RECEIVE = "[subprocess.run(sys.argv[4:], stdin=open(text), check=True) for text in sys.argv[2:4]]"
 DROP = """os.mkdir(sys.argv[2] + '/.snapshots/large'); os.mkdir(sys.argv[2] + '/.snapshots/other')
     for number in range(4): open(sys.argv[2] + f'/large/{number}', 'wb').write(os.urandom(1 << 24))
     os.rmdir(sys.argv[2] + '/.snapshots/other'); os.rmdir(sys.argv[2] + '/.snapshots/large')"""
@@ -71,7 +78,7 @@ def for_some_seconds() -> Callable[[], bool]:
 
 def beside(top: Path, stop: Path, code: str, *words, first: str = "") -> Times:
     """The times of look-ups while another program does something again and again."""
-    loop = f"import os, subprocess, sys\n{first}\nwhile not os.path.exists(sys.argv[1]):\n    {code}"
+    loop = f"import mmap, os, subprocess, sys\n{first}\nwhile not os.path.exists(sys.argv[1]):\n    {code}"
     stop.unlink(missing_ok=True)
     with subprocess.Popen([sys.executable, "-c", loop, stop, *map(str, words)]) as process:
         times = look_ups(top, for_some_seconds())
@@ -88,7 +95,9 @@ def fill(top: Path) -> None:
     for number in range(NAMES):
         os.close(os.open(top / f"names/{number}", os.O_CREAT | os.O_WRONLY))
     (top / ".snapshots/one").mkdir()
-    (top / "files/0").write_text("another")
+    for number in range(CHANGED):
+        (top / f"files/{number}").write_text("another")
+    (top / ".snapshots/two").mkdir()
 
 
 class Beside:
@@ -96,12 +105,18 @@ class Beside:
 
     def __init__(self, program: Path, work: Path, mount):
         self.program, self.top, self.stop, self.process = program, mount.point, work / "stop", mount.process.pid
+        self.texts = work / "to-one", work / "to-two"
         self.rows = {
             f"a listing of {NAMES:,} names": self.listing, f"a restore of {FILES + NAMES:,} files": self.restore,
-            f"a send of {FILES + NAMES:,} files": self.send, "the drop of a snapshot of 64 MiB": self.drop}
+            f"a send of {FILES + NAMES:,} files": self.send, "the drop of a snapshot of 64 MiB": self.drop,
+            f"a receive of {CHANGED:,} changed files": self.receive, "writes of 1 MiB": self.write,
+            "reads of 1 MiB": self.read}
 
     def fill(self) -> None:
         fill(self.top)
+        for text, names in zip(self.texts, (("two", "one"), ("one", "two"))):
+            with text.open("wb") as file:
+                subprocess.run([self.program, "--send", *names, self.top], stdout=file, check=True)
         schedule_first(self.process)
 
     def alone(self) -> Times:
@@ -119,6 +134,18 @@ class Beside:
 
     def drop(self) -> Times:
         return beside(self.top, self.stop, DROP, self.top)
+
+    def receive(self) -> Times:
+        """Forth and back."""
+        subprocess.run([self.program, "--restore", "two", self.top], check=True)
+        return beside(self.top, self.stop, RECEIVE, *self.texts, self.program, "--receive", self.top)
+
+    def write(self) -> Times:
+        return beside(self.top, self.stop, WRITE, self.top / "bytes", first=OPEN)
+
+    def read(self) -> Times:
+        """Those were written."""
+        return beside(self.top, self.stop, READ, self.top / "bytes", first=OPEN)
 
 
 def beside_syncs(mount, work: Path) -> Times:

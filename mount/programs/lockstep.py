@@ -177,25 +177,28 @@ class Side:
         inner = Path(os.fsdecode(self.tree)).relative_to(MNT) if self.mounted else "."
         return told(self.place(name) / inner)
 
+    def told(self) -> dict[bytes, Seen]:
+        return told(self.tree)
+
 
 def copy(tree, to) -> None:
     subprocess.run(["cp", "-a", "--sparse=always", tree, to], check=True)
 
 
-def told(tree) -> dict[bytes, Seen]:
+def told(tree, prefix: bytes = b"") -> dict[bytes, Seen]:
     """A time that nobody set by hand is any."""
     return {path: each if each.modified < BY_HAND else each._replace(modified=BY_HAND)
-            for path, each in seen(tree).items()}
+            for path, each in seen(tree, prefix).items()}
 
 
 class Calls:
     """Calls that look random: a method of a side, and its arguments."""
 
-    def __init__(self, seed: int):
-        self.chance, self.paths = random.Random(seed), [b"a"]
+    def __init__(self, seed: int, snapshots: bool = bool(MNT), names: list[bytes] = NAMES, here: bytes = b"."):
+        self.chance, self.paths, self.names, self.here = random.Random(seed), names[:1], names, here
         self.kinds = {name.removeprefix("draw_"): getattr(self, name) for name in dir(self) if name.startswith("draw_")}
         often = ("make", "write", "rename", "link", "chmod", "mkdir", "symlink", "hold", "held_write", "set_extended")
-        self.bag = [*self.kinds, *often * 3] + (["snapshot", "restore"] if MNT else [])
+        self.bag = [*self.kinds, *often * 3] + (["snapshot", "restore"] if snapshots else [])
         self.bag = [kind for kind in self.bag for _ in range(1 if kind == "remove_tree" else 8)]
 
     def next(self):
@@ -208,7 +211,8 @@ class Calls:
         """Mostly one of those that calls were about last."""
         if self.chance.random() < 0.65:
             return self.chance.choice(self.paths)
-        self.paths = [*self.paths[-25:], b"/".join(self.chance.choices(NAMES, k=self.chance.choice((1, 1, 2, 2, 3))))]
+        names = self.chance.choices(self.names, k=self.chance.choice((1, 1, 2, 2, 3)))
+        self.paths = [*self.paths[-25:], b"/".join(names)]
         return self.paths[-1]
 
     def mode(self) -> int:
@@ -254,7 +258,7 @@ class Calls:
     draw_link = draw_rename
 
     def draw_symlink(self):
-        return self.chance.choice((self.path(), b"../" + self.path(), b".", b"none", b"t" * 3000)), self.path()
+        return self.chance.choice((self.path(), b"../" + self.path(), self.here, b"none", b"t" * 3000)), self.path()
 
     def draw_chown(self):
         return self.path(), *((self.chance.randrange(3), self.chance.randrange(3)) if os.getuid() == 0 else (-1, -1))
@@ -294,8 +298,8 @@ def answer(side: Side, kind: str, words):
         return errno.errorcode[fault.errno]
 
 
-def run(seed: int, sides: list[Side]) -> int:
-    calls, done = Calls(seed), 0
+def run(seed: int, sides: list[Side], calls: Calls) -> int:
+    done = 0
     for number in range(CALLS):
         kind, *words = calls.next()
         answers = [answer(side, kind, words) for side in sides]
@@ -308,7 +312,7 @@ def run(seed: int, sides: list[Side]) -> int:
 
 def compare(sides: list[Side], where: str) -> None:
     try:
-        alike(*(told(side.tree) for side in sides))
+        alike(*(side.told() for side in sides))
         for name in map(str, range(SNAPSHOTS)):
             alike(*(side.seen_in(name) for side in sides))
     except AssertionError as fault:
@@ -324,7 +328,7 @@ def main() -> None:
             break
         with tempfile.TemporaryDirectory(dir="/dev/shm") as plain, tempfile.TemporaryDirectory(dir=".") as judged:
             sides = [Side(Path(judged).absolute(), bool(MNT)), Side(Path(plain), False)]
-            calls += run(seed, sides)
+            calls += run(seed, sides, Calls(seed))
             for side in sides:
                 for slot in range(SLOTS):
                     side.let_go(slot)
@@ -333,4 +337,5 @@ def main() -> None:
     print(f"{calls} calls were done alike, with seeds {seeds[0]} to {seed}")
 
 
-main()
+if __name__ == "__main__":
+    main()

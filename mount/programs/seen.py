@@ -41,17 +41,19 @@ def look(path: bytes, name: bytes, first: dict[int, bytes]) -> Seen:
                 first.setdefault(told.st_ino, name), device, bytes_of(path, told.st_mode), extended_of(path))
 
 
-def paths_below(top: bytes) -> list[bytes]:
-    out = [b"."]
+def paths_below(top: bytes, prefix: bytes = b"") -> list[bytes]:
+    out = [] if prefix else [b"."]
     for folder, folders, files in os.walk(top):
+        if folder == top:
+            folders[:], files = ([name for name in some if name.startswith(prefix)] for some in (folders, files))
         out += [os.path.relpath(os.path.join(folder, name), top) for name in folders + files]
     return sorted(out)
 
 
-def seen(top: Path | str | bytes) -> dict[bytes, Seen]:
-    """By the path from the top."""
+def seen(top: Path | str | bytes, prefix: bytes = b"") -> dict[bytes, Seen]:
+    """By the path from the top: of all names in it, or of those that begin with a prefix, and not of the top."""
     top, first = os.fsencode(top), {}
-    return {path: look(os.path.join(top, path), path, first) for path in paths_below(top)}
+    return {path: look(os.path.join(top, path), path, first) for path in paths_below(top, prefix)}
 
 
 def alike(one: dict[bytes, Seen], other: dict[bytes, Seen]) -> None:

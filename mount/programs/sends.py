@@ -13,7 +13,7 @@ from own_mount import MOUNT, Mount, case, run_cases
 from own_store import WORKS, end_well, fill, kill, snapshot, store_mount, sync
 from seen import alike, seen
 
-ROUNDS, KILLS, MANY = 25, 12, 1500
+ROUNDS, KILLS, MANY, CHANGES = 25, 12, 1500, 8
 
 
 def two_mounts(folder: Path, *options) -> tuple[Mount, Mount]:
@@ -331,23 +331,120 @@ def killed_and_new(folder: Path, mount: Mount) -> Mount:
     return again
 
 
+# ---- other requests meanwhile
+
+
+def fill_many(mount: Mount, count: int) -> None:
+    (mount.point / "folder").mkdir()
+    for i in range(count):
+        (mount.point / f"folder/{i}").write_bytes(WORKS.randbytes(4096))
+
+
+def longest_beside(mount: Mount, process: subprocess.Popen) -> float:
+    """Of look-ups, in seconds, until a program has ended well."""
+    longest = 0.0
+    while process.poll() is None:
+        asked = time.monotonic()
+        assert not (mount.point / f"none{asked}").exists()
+        longest = max(longest, time.monotonic() - asked)
+    assert process.returncode == 0
+    return longest
+
+
+def goes_on(what: str, mount: Mount, process: subprocess.Popen) -> None:
+    began = time.monotonic()
+    longest = longest_beside(mount, process)
+    took = time.monotonic() - began
+    print(f"a {what} took {took:.2f} s, the longest look-up beside it {longest * 1e3:.1f} ms")
+    assert longest < took / 4
+
+
 @case
 def requests_go_on_beside_a_send(folder: Path):
     mount = Mount(folder)
-    (mount.point / "folder").mkdir()
-    for i in range(3000):
-        (mount.point / f"folder/{i}").write_bytes(WORKS.randbytes(4096))
+    fill_many(mount, 3000)
     (mount.point / ".snapshots/one").mkdir()
-    longest, began = 0.0, time.monotonic()
     with subprocess.Popen([MOUNT, "--send", "one", mount.point], stdout=subprocess.DEVNULL) as sends:
-        while sends.poll() is None:
-            asked = time.monotonic()
-            assert not (mount.point / f"none{asked}").exists()
-            longest = max(longest, time.monotonic() - asked)
-    took = time.monotonic() - began
-    print(f"a send took {took:.2f} s, the longest look-up beside it {longest * 1e3:.1f} ms")
-    assert sends.returncode == 0 and longest < took / 4
+        goes_on("send", mount, sends)
     assert mount.end() == 0, mount.said()
+
+
+def receive_beside(folder: Path, mount: Mount, text: bytes) -> subprocess.Popen:
+    (folder / "text").write_bytes(text)
+    with (folder / "text").open() as file:
+        return subprocess.Popen([MOUNT, "--receive", mount.point], stdin=file, stderr=subprocess.PIPE, text=True)
+
+
+@case
+def requests_go_on_beside_a_receive(folder: Path):
+    one, other = two_mounts(folder, "--store", folder / "store")
+    fill_many(one, 3000)
+    with receive_beside(folder, other, send(one, "none")) as receives:
+        goes_on("receive", other, receives)
+    same(one.point, other.point)
+    other = killed_and_new(folder, other)
+    same(one.point, other.point)
+    end_well(one)
+    end_well(other)
+
+
+@case
+def a_change_beside_a_receive(folder: Path):
+    """The tree is that before it with the change, and it is refused; or that behind it with the change."""
+    one, other = two_mounts(folder, "--store", folder / "store")
+    fill_many(one, MANY)
+    text, refusals = send(one, "none"), 0
+    snapshot(other, "none")
+    for number in range(CHANGES):
+        with receive_beside(folder, other, text) as receives:
+            time.sleep(WORKS.uniform(0, 1.0))
+            (other.point / "mine").write_text(f"{number}")
+            said = receives.communicate()[1]
+        if receives.returncode:
+            assert said.endswith(f"it is the difference of another tree than that of {other.point}\n"), said
+        assert receives.returncode or len(os.listdir(other.point / "folder")) == MANY
+        assert sorted(os.listdir(other.point)) == (["mine"] if receives.returncode else ["folder", "mine"])
+        refusals += receives.returncode
+        was = seen(other.point)
+        other = killed_after_sync(folder, other)
+        alike(seen(other.point), was)
+        assert (other.point / "mine").read_text() == f"{number}"
+        restore(other, "none")
+    print(f"{refusals} of {CHANGES} receives were refused")
+    end_well(one)
+    end_well(other)
+
+
+def killed_after_sync(folder: Path, mount: Mount) -> Mount:
+    sync(mount.point)
+    return killed_and_new(folder, mount)
+
+
+@case
+def beside_as_many_snapshots_as_there_may_be(folder: Path):
+    one, other = two_mounts(folder)
+    make(one.point)
+    for number in range(64):
+        snapshot(other, f"at{number}")
+    receive(other, send(one, "none"))
+    same(one.point, other.point)
+    assert len(os.listdir(other.point / ".snapshots")) == 64
+    end_well(one)
+    end_well(other)
+
+
+@case
+def on_a_mount_that_traces(folder: Path):
+    """There each call has its line."""
+    one, other = two_mounts(folder, "--trace", folder / "calls")
+    make(one.point)
+    receive(other, send(one, "none"))
+    same(one.point, other.point)
+    text = send(one, "none")
+    assert "another tree" in refused("--receive", other.point, text=text)
+    end_well(one)
+    end_well(other)
+    assert b"mkdir /folder" in (folder / "calls.in").read_bytes()
 
 
 if __name__ == "__main__":

@@ -22,6 +22,7 @@ enum path_call { CALL_MKDIR, CALL_CREATE, CALL_UNLINK, CALL_RMDIR, CALL_RMTREE, 
 // What becomes of the snapshot of a name.
 enum snapshot_call { TAKE_SNAPSHOT, DROP_SNAPSHOT, RESTORE_SNAPSHOT };
 
+struct backend;
 struct image; // of image.h
 
 // A path of the live tree, or of a snapshot's.
@@ -42,9 +43,9 @@ struct extent {
     uint64_t from, to;
 };
 
-// The operations of a backend. A null read, stat, readdir, next_extent, compact or compaction_debt is that of its inner
-// backend, which is then the first member of `self`; these six are called by the functions below. What changes the tree
-// is done at the timestamp `at`, in nanoseconds since 1970.
+// The operations of a backend. A null read, stat, readdir, next_extent, compact, compaction_debt, fork or adopt is that
+// of its inner backend, which is then the first member of `self`; these eight are called by the functions below. What
+// changes the tree is done at the timestamp `at`, in nanoseconds since 1970.
 struct backend_ops {
     int (*change)(void *self, enum path_call what, const char *path, uint64_t at);
     int (*rename)(void *self, const char *from, const char *to, uint64_t at);
@@ -66,6 +67,12 @@ struct backend_ops {
     unsigned (*compact)(void *self, unsigned steps);
     // How many such steps are due behind the changes that were made.
     unsigned (*compaction_debt)(void *self);
+    // Another backend that has a fork of the live tree, without its snapshots, and no log: used and closed by any thread,
+    // with no lock. EOPNOTSUPP: there is to be none.
+    int (*fork)(void *self, struct backend *out);
+    // The live tree becomes that of such a fork, by its `self`, where no call has changed the live one since: else EAGAIN.
+    // A log takes `calls`, which made that tree of this one, as entries.
+    int (*adopt)(void *self, void *fork, struct bytes *calls);
     // Ends the file system and frees `self`. Where an image is wanted, that of the live tree is put there first; it is
     // whole where the answer is 0.
     int (*close)(void *self, struct image *image);
@@ -108,6 +115,16 @@ static inline unsigned backend_compact(const struct backend *backend, unsigned s
 static inline unsigned backend_compaction_debt(const struct backend *backend) {
     while (!backend->ops->compaction_debt) backend = backend->self;
     return backend->ops->compaction_debt(backend->self);
+}
+
+static inline int backend_fork(const struct backend *backend, struct backend *out) {
+    while (!backend->ops->fork) backend = backend->self;
+    return backend->ops->fork(backend->self, out);
+}
+
+static inline int backend_adopt(const struct backend *backend, void *fork, struct bytes *calls) {
+    while (!backend->ops->adopt) backend = backend->self;
+    return backend->ops->adopt(backend->self, fork, calls);
 }
 
 // Where the log of a replica is, and what its members are told and believed by.

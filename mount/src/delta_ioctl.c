@@ -1,13 +1,17 @@
 // The part of --send and --receive that runs in the mount ("Delta" in docs/FORMATS.md).
 //
-// Invariant: --receive is atomic. A hidden snapshot is taken before the delta is applied, and restored if a call fails
-// or if the digest of the resulting image is not that of the image which the delta makes.
+// Invariant: --receive is atomic. A delta is applied to a fork, with no lock, and the tree takes the place of the live
+// one if the digest of its image is that of the image which the delta makes, and if no call changed the live tree
+// meanwhile. Where one did, or memory was wanting, all is done once more under the lock. Where each call has to be made
+// to the live tree, a hidden snapshot is taken before, and restored if a call fails or if the digest is another one.
 #include "delta_ioctl.h"
 #include "entry_count.h"
+#include "branch.h"
 #include "private_dir.h"
 #include "delta_parse.h"
 #include "delta_print.h"
 #include "memlimit.h"
+#include "requests.h"
 #include "snapshots.h"
 #include "workers.h"
 #include <assert.h>
@@ -88,7 +92,7 @@ static int do_or_undo(struct mount *mount, struct delta *delta) {
     return err ? err : other;
 }
 
-static int apply_once(struct mount *mount, const struct bytes *given) {
+static int apply_by_calls(struct mount *mount, const struct bytes *given) {
     struct delta delta;
     int err = delta_parse(&delta, mount->backend.tree, given);
     if (!err) err = do_or_undo(mount, &delta);
@@ -96,28 +100,85 @@ static int apply_once(struct mount *mount, const struct bytes *given) {
     return err;
 }
 
-static int apply(struct request *request, const struct bytes *given, struct bytes *stale) {
+// Does all of it to a fork: no lock is needed.
+static int apply_to_branch(const struct mount *mount, const struct branch *branch, const struct bytes *given) {
+    struct mount beside = {.backend = branch->backend, .store = mount->store};
+    struct delta delta;
+    int err = delta_parse(&delta, branch->backend.tree, given);
+    if (!err) err = delta_run(&delta, &branch->backend);
+    if (!err) err = delta_check_sum(branch->backend.tree, delta.sum);
+    if (!err) err = private_start(&beside);
+    delta_free(&delta);
+    return err;
+}
+
+static void become_other(struct mount *mount, int err, struct bytes *stale) {
+    if (!err) inodes_renumber(mount->root);
+    if (!err) entry_count_set(mount, ENTRIES_UNKNOWN);
+    snapshot_after_switch(mount, err, stale);
+}
+
+// The former tree is freed later, with no lock, but where memory is wanting for a fork of it.
+static int adopt(struct mount *mount, struct branch *branch, struct doorvervain *former, struct bytes *stale) {
+    worker_fork(mount, NULL, former);
+    snapshot_before_switch(mount, stale);
+    int err = branch_adopt(mount, branch);
+    become_other(mount, err, stale);
+    return err;
+}
+
+// The lock is held at its beginning and at its end alone.
+static int apply_beside(struct request *request, const struct bytes *given, struct bytes *stale) {
+    struct branch branch = {.calls = {NULL}};
+    struct doorvervain former = {NULL};
+    int err = requests_begin(request);
+    if (!err) err = branch_begin(request->mount, &branch);
+    err = requests_end(request, err);
+    memlimit_begin(&request->budget);
+    if (!err) err = apply_to_branch(request->mount, &branch, given);
+    memlimit_suspend();
+    int other = requests_begin(request);
+    if (!err) err = other ? other : adopt(request->mount, &branch, &former, stale);
+    err = requests_end(request, err);
+    branch_end(&branch);
+    doorvervain_close(&former);
+    return err;
+}
+
+// Under the lock.
+static int apply_once(struct mount *mount, const struct bytes *given) {
+    struct branch branch;
+    int err = branch_begin(mount, &branch);
+    if (err == EOPNOTSUPP) return apply_by_calls(mount, given);
+    if (!err) err = apply_to_branch(mount, &branch, given);
+    memlimit_suspend();
+    if (!err) err = branch_adopt(mount, &branch);
+    branch_end(&branch);
+    return err;
+}
+
+// The lock is held all the while: nothing changes the tree, and steps of it may give memory back.
+static int apply_alone(struct request *request, const struct bytes *given, struct bytes *stale) {
     struct mount *mount = request->mount;
-    int err;
+    int err = requests_begin(request);
+    if (err) return requests_end(request, err);
     snapshot_before_switch(mount, stale);
     do {
         memlimit_begin(&request->budget);
         err = apply_once(mount, given);
     } while (memlimit_retry(&request->budget, &mount->backend, &err));
-    if (!err) inodes_renumber(mount->root);
-    if (!err) entry_count_set(mount, ENTRIES_UNKNOWN);
-    snapshot_after_switch(mount, err, stale);
-    return err;
+    become_other(mount, err, stale);
+    return requests_end(request, err);
 }
 
 int delta_apply(struct request *request, const struct bytes *given, struct delta_answer *answer, struct bytes *stale) {
-    assert(request_lock_is_held(request->mount));
     *answer = (struct delta_answer){DELTA_IS_DONE, 0};
     if (!request->mount->backend.tree) return EOPNOTSUPP;
     int err = delta_find_bad_line(given, &answer->line);
     if (!err && answer->line) answer->outcome = DELTA_IS_NONE;
     if (err || answer->line) return err;
-    err = apply(request, given, stale);
+    err = apply_beside(request, given, stale);
+    if (err == EAGAIN || err == ENOMEM || err == EOPNOTSUPP) err = apply_alone(request, given, stale);
     if (err == ENOENT) answer->outcome = DELTA_IS_OF_OTHER;
     if (err == EINVAL) answer->outcome = DELTA_MAKES_NO_TREE;
     return answer->outcome ? 0 : err;

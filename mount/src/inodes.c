@@ -5,13 +5,14 @@
 #include "inodes.h"
 #include "memlimit.h"
 #include <errno.h>
+#include <stdatomic.h>
 #include <stdlib.h>
 #include <string.h>
 #include <unistd.h>
 
 static struct inode **slots;
 static size_t slot_count, entry_count;
-static uint64_t numbers;   // of entries that there ever were
+static _Atomic uint64_t numbers; // of entries that there ever were
 static struct inode *gone; // out of the tree, and held: at the end of a mount the kernel does not forget all of them
 static struct timespec began;
 
@@ -104,7 +105,8 @@ static struct inode *new_inode(char *name, bool is_directory) {
 }
 
 void inodes_number_above(uint64_t ino) {
-    if (ino > numbers) numbers = ino;
+    uint64_t now = numbers;
+    while (ino > now && !atomic_compare_exchange_weak(&numbers, &now, ino)) continue;
 }
 
 void inodes_renumber(struct inode *root) {

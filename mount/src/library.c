@@ -1,7 +1,7 @@
 // The backend over the static library, in this process.
 //
-// Invariant: one call of the library runs at a time (the request lock), and a call that fails changes nothing. Steps of
-// the tree that are owed for changes are counted here and done by `compact`.
+// Invariant: one call of a volume runs at a time (the request lock, or the one thread that has a fork), and a call that
+// fails changes nothing. Steps of the tree that are owed for changes are counted here and done by `compact`.
 #include "doorvervain.h"
 #include "image.h"
 #include "library.h"
@@ -22,9 +22,11 @@ enum { BLOCK = 4096, CHANGES_BEFORE_STEPS = 16, MOST_OWED = 1 << 20, PIECE_OF_IM
 struct library {
     struct doorvervain volume;
     unsigned steps;
-    size_t changes;   // for which no steps are due yet
-    unsigned owed;    // steps that are due
-    bool has_backlog; // a load put all changes into the root, and no change made steps due for them
+    size_t changes;     // for which no steps are due yet
+    unsigned owed;      // steps that are due
+    bool has_backlog;   // a load put all changes into the root, and no change made steps due for them
+    uint64_t edits;     // how many calls changed the live tree
+    uint64_t forked_at; // of a fork: the edits of the volume that it is one of
     // The tree of the snapshot that was looked into last; its name is empty where there is none.
     struct doorvervain_frozen tree;
     char snapshot[LONGEST_SNAPSHOT + 1];
@@ -34,6 +36,7 @@ struct library {
 // down takes about as long as one that moves many.
 static int done_many(struct library *library, uint8_t number, size_t changes) {
     if (number) return doorvervain_errno(number);
+    library->edits++;
     library->changes += changes;
     if (library->changes < CHANGES_BEFORE_STEPS) return 0;
     library->changes = 0;
@@ -141,8 +144,11 @@ static int library_snapshot(void *self, enum snapshot_call what, const char *sna
         [RESTORE_SNAPSHOT] = doorvervain_restore,
     };
     struct library *library = self;
+    uint64_t before = library->edits;
     if (what == DROP_SNAPSHOT && !strcmp(library->snapshot, snapshot)) forget_tree(library);
-    return done(library, calls[what](&library->volume, snapshot, strlen(snapshot)));
+    int err = done(library, calls[what](&library->volume, snapshot, strlen(snapshot)));
+    if (what != RESTORE_SNAPSHOT) library->edits = before;
+    return err;
 }
 
 static int library_punch(void *self, const char *path, uint64_t offset, uint64_t count, uint64_t at) {
@@ -196,6 +202,22 @@ static int library_close(void *self, struct image *image) {
     return err;
 }
 
+static int library_fork(void *self, struct backend *out);
+
+// The fork's tree has its steps still to do.
+static int library_adopt(void *self, void *fork, struct bytes *calls) {
+    struct library *library = self, *from = fork;
+    struct doorvervain_frozen tree;
+    (void)calls;
+    if (library->edits != from->forked_at) return EAGAIN;
+    uint8_t number = doorvervain_freeze(&from->volume, &tree);
+    if (!number) number = doorvervain_restore_frozen(&library->volume, &tree);
+    doorvervain_frozen_close(&tree);
+    if (!number) library->owed = from->owed;
+    if (!number) library->has_backlog = from->has_backlog;
+    return done(library, number);
+}
+
 static const struct backend_ops library_ops = {
     .change = library_change,
     .rename = library_rename,
@@ -209,8 +231,23 @@ static const struct backend_ops library_ops = {
     .next_extent = library_next_extent,
     .compact = library_compact,
     .compaction_debt = library_compaction_debt,
+    .fork = library_fork,
+    .adopt = library_adopt,
     .close = library_close,
 };
+
+static int library_fork(void *self, struct backend *out) {
+    const struct library *library = self;
+    struct library *fork = mem_calloc(1, sizeof *fork);
+    *out = (struct backend){NULL};
+    if (!fork) return ENOMEM;
+    *fork = (struct library){.steps = library->steps, .owed = library->owed, .has_backlog = library->has_backlog};
+    fork->forked_at = library->edits;
+    int err = doorvervain_errno(doorvervain_fork(&library->volume, &fork->volume));
+    if (err) mem_free(fork);
+    else *out = (struct backend){&library_ops, fork, &fork->volume};
+    return err;
+}
 
 struct doorvervain *library_volume(void *self) {
     struct library *library = self;

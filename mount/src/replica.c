@@ -94,10 +94,17 @@ static int change_ends(struct replica *replica, int err) {
     return EINPROGRESS;
 }
 
+static uint64_t count_leftovers(const struct leftover *leftover) {
+    uint64_t count = 0;
+    for (; leftover; leftover = leftover->next) count++;
+    return count;
+}
+
 void replica_fill_status(const struct mount *mount, struct replica_status *out) {
     const struct replica *replica = mount->replica;
     *out = (struct replica_status){.version = replica->done, .is_behind = replica->is_behind || replica->err};
     for (const struct deferred_request *waits = replica->first; waits; waits = waits->next) out->waiting++;
+    out->waiting += count_leftovers(replica->leftovers) + count_leftovers(replica->proposal.leftovers);
     snprintf(out->members, sizeof out->members, "%s", replica->members);
 }
 

@@ -3,6 +3,8 @@
 // Validity: a checkpoint counts if its key exists, all of its parts are there and their SHA-256 digest is `sum`. Its
 // key is put after all parts, and only if it is still as it was read, so a newer one is never replaced by an older one;
 // parts of older versions are deleted after that.
+//
+// The tree is frozen by the thread that serves, and printed by another, while requests go on.
 #define _GNU_SOURCE
 #include "replica_checkpoint.h"
 #include "replica_inside.h"
@@ -30,13 +32,9 @@ struct checkpoint_task {
     uint64_t size;   // of the image, or of the last one, until all of it is put
     struct sha256 sum;
     pthread_t thread;
-    struct doorvervain_printer printing; // of the thread that serves
-    pthread_mutex_t lock;                // of what follows
-    pthread_cond_t printed;
-    bool wants, has_ended, ends;
+    struct doorvervain_printer printing; // of the tree at one version, which is frozen
+    _Atomic bool has_ended, ends;
     uint8_t piece[LARGEST_VALUE];
-    size_t length;
-    int err;
 };
 
 // ---- questions
@@ -173,27 +171,30 @@ int checkpoint_fetch_last_put(struct etcd_client *etcd, uint64_t mount, struct b
 
 // ---- an image is kept
 
-// The next piece of the image, which the thread that serves prints; of length 0 at its end.
-static int await_piece(struct checkpoint_task *task) {
-    pthread_mutex_lock(&task->lock);
-    task->wants = true;
-    etcd_log_wake(task->replica->log);
-    while (task->wants && !task->ends) pthread_cond_wait(&task->printed, &task->lock);
-    int err = task->ends ? ECANCELED : task->err;
-    pthread_mutex_unlock(&task->lock);
-    return err;
+// The next piece of the image; of length 0 at its end.
+static int print_piece(struct checkpoint_task *task, size_t *length) {
+    size_t count = 1;
+    int err = 0;
+    *length = 0;
+    while (!err && count && *length < sizeof task->piece) {
+        err = doorvervain_errno(
+            doorvervain_print_next(&task->printing, task->piece + *length, sizeof task->piece - *length, &count));
+        *length += count;
+    }
+    return task->ends ? ECANCELED : err;
 }
 
 static int put_pieces(struct checkpoint_task *task) {
     char key[LONGEST_KEY];
     int err;
     uint64_t size = 0;
+    size_t length;
     struct checkpoint *checkpoint = &task->checkpoint;
-    while (!(err = await_piece(task)) && task->length) {
+    while (!(err = print_piece(task, &length)) && length) {
         name_key(&task->etcd, key, PARTS, checkpoint->version, checkpoint->parts++);
-        err = sha256_add(&task->sum, task->piece, task->length);
-        if (!err) err = put(&task->etcd, key, task->piece, task->length);
-        size += task->length;
+        err = sha256_add(&task->sum, task->piece, length);
+        if (!err) err = put(&task->etcd, key, task->piece, length);
+        size += length;
         if (err) break;
     }
     if (!err) task->size = size;
@@ -268,9 +269,9 @@ static void *run_task(void *self) {
     int err = put_all(task);
     if (err && err != EEXIST && err != ECANCELED)
         fprintf(stderr, "doorvervain-mount: --replica: no checkpoint is made: %s\n", strerror(err));
-    pthread_mutex_lock(&task->lock);
+    doorvervain_print_end(&task->printing);
     task->has_ended = true;
-    pthread_mutex_unlock(&task->lock);
+    etcd_log_wake(task->replica->log);
     return NULL;
 }
 
@@ -299,24 +300,9 @@ void checkpoint_begin(struct replica *replica) {
     task->former = replica->checkpoint_version;
     task->size = replica->image_size;
     task->checkpoint = (struct checkpoint){.version = replica->done, .revision = replica->revision};
-    pthread_mutex_init(&task->lock, NULL);
-    pthread_cond_init(&task->printed, NULL);
     replica->bytes_since_checkpoint = 0;
     if (open_task(task)) free_task(task);
     else replica->checkpoint_task = task;
-}
-
-static void print_piece(struct checkpoint_task *task) {
-    size_t count = 1;
-    task->length = 0;
-    task->err = 0;
-    while (!task->err && count && task->length < sizeof task->piece) {
-        task->err = doorvervain_errno(doorvervain_print_next(&task->printing, task->piece + task->length,
-                                                             sizeof task->piece - task->length, &count));
-        task->length += count;
-    }
-    task->wants = false;
-    pthread_cond_signal(&task->printed);
 }
 
 // What is known here meanwhile may be newer.
@@ -332,22 +318,11 @@ static void finish(struct replica *replica) {
 }
 
 void checkpoint_step(struct replica *replica) {
-    struct checkpoint_task *task = replica->checkpoint_task;
-    if (!task) return;
-    pthread_mutex_lock(&task->lock);
-    if (task->wants) print_piece(task);
-    bool has_ended = task->has_ended;
-    pthread_mutex_unlock(&task->lock);
-    if (has_ended) finish(replica);
+    if (replica->checkpoint_task && replica->checkpoint_task->has_ended) finish(replica);
 }
 
 void checkpoint_cancel(struct replica *replica) {
-    struct checkpoint_task *task = replica->checkpoint_task;
-    if (!task) return;
-    pthread_mutex_lock(&task->lock);
-    task->ends = true;
-    pthread_cond_signal(&task->printed);
-    pthread_mutex_unlock(&task->lock);
+    if (replica->checkpoint_task) replica->checkpoint_task->ends = true;
 }
 
 void checkpoint_give_up(void) { gives_up = true; }

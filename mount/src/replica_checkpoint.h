@@ -23,9 +23,8 @@ int checkpoint_fetch(struct etcd_client *etcd, uint64_t after, struct checkpoint
 // What the mark of a mount has; nothing where it put no value.
 int checkpoint_fetch_last_put(struct etcd_client *etcd, uint64_t mount, struct bytes *out);
 
-// Keeps the tree as it stands, where the log behind the last checkpoint is long enough. The thread that serves calls
-// the
-// second function now and then, by which a piece of the image is printed where one is wanted.
+// Keeps the tree as it stands, by a thread, where the log behind the last checkpoint is long enough. The thread that
+// serves calls the second function now and then, which takes what has ended.
 void checkpoint_begin(struct replica *replica);
 void checkpoint_step(struct replica *replica);
 // The one that is being made is not wanted any more, and ends soon.

@@ -785,15 +785,14 @@ struct receiving {
     struct bytes text;
 };
 
-// A worker, as `restore` is.
+// A worker: the other requests are served while the delta is applied, while the former tree is freed, and while the
+// kernel forgets.
 static void receive(void *argument) {
     struct receiving *receiving = argument;
     struct request *request = &receiving->request;
     struct stale stale = find_stale();
     struct delta_answer answer;
-    int err = requests_begin(request);
-    if (!err) err = delta_apply(request, &receiving->text, &answer, noted(&stale));
-    err = requests_end(request, err);
+    int err = delta_apply(request, &receiving->text, &answer, noted(&stale));
     if (!err && request->mount->store) err = store_sync(request->mount->store);
     notify_stale(&stale, err);
     count_entries(request->mount);

@@ -87,7 +87,7 @@ static void print_lines(const struct mount_status *status, struct dirent **snaps
         if (status->store.is_refusing) printf("changes    fail until a checkpoint is complete\n");
     }
     if (!status->has_replica) return;
-    printf("members    %s\nversion    %" PRIu64 "\nwaiting    %" PRIu64 " requests\n", status->replica.members,
+    printf("members    %s\nversion    %" PRIu64 "\nwaiting    %" PRIu64 " changes\n", status->replica.members,
            status->replica.version, status->replica.waiting);
     if (status->replica.is_behind) printf("log        not followed\n");
 }

@@ -15,7 +15,7 @@ struct store_status {
 
 struct replica_status {
     uint64_t version; // of the log, up to which all is done
-    uint64_t waiting; // requests that wait for the log
+    uint64_t waiting; // requests that wait for the log, and removals of unlinked files
     bool is_behind;   // what follows in the log was cut, or it cannot be followed
     char members[LONGEST_MEMBERS];
 };

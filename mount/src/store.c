@@ -51,6 +51,20 @@ static int store_snapshot(void *self, enum snapshot_call what, const char *snaps
     return err;
 }
 
+// The calls that made the tree are those of this request.
+static int store_adopt(void *self, void *fork, struct bytes *calls) {
+    struct store *store = self;
+    assert(requests_are_locked());
+    int err = may_change(store);
+    if (!err) err = store_fresh_batch(store);
+    if (!err) err = backend_adopt(&store->layer.inner, fork, calls);
+    if (err) return err;
+    struct bytes room = store->batch->calls;
+    store->batch->calls = *calls;
+    *calls = room;
+    return 0;
+}
+
 // ---- what waits for the disk
 
 // All that a list has. The list has nothing then.
@@ -376,6 +390,7 @@ static const struct backend_ops store_ops = {
     .write = wal_layer_write,
     .snapshot = store_snapshot,
     .punch = wal_layer_punch,
+    .adopt = store_adopt,
     .close = store_close,
 };
 

@@ -2,7 +2,7 @@
 //
 // Invariant: the trees are frozen, and log N begins, at one moment, so `tree.N` has all changes of the logs before N
 // and none of those from N on. The image gets its name only after it and the file of snapshots are on the disk, and its
-// checksums after that; then older files are deleted.
+// checksums after that; then older files are deleted. Frozen trees are printed and closed with no lock.
 #include "requests.h"
 #include "store_inside.h"
 #include <errno.h>
@@ -111,9 +111,7 @@ int writeback_tick(struct checkpoint_file *file) {
 
 int store_print(struct checkpoint_file *file, struct doorvervain_printer *printing, uint8_t *out, size_t capacity,
                 size_t *size) {
-    requests_lock();
     int err = doorvervain_errno(doorvervain_print_next(printing, out, capacity, size));
-    requests_unlock();
     return err ? err : writeback_tick(file);
 }
 
@@ -129,12 +127,6 @@ int store_end_checkpoint_file(struct checkpoint_file *file, const char *sum, int
 
 // ---- all of it
 
-static void end_printing(struct checkpoint_writer *writer) {
-    requests_lock();
-    doorvervain_print_end(&writer->printing);
-    requests_unlock();
-}
-
 static int put_tree(struct checkpoint_writer *writer) {
     uint8_t piece[PIECE];
     size_t size = 1;
@@ -143,7 +135,7 @@ static int put_tree(struct checkpoint_writer *writer) {
         err = store_print(&writer->tree, &writer->printing, piece, PIECE, &size);
         if (!err && size) err = store_put_bytes(&writer->tree, (const char *)piece, size);
     }
-    end_printing(writer);
+    doorvervain_print_end(&writer->printing);
     return err;
 }
 
@@ -201,7 +193,7 @@ int store_checkpoint(struct store *store, void (*meanwhile)(struct store *store)
     struct checkpoint_writer writer = {.tree = {.store = store, .meanwhile = meanwhile}, .former.file = -1};
     int err = begin(store, &writer);
     if (!err) err = put_image(&writer);
-    end_printing(&writer);
+    doorvervain_print_end(&writer.printing);
     store_thaw_snapshots(&writer.snapshots);
     if (err) give_up(store, &writer, err);
     else succeed(store, &writer);
@@ -216,7 +208,7 @@ int store_first_checkpoint(struct store *store) {
     if (!err) err = store_freeze_snapshots(store, &writer.snapshots);
     requests_unlock();
     if (!err) err = put_image(&writer);
-    end_printing(&writer);
+    doorvervain_print_end(&writer.printing);
     store_thaw_snapshots(&writer.snapshots);
     return err;
 }

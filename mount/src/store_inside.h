@@ -164,6 +164,8 @@ int store_batches_begin(struct store *store);
 void store_batches_free(struct store *store);
 // At the end of a request: if the batch has enough, another one begins. Under the request lock.
 void store_next_batch(struct store *store);
+// The batch has no calls then: 0 or ENOMEM.
+int store_fresh_batch(struct store *store);
 // What waits of a request is at its end. Under the request lock.
 int store_end_calls(struct store *store);
 // Takes the calls of all requests out of their batches, which are at their end then; under both locks. Where that is
@@ -255,7 +257,7 @@ struct checkpoint_file {
 
 int store_open_checkpoint_file(struct checkpoint_file *file, const char *kind, uint64_t number);
 int store_put_bytes(struct checkpoint_file *file, const char *bytes, size_t count);
-// The next bytes of an image. The request lock is held for a piece.
+// The next bytes of an image, with no lock.
 int store_print(struct checkpoint_file *file, struct doorvervain_printer *printing, uint8_t *out, size_t capacity,
                 size_t *size);
 // Does what is due between two pieces: ECANCELED where the end of the mount has come.
@@ -288,7 +290,7 @@ struct frozen_snapshots {
     struct snapshot at[MAX_STORED_SNAPSHOTS];
     struct doorvervain_frozen old[MAX_STORED_SNAPSHOTS], new[MAX_STORED_SNAPSHOTS];
 };
-// Under the request lock. They are to be thawed whatever is answered, which takes that lock.
+// Under the request lock. They are to be thawed whatever is answered, with no lock.
 int store_freeze_snapshots(struct store *store, struct frozen_snapshots *out);
 void store_thaw_snapshots(struct frozen_snapshots *frozen);
 // Writes them into the file that belongs to an image, all of which was put; where there are none, no such file is left.

@@ -5,7 +5,6 @@
 // it. Invariant: it is on the disk before `tree.N` gets its name.
 #include "delta_print.h"
 #include "delta_parse.h"
-#include "requests.h"
 #include "snapshots.h"
 #include "store_inside.h"
 #include "text.h"
@@ -15,10 +14,9 @@
 #include <string.h>
 #include <sys/mman.h>
 #include <sys/stat.h>
-#include <time.h>
 #include <unistd.h>
 
-enum { PIECE = 1 << 18, REST = 100000 };
+enum { PIECE = 1 << 18 };
 
 static const char kind[] = "snapshots";
 
@@ -107,16 +105,10 @@ int store_freeze_snapshots(struct store *store, struct frozen_snapshots *out) {
     return err;
 }
 
-static void thaw(struct doorvervain_frozen *tree) {
-    requests_lock();
-    doorvervain_frozen_close(tree);
-    requests_unlock();
-}
-
 void store_thaw_snapshots(struct frozen_snapshots *frozen) {
     for (unsigned i = 0; i < MAX_STORED_SNAPSHOTS; i++) {
-        if (frozen->new[i].ptr) thaw(&frozen->new[i]);
-        if (frozen->old[i].ptr) thaw(&frozen->old[i]);
+        doorvervain_frozen_close(&frozen->new[i]);
+        doorvervain_frozen_close(&frozen->old[i]);
     }
 }
 
@@ -130,10 +122,8 @@ struct snapshot_writer {
     char sum[SHA256_DIGITS + 1]; // of the image of the tree that was told last
 };
 
-// Lines that are alike take little time between two pieces: so a request that waits for the lock gets it.
 static int next_piece(void *self, struct doorvervain_printer *image, uint8_t *out, size_t capacity, size_t *size) {
     struct snapshot_writer *writer = self;
-    nanosleep(&(struct timespec){0, REST}, NULL);
     return store_print(&writer->file, image, out, capacity, size);
 }
 
@@ -143,31 +133,18 @@ static int put_text(void *self, const char *bytes, size_t count) {
     return err ? err : store_put_bytes(&writer->file, bytes, count);
 }
 
-static int begin_printing(struct doorvervain_printer *printing, struct doorvervain_frozen *tree) {
-    requests_lock();
-    int err = doorvervain_errno(doorvervain_print_begin(printing, tree));
-    requests_unlock();
-    return err;
-}
-
-static void end_printing(struct doorvervain_printer *printing) {
-    requests_lock();
-    doorvervain_print_end(printing);
-    requests_unlock();
-}
-
 static int put_difference(struct snapshot_writer *writer, struct doorvervain_frozen *old,
                           struct doorvervain_frozen *new) {
     struct delta_io io = {.next = next_piece, .put = put_text, .self = writer};
     struct doorvervain_printer from = {NULL}, to = {NULL};
     struct delta_sums sums;
     memcpy(sums.old, writer->sum, sizeof sums.old);
-    int err = begin_printing(&from, old);
-    if (!err) err = begin_printing(&to, new);
+    int err = doorvervain_errno(doorvervain_print_begin(&from, old));
+    if (!err) err = doorvervain_errno(doorvervain_print_begin(&to, new));
     if (!err) err = delta_print_images(&io, &from, &to, &sums);
     if (!err) memcpy(writer->sum, sums.new, sizeof writer->sum);
-    end_printing(&from);
-    end_printing(&to);
+    doorvervain_print_end(&from);
+    doorvervain_print_end(&to);
     return err;
 }
 

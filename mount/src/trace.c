@@ -294,6 +294,13 @@ static int trace_punch(void *self, const char *path, uint64_t offset, uint64_t c
     return err;
 }
 
+// Each call has its line, and no line makes a fork.
+static int trace_fork(void *self, struct backend *out) {
+    (void)self;
+    *out = (struct backend){NULL};
+    return EOPNOTSUPP;
+}
+
 static void free_trace(struct trace *trace) {
     if (trace->calls.fd >= 0) close(trace->calls.fd);
     if (trace->replies.fd >= 0) close(trace->replies.fd);
@@ -322,6 +329,7 @@ static const struct backend_ops trace_ops = {
     .readdir = trace_readdir,
     .snapshot = trace_snapshot,
     .punch = trace_punch,
+    .fork = trace_fork,
     .close = trace_close,
 };
 

@@ -109,6 +109,15 @@ int store_end_calls(struct store *store) {
     return bytes_append(&batch->ends, &batch->calls.length, sizeof batch->calls.length);
 }
 
+// What the request under way has done is a record of its own then.
+int store_fresh_batch(struct store *store) {
+    int err = store_end_calls(store);
+    if (err || !store->batch->calls.length) return err;
+    struct wal_batch *another = take_free_batch(store);
+    if (another) end_batch(store, another);
+    return another ? 0 : ENOMEM;
+}
+
 // The reserve is there: all that was taken before was written.
 int wal_take_batches(struct store *store) {
     struct wal_batch *batch;
