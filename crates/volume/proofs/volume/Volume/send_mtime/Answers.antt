@@ -1,7 +1,7 @@
-use Rattle.std.proofs.Common.{◌≡◌, ◌∙◌, Bool, ap, refl, sym, subst}
+use Rattle.std.proofs.Common.{◌∙◌, Bool, ap, refl, sym, subst}
 use Rattle.call_compiler.specs.Compiled.{messages}
 use Rattle.call_compiler.specs.Mtimes.{SetsMtime as CompilesMtime}
-use Rattle.pathkey.specs.Names.{Path}
+use Rattle.pathkey.specs.Names.{Path, is_root}
 use Rattle.reference.specs.declared.reply.Reply.{Reply}
 use Rattle.volume.specs.FsRoot.{after_call, reply_to}
 use Rattle.volume.specs.Mtimes.{Asks, Compiles, SetsMtime}
@@ -27,20 +27,17 @@ asked c p given = subst (λ (v : PVolume). Asks v.live.indexes p c.args.at c.arg
 made : (c : After-self-1) (p : Path) → Compiles (old c).live.indexes p c.args.at c.args.compiled → CompilesMtime (old c).live.indexes p c.args.at c.in-Ok.reply (messages c.in-Ok.batch)
 made c p h = subst (Compiles (old c).live.indexes p c.args.at) c.in-Ok.is h
 
--- the moment of the root after it
-root_after : (c : After-self-1) (root : Bool) → c.args.is_root ≡ root → after_call root (reply_to c.append-sent.result c.in-Ok.reply) c.args.at c.self.inside.modified ≡ c.after_call-self-inside.result
-root_after c root e =
-    ap (λ (b : Bool). after_call b (reply_to c.append-sent.result c.in-Ok.reply) c.args.at c.self.inside.modified) (sym e)
-    ∙ ap (λ (r : Reply). after_call c.args.is_root r c.args.at c.self.inside.modified) (sym c.reply_to-reply.ensures)
-    ∙ sym c.after_call-self-inside.ensures
-
 pub invariant_of-self : goal.invariant_of-self
 invariant_of-self c =
     let l = c.append-sent.new.self in
-    let (p, given) = c.requires in
-    let asks : Asks (old c).live.indexes p c.args.at c.args.compiled c.args.is_root = asked c p given in
-    subst (λ n. IsVolume (volume l n c.self.inside.snapshots)) (root_after c _ asks.is_root)
-    (mtime_lasts (old c) c.self.invariant p c.args.at l (reply_to c.append-sent.result c.in-Ok.reply)
+    let p : Path = c.requires.0 in
+    let asks : Asks (old c).live.indexes p c.args.at c.args.compiled c.args.is_root = asked c p c.requires.1 in
+    let r : Reply = reply_to c.append-sent.result c.in-Ok.reply in
+    subst (λ n. IsVolume (volume l n c.self.inside.snapshots))
+    (ap (λ (b : Bool). after_call b r c.args.at c.self.inside.modified) (sym asks.is_root)
+    ∙ ap (λ (q : Reply). after_call c.args.is_root q c.args.at c.self.inside.modified) (sym c.reply_to-reply.ensures)
+    ∙ sym c.after_call-self-inside.ensures)
+    (mtime_lasts (old c) c.self.invariant p c.args.at l r
     (answered_mtime (old c) c.self.invariant p c.args.at l c.in-Ok.reply _ c.append-sent.result (made c p asks.compiles) (arriving c)) c.assert_invariant.ensures)
 
 pub returns-clause-sets : goal.returns-clause-sets
@@ -48,8 +45,9 @@ returns-clause-sets c = λ p given.
     let l = c.append-sent.new.self in
     let asks : Asks (old c).live.indexes p c.args.at c.args.compiled c.args.is_root = asked c p given in
     subst (λ (v : PVolume). SetsMtime p c.args.at c.reply_to-reply.result v (volume l c.after_call-self-inside.result c.self.inside.snapshots)) c.self.view_is
-    (subst (λ n. SetsMtime p c.args.at c.reply_to-reply.result (old c) (volume l n c.self.inside.snapshots)) (root_after c _ asks.is_root)
-    (subst (λ (r : Reply). SetsMtime p c.args.at r (old c) (volume l (after_call _ (reply_to c.append-sent.result c.in-Ok.reply) c.args.at c.self.inside.modified) c.self.inside.snapshots)) (sym c.reply_to-reply.ensures)
+    (subst (λ n. SetsMtime p c.args.at c.reply_to-reply.result (old c) (volume l n c.self.inside.snapshots))
+    (ap (λ (b : Bool). after_call b c.reply_to-reply.result c.args.at c.self.inside.modified) (sym asks.is_root) ∙ sym c.after_call-self-inside.ensures)
+    (subst (λ (r : Reply). SetsMtime p c.args.at r (old c) (volume l (after_call (is_root p) r c.args.at c.self.inside.modified) c.self.inside.snapshots)) (sym c.reply_to-reply.ensures)
     (answered_mtime (old c) c.self.invariant p c.args.at l c.in-Ok.reply _ c.append-sent.result (made c p asks.compiles) (arriving c))))
 
 pub returns-clause-settled : goal.returns-clause-settled
