@@ -112,8 +112,9 @@ static int apply_to_branch(const struct mount *mount, const struct branch *branc
     return err;
 }
 
+// Files of several names that come have the numbers that they had elsewhere.
 static void become_other(struct mount *mount, int err, struct bytes *stale) {
-    if (!err) inodes_renumber(mount->root);
+    if (!err && private_has_links(mount)) inodes_renumber(mount->root);
     if (!err) entry_count_set(mount, ENTRIES_UNKNOWN);
     snapshot_after_switch(mount, err, stale);
 }
