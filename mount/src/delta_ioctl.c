@@ -2,8 +2,9 @@
 //
 // Invariant: --receive is atomic. A delta is applied to a fork, with no lock, and the tree takes the place of the live
 // one if the digest of its image is that of the image which the delta makes, and if no call changed the live tree
-// meanwhile. Where one did, or memory was wanting, all is done once more under the lock. Where each call has to be made
-// to the live tree, a hidden snapshot is taken before, and restored if a call fails or if the digest is another one.
+// meanwhile. Where one did, all is done once more, and at last, or where memory was wanting, under the lock. Where each
+// call has to be made to the live tree, a hidden snapshot is taken before, and restored if a call fails or if the digest
+// is another one.
 #include "delta_ioctl.h"
 #include "entry_count.h"
 #include "branch.h"
@@ -17,6 +18,8 @@
 #include <assert.h>
 #include <errno.h>
 #include <string.h>
+
+enum { TRIES = 3 }; // to apply a delta while requests go on
 
 // ---- a difference is printed
 
@@ -112,8 +115,9 @@ static int apply_to_branch(const struct mount *mount, const struct branch *branc
     return err;
 }
 
+// Files of several names that come have the numbers that they had elsewhere.
 static void become_other(struct mount *mount, int err, struct bytes *stale) {
-    if (!err) inodes_renumber(mount->root);
+    if (!err && private_has_links(mount)) inodes_renumber(mount->root);
     if (!err) entry_count_set(mount, ENTRIES_UNKNOWN);
     snapshot_after_switch(mount, err, stale);
 }
@@ -171,14 +175,21 @@ static int apply_alone(struct request *request, const struct bytes *given, struc
     return requests_end(request, err);
 }
 
+// A tree that changes meanwhile is mostly another one then, which the next try tells.
+static int apply(struct request *request, const struct bytes *given, struct bytes *stale) {
+    int err = EAGAIN;
+    for (unsigned tried = 0; err == EAGAIN && tried < TRIES; tried++) err = apply_beside(request, given, stale);
+    bool waits = err == EAGAIN || err == ENOMEM || err == EOPNOTSUPP;
+    return waits ? apply_alone(request, given, stale) : err;
+}
+
 int delta_apply(struct request *request, const struct bytes *given, struct delta_answer *answer, struct bytes *stale) {
     *answer = (struct delta_answer){DELTA_IS_DONE, 0};
     if (!request->mount->backend.tree) return EOPNOTSUPP;
     int err = delta_find_bad_line(given, &answer->line);
     if (!err && answer->line) answer->outcome = DELTA_IS_NONE;
     if (err || answer->line) return err;
-    err = apply_beside(request, given, stale);
-    if (err == EAGAIN || err == ENOMEM || err == EOPNOTSUPP) err = apply_alone(request, given, stale);
+    err = apply(request, given, stale);
     if (err == ENOENT) answer->outcome = DELTA_IS_OF_OTHER;
     if (err == EINVAL) answer->outcome = DELTA_MAKES_NO_TREE;
     return answer->outcome ? 0 : err;

@@ -43,8 +43,8 @@ struct delta_trees {
 int delta_open_trees(struct mount *mount, const struct send_request *wanted, struct delta_trees *out);
 int delta_print(struct delta_trees *trees, struct bytes *out);
 void delta_close_trees(struct delta_trees *trees);
-// With no lock: it is taken twice for a moment, and for all of it only where the tree changes meanwhile, or memory is
-// wanting. The live tree becomes what a text makes of it, and snapshots stay. With a fault, and with another outcome, it
+// With no lock: it is taken twice for a moment, and for all of it only where the tree changes thrice meanwhile, or memory
+// is wanting. The live tree becomes what a text makes of it, and snapshots stay. With a fault, and with another outcome, it
 // is as it was. What the kernel has to forget goes to `stale`, as with snapshot_restore.
 int delta_apply(struct request *request, const struct bytes *text, struct delta_answer *answer, struct bytes *stale);
 #endif

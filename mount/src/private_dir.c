@@ -94,6 +94,8 @@ static bool stands(struct mount *mount, const char *path) {
     return !backend_stat(&mount->backend, (struct path_ref){NULL, path}, &node_stat);
 }
 
+bool private_has_links(struct mount *mount) { return stands(mount, LINKS_PATH); }
+
 bool private_tidy(struct mount *mount) {
     uint64_t at;
     if (!stands(mount, PRIVATE_PATH)) return false;

@@ -21,6 +21,8 @@ struct private_path {
 int private_start(struct mount *mount);
 // No entry of this mount gets the number that a file of several names has in a tree; null: in the live one.
 int private_find_links(struct mount *mount, const char *snapshot);
+// Whether the live tree may have files of several names.
+bool private_has_links(struct mount *mount);
 // Makes one of the folders where it does not stand. The root keeps its moment.
 int private_make(struct mount *mount, enum private_dir which);
 // A place in `unlinked` where nothing stands.
