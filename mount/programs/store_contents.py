@@ -1,7 +1,7 @@
 """What users write into files counts for nothing in the log: contents that are logs, sync markers and checksums of stores.
 
 A disk of 32 MiB is filled with such files, which are synced now and then, until the log fails or the mount is killed; the log is then
-also cut and overwritten behind what was synced, also by the mount's own timer, as a loss of power may do. The next start has to be good, with each file that was
+also cut and overwritten behind what was synced, as a loss of power may do. The next start has to be good, with each file that was
 synced. ROUNDS is how often; the heavy run is `ROUNDS=200`.
 """
 import os

@@ -6,6 +6,7 @@ import resource
 import shutil
 import socket
 import subprocess
+import threading
 import time
 from collections.abc import Callable
 from pathlib import Path
@@ -167,26 +168,42 @@ def a_sync_in_time_that_fails_is_told_at_the_next_fsync(folder: Path):
     assert names_after(folder) == {"held"}
 
 
+class Syslog(threading.Thread):
+    """What is told to syslog. All is read at once, since who tells something waits for room; other mounts may do so too."""
+
+    def __init__(self):
+        super().__init__(daemon=True)
+        self.socket, self.told = socket.socket(socket.AF_UNIX, socket.SOCK_DGRAM), []
+        self.socket.bind("/dev/log")
+
+    def run(self) -> None:
+        while True:
+            self.told.append(self.socket.recv(4096))
+
+    def waits_for(self, words: bytes) -> bool:
+        ends = time.monotonic() + 20
+        while not any(words in it for it in self.told) and time.monotonic() < ends:
+            time.sleep(0.01)
+        return any(words in it for it in self.told)
+
+
 @case
 def in_the_background_it_is_told_to_syslog(folder: Path):
     if os.getuid() or os.path.lexists("/dev/log"):
         return
-    disk, point = FailingDisk(folder), folder / "mnt"
+    disk, point, syslog = FailingDisk(folder), folder / "mnt", Syslog()
     point.mkdir()
-    with socket.socket(socket.AF_UNIX, socket.SOCK_DGRAM) as log:
-        log.bind("/dev/log")
-        try:
-            subprocess.run([MOUNT, "--store", folder / "store", point], check=True, env=os.environ | disk.environment)
-            (point / "file").write_text("abc")
-            disk.fail("sync")
-            refused(errno.EIO, sync, point)
-            disk.mend()
-            log.settimeout(20)
-            while b"changes are refused" not in log.recv(4096):
-                pass  # other mounts of the machine tell something too
-            subprocess.run([MOUNT, "--unmount", point], check=True)
-        finally:
-            os.unlink("/dev/log")
+    syslog.start()
+    try:
+        subprocess.run([MOUNT, "--store", folder / "store", point], check=True, env=os.environ | disk.environment)
+        (point / "file").write_text("abc")
+        disk.fail("sync")
+        refused(errno.EIO, sync, point)
+        disk.mend()
+        assert syslog.waits_for(b"changes are refused"), syslog.told
+        subprocess.run([MOUNT, "--unmount", point], check=True)
+    finally:
+        os.unlink("/dev/log")
     assert names_after(folder) == {"file"}
 
 
