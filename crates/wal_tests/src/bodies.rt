@@ -153,9 +153,9 @@ type Row = (&'static [u8], usize, usize, u8, Result<usize, Errno>);
 const ROWS: [Row; 13] = [
     (b"", 0, 0, 0, Ok(0)),
     (SECOND_BODY, SECOND_BODY.len(), 999, 0, Ok(2)),
-    // The kinds are 1 to 12.
+    // The kinds are 1 to 13.
     (FIRST_BODY, FIRST_BODY.len(), 0, 0, Err(Errno::EINVAL)),
-    (FIRST_BODY, FIRST_BODY.len(), 0, 13, Err(Errno::EINVAL)),
+    (FIRST_BODY, FIRST_BODY.len(), 0, 14, Err(Errno::EINVAL)),
     (FIRST_BODY, FIRST_BODY.len(), 0, 5, Ok(1)),
     // A number that the change has not.
     (FIRST_BODY, FIRST_BODY.len(), 16, 1, Err(Errno::EINVAL)),
