@@ -297,6 +297,44 @@ def wrong_verdict(case: Said) -> str:
     return "" if is_well else f"refused: {failed}, and {'none' if told.is_clean else 'one'} that no edit touched"
 
 
+NEAR = """
+impl crate::Count {
+    pub fn more(&self) -> u8 {
+        1
+    }
+}
+
+struct Near;
+
+struct NearBy;
+
+impl Half for Near {
+    fn half(&self) -> u8 {
+        2
+    }
+}
+
+impl Half for NearBy {
+    fn half(&self) -> u8 {
+        3
+    }
+}
+"""
+# Folders of proofs, and the function of each: of a type's method below the type's module, of a trait's below that of its `impl`.
+FOLDERS = {"Count/more": "Count/more", "measures/NearHalf/half": "measures/Near/half", "measures/NearByHalf/half": "measures/NearBy/half"}
+
+
+def wrong_folder(folder: str) -> str:
+    """The functions that are found by a folder of a proof, where they are not the one whose proof it is; else ''."""
+    with tempfile.TemporaryDirectory(prefix="mutants-selftest-") as name:
+        make(Path(name), Try("", {}, {}, {}, []))
+        base = Repository(Path(name) / "clone").crates["base"]
+        file = base.folder / "src/measures.rt"
+        file.write_text(file.read_text(encoding="utf-8") + NEAR, encoding="utf-8")
+        found = [it.exact for it in Bodies(base).of_proof(folder)]
+    return "" if found == [FOLDERS[folder]] else f"found {' '.join(found) or 'nothing'}"
+
+
 @dataclasses.dataclass(frozen=True)
 class Again:
     """A try anew of three edits of `low`, in a tree whose record has something of one of them."""
@@ -366,4 +404,5 @@ def undrawn() -> str:
 def all_trials() -> list[tuple[str, str]]:
     """What was tried here, and what was wrong with it, '' where nothing was."""
     said = [(f"{it.line}, where edits touch {' '.join(sorted(it.touched))}", wrong_verdict(it)) for it in SAID]
-    return [*((it.name, wrong_try(it)) for it in TRIES), *said, ("what is tried anew", undrawn())]
+    folders = [(f"the proof in {it}", wrong_folder(it)) for it in FOLDERS]
+    return [*((it.name, wrong_try(it)) for it in TRIES), *said, *folders, ("what is tried anew", undrawn())]
