@@ -1,5 +1,5 @@
 -- Which slot moves the most messages.
-use Rattle.std.proofs.Common.{◌≡◌, ℕ, zero, suc, ◌+◌, ◌<◌, ◌≤◌, Bool, true, false, List, [], ◌∷◌, length, refl, ap, sym, ◌∙◌, subst, arith, Option}
+use Rattle.std.proofs.Common.{◌≡◌, ℕ, zero, suc, ◌+◌, ◌<◌, ◌≤◌, Bool, true, false, List, [], ◌∷◌, length, refl, ap, sym, ◌∙◌, subst, arith, Option, None}
 use Rattle.std.specs.Prelude.{◌&&◌, ◌==◌, min, if◌then◌else◌}
 use Rattle.message.specs.declared.msg.Msg.{Msg}
 use Rattle.flush.specs.Sunk.{free_pieces}
