@@ -186,9 +186,10 @@ impl LiveIndexes {
         in_tree!(self.indexes, index, tree => heaviest(tree))
     }
 
-    /// The slot of an index's root of which a job would move the most messages; none where no job would move any.
+    /// The slot of an index's root of which a job would move the most messages, the first of equals; `None` if no job would move
+    /// any.
     pub fn backlog(&self, index: Index) -> Option<Backlog>
-        ensures { IfSome result (λ b. BacklogIn index b self.now) }
+        ensures { BacklogIn index result self.now }
     {
         match index {
             Index::Meta => self.meta_marks.heaviest(&self.indexes.meta.tree),

@@ -386,10 +386,10 @@ impl Volume {
         self.live.make_room(step)
     }
 
-    /// The slot of an index's root of which a job would move the most messages; none where no job would move any. A job can be
-    /// taken of it, and as many messages as are told are pending there. It takes no memory, and no claim rests on its choice.
+    /// The slot of an index's root of which a job would move the most messages, the first of equals, and how many it would move
+    /// at most. A job can be taken of it. `None` means that no job of the index would move a message. It allocates nothing.
     pub fn backlog(&self, index: Index) -> Option<Backlog>
-        ensures { IfSome result (λ b. BacklogIn index b (live_of self.now)) }
+        ensures { BacklogIn index result (live_of self.now) }
     {
         self.live.backlog(index)
     }
