@@ -13,10 +13,10 @@ use std::alloc::Global;
 use std::marker::Model;
 use std::sync::Arc;
 
-/// How many bytes a block has at most.
+/// The maximum number of bytes in a block.
 pub const BLOCK: u64 = 4096;
 
-/// At most 4,096 bytes of a file, which contracts see as their list. They are shared: a copy is one more owner.
+/// At most 4,096 bytes of a file, which contracts see as their list. They are shared: a copy is another reference.
 pub struct Block {
     stored: BlockBytes,
 }
@@ -40,7 +40,7 @@ impl Model for Block {
 }
 
 impl Block {
-    /// A block of copies of these bytes.
+    /// A block with a copy of these bytes.
     pub fn copied(alloc: Global, bytes: &[u8]) -> Result<Block, NoMemory>
         requires { length bytes.now ≤ 4096 }
         ensures { IfOk result (λ b. b ≡ bytes.now) }
@@ -50,7 +50,7 @@ impl Block {
         Block::owned(alloc, own)
     }
 
-    /// These bytes with the patch laid over them. Where it covers them all, the block shares its bytes.
+    /// These bytes with the patch applied. If it covers them all, the block shares its bytes.
     pub fn patched(alloc: Global, old: &[u8], patch: &Patch) -> Result<Block, NoMemory>
         requires { length old.now ≤ 4096 }
         ensures { IfOk result (λ b. b ≡ over old.now patch.now.off patch.now.bytes) }
@@ -90,7 +90,7 @@ impl Block {
         self.stored.as_slice()
     }
 
-    /// An equal block: one more owner of its bytes.
+    /// An equal block: another reference to its bytes.
     pub fn copy(&self) -> Result<Block, NoMemory>
         ensures { IfOk result (λ b. b ≡ self.now) }
     {
@@ -99,7 +99,7 @@ impl Block {
         })
     }
 
-    /// Lays the patch over the block, in its place where no other block shares its bytes.
+    /// Applies the patch to the block, in place if no other block shares its bytes.
     pub fn apply_patch(&mut self, alloc: Global, patch: &Patch) -> Result<(), NoMemory>
         ensures ok { OnOk result (self.new ≡ over self.old patch.now.off patch.now.bytes) }
         ensures err { OnErr result (self.new ≡ self.old) }
@@ -110,7 +110,7 @@ impl Block {
         Ok(())
     }
 
-    /// What layers make of these bytes, or of no block; none where they make none.
+    /// What layers make of these bytes, or of no block; `None` if they make none.
     pub(crate) fn with_layers(
         alloc: Global,
         old: Option<&[u8]>,
@@ -125,7 +125,7 @@ impl Block {
         }
     }
 
-    /// Lays layers over the block, and answers whether there still is one. On want of memory it is as it was.
+    /// Applies layers to the block, and returns whether there still is one. If an allocation fails, it is unchanged.
     pub(crate) fn apply_layers(
         &mut self,
         alloc: Global,
@@ -143,7 +143,7 @@ impl Block {
         }
     }
 
-    /// Keeps the first `n` bytes, or all where there are fewer.
+    /// Keeps the first `n` bytes, or all if there are fewer.
     pub fn cut(&mut self, alloc: Global, n: u16) -> Result<(), NoMemory>
         ensures ok { OnOk result (self.new ≡ take n self.old) }
         ensures err { OnErr result (self.new ≡ self.old) }

@@ -1,4 +1,4 @@
-//! Where the bytes of a block lie.
+//! Where the bytes of a block are stored.
 ghost use Rattle.std.specs.Prelude.{◌≡◌, ◌+◌, ◌≤◌, length, take, if◌then◌else◌, IfOk, OnOk, OnErr};
 ghost use Rattle.block_index.specs.BlockBytes.{bytes_of};
 ghost use Rattle.reference.specs.Tree.{over};
@@ -11,9 +11,9 @@ use std::sync::Arc;
 /// Shared bytes.
 #[derive(Drop)]
 pub enum BlockBytes {
-    /// A slice of the bytes that a call brought. They are never changed.
+    /// A slice of the bytes that a call passed. They are never changed.
     Slice(Bytes),
-    /// Bytes of the block's own. Where they have one owner, they are changed in their place.
+    /// The block's own bytes. If they have one owner, they are changed in place.
     Own(Arc<Vec<u8>>),
 }
 
@@ -28,7 +28,7 @@ impl BlockBytes {
         }
     }
 
-    /// One more owner of the bytes.
+    /// Another reference to the bytes.
     pub fn copy(&self) -> Result<BlockBytes, NoMemory>
         ensures { IfOk result (λ s. bytes_of s ≡ bytes_of self.now) }
     {
@@ -38,7 +38,7 @@ impl BlockBytes {
         }
     }
 
-    /// Keeps the first `n` bytes alone, and answers whether it could do so without a copy.
+    /// Keeps only the first `n` bytes, and returns whether it could do so without a copy.
     pub fn truncate(&mut self, n: usize) -> bool
         ensures { bytes_of self.new ≡ (if result then take n (bytes_of self.old) else bytes_of self.old) }
     {
@@ -58,7 +58,7 @@ impl BlockBytes {
         }
     }
 
-    /// Lays the patch over the bytes where it can do so in their place, and answers whether it did.
+    /// Applies the patch to the bytes if it can do so in place, and returns whether it did.
     pub fn apply_patch(&mut self, patch: &Patch) -> Result<bool, NoMemory>
         requires { length (bytes_of self.old) ≤ 4096 }
         ensures ok { IfOk result (λ done. bytes_of self.new ≡ (if done then over (bytes_of self.old) patch.now.off patch.now.bytes else bytes_of self.old)) }
@@ -79,7 +79,7 @@ impl BlockBytes {
     }
 }
 
-/// Lays the bytes `new` over others in their place, from `off` on.
+/// Overwrites other bytes in place with the bytes `new`, from `off` on.
 pub(crate) fn overlay(own: &mut Vec<u8>, off: usize, new: &[u8]) -> Result<(), NoMemory>
     requires own { length own.old.items ≤ 4096 }
     requires new { off + length new.now ≤ 4096 }

@@ -30,7 +30,7 @@ pub struct BlockIndex {
 impl BlockIndex {
     ghost use Rattle.block_index.specs.Means.{blocks};
 
-    /// The index without blocks. It fails only for want of memory.
+    /// The index without blocks. It fails only if an allocation fails.
     pub fn new(alloc: Global, shape: Shape) -> Result<BlockIndex, NoMemory>
         requires { IsTrue (is_shape shape) }
         ensures shape { IfOk result (λ d. d.tree.shape ≡ shape) }
@@ -43,7 +43,7 @@ impl BlockIndex {
 
     /// The bytes of the file of `len` bytes at the path, from `off` on, at most `n`, none past the end (POSIX read).
     ///
-    /// It makes one look-up for each block, and copies each byte once. It fails only for want of memory.
+    /// It makes one lookup for each block, and copies each byte once. It fails only if an allocation fails.
     pub fn read(
         &self,
         alloc: Global,
@@ -60,9 +60,8 @@ impl BlockIndex {
         self.read_counted(alloc, path, off, n, len, &mut searches)
     }
 
-    /// The bytes of the file from `off` on, as `read` gives them. It leaves in `searches` how many
-    /// look-ups it made: one for each block that holds bytes of the answer, so at most 257 where `n` is
-    /// at most 1,048,576.
+    /// The bytes of the file from `off` on, as `read` returns them. It stores in `searches` how many lookups it made: one for
+    /// each block that has bytes of the result, so at most 257 if `n` is at most 1,048,576.
     pub fn read_counted(
         &self,
         alloc: Global,
@@ -78,10 +77,10 @@ impl BlockIndex {
         ensures counted { OnOk result (searches.new ≡ block_count off (min (off + n) len)) }
         ensures few { n ≤ 1048576 → OnOk result (searches.new ≤ 257) }
     {
-        // What `key` promises says that the path is one.
+        // The contract of `key` says that the path is one.
         let _key = path.key();
         *searches = 0;
-        // A sum that is cut off lies past the file's end all the same.
+        // A saturated sum is past the file's end all the same.
         let end = off.saturating_add(n).min(len);
         if end <= off {
             return Ok(Vec::new(alloc));
@@ -100,8 +99,8 @@ impl BlockIndex {
         Ok(bytes)
     }
 
-    /// The messages of a write of some bytes at `off`: one patch for each block that they touch, which shares its slice
-    /// of them. It fails only for want of memory.
+    /// The messages of a write of some bytes at `off`: one patch for each block that they overlap, which shares its slice of
+    /// them. It fails only if an allocation fails.
     pub fn write_msgs(
         &self,
         alloc: Global,
@@ -115,7 +114,7 @@ impl BlockIndex {
         ensures messages { IfOk result (λ msgs. msgs.items ≡ patches path.now off bytes.now) }
         ensures meaning { IfOk result (λ msgs. Changes (patched off bytes.now) path.now msgs.items) }
     {
-        // What `key` promises says that the path is one.
+        // The contract of `key` says that the path is one.
         let _key = path.key();
         let first = off / BLOCK;
         let last = (off + bytes.len() as u64 - 1) / BLOCK;
@@ -126,8 +125,8 @@ impl BlockIndex {
         Ok(msgs)
     }
 
-    /// The messages of a cut to `len` bytes: what is left of the block of the new end, if the end lies inside it, and a
-    /// range-delete of all later blocks. It fails only for want of memory.
+    /// The messages of a cut to `len` bytes: a cut of the block of the new end, if the end is inside it, and a range-delete of
+    /// all later blocks. It fails only if an allocation fails.
     pub fn cut_msgs(
         &self,
         alloc: Global,
@@ -139,7 +138,7 @@ impl BlockIndex {
         ensures messages { IfOk result (λ msgs. msgs.items ≡ cuts path.now len) }
         ensures meaning { IfOk result (λ msgs. CutsWhereMeant len path.now msgs.items) }
     {
-        // What `key` promises says that the path is one.
+        // The contract of `key` says that the path is one.
         let _key = path.key();
         let index = (len / BLOCK) as u32;
         let rest = len % BLOCK;
@@ -154,8 +153,8 @@ impl BlockIndex {
         Ok(msgs)
     }
 
-    /// The first `limit` pairs of the path's subtree, the blocks of all files at or below it, in key order, or all where
-    /// there are fewer. Each block is one more owner of its bytes. It fails only for want of memory.
+    /// The first `limit` pairs of the path's subtree, the blocks of all files at or below it, in key order, or all if there are
+    /// fewer. Each block is another reference to its bytes. It fails only if an allocation fails.
     pub fn below(
         &self,
         alloc: Global,
@@ -168,7 +167,7 @@ impl BlockIndex {
     }
 }
 
-/// The patch of one block that the bytes touch.
+/// The patch of one block that the bytes overlap.
 fn patch_block(
     alloc: Global,
     path: &Path,
@@ -191,7 +190,7 @@ fn patch_block(
     Ok(Msg::Edit(key, BlockUpdate::Patch(Patch::new(at as u16, slice))))
 }
 
-/// The bytes of a block; none where it is absent.
+/// The bytes of a block; none if it is absent.
 fn bytes_of(block: &Option<Block>) -> &[u8]
     ensures { result.now ≡ held block.now }
 {
@@ -201,7 +200,7 @@ fn bytes_of(block: &Option<Block>) -> &[u8]
     }
 }
 
-/// Puts bytes `from` to `to` of a block behind the others, with zeros for those that it lacks.
+/// Appends bytes `from` to `to` of a block, with zeros for those that it lacks.
 fn append(bytes: &mut Vec<u8>, block: &[u8], from: usize, to: usize) -> Result<(), NoMemory>
     requires order { from ≤ to }
     requires short { to ≤ 4096 }

@@ -11,7 +11,7 @@ use pathkey::NoMemory;
 use std::alloc::Global;
 use std::marker::Model;
 
-/// How many layers there are at most.
+/// The maximum number of layers.
 const MOST: usize = 128;
 
 /// Where the bytes of a layer begin in the block, where they begin among the bytes of all layers, and how many they are.
@@ -22,10 +22,10 @@ pub struct Extent {
     pub(crate) len: u16,
 }
 
-/// A cut of a block, if there is one, and then layers: bytes that are laid over it at several places.
+/// A cut of a block, if there is one, and then layers: bytes that overwrite it at several places.
 ///
-/// The first layer is the newest: it is laid over all others. What comes takes in the layers that it touches, so that each byte
-/// of the block stands once in a layer. The bytes of those that were taken in lie idle until they are half of all.
+/// The first layer is the newest: it overwrites all others. A new one absorbs the layers that it touches, so that each byte of
+/// the block is in a layer only once. The bytes of those that were absorbed are unused until they are half of all.
 pub struct LayerData {
     cut: Option<u16>,
     extents: Vec<Extent>,
@@ -57,7 +57,7 @@ impl Model for LayerData {
 }
 
 impl LayerData {
-    /// No layer, over a block that is cut to so many bytes, if it is.
+    /// No layer, over a block that is cut to `cut` bytes, if it is.
     pub(crate) fn new(alloc: Global, cut: Option<u16>) -> LayerData
         ensures { result ≡ record { cut = cut; layers = [] } }
     {
@@ -69,7 +69,7 @@ impl LayerData {
         }
     }
 
-    /// No layer, with room for so many and for so many bytes of them.
+    /// No layer, with capacity for `extents` of them and for `bytes` bytes.
     fn with_room(
         alloc: Global,
         cut: Option<u16>,
@@ -88,8 +88,8 @@ impl LayerData {
         })
     }
 
-    /// Lays bytes over the block from `off` on, newer than all layers. Where the layers would be too many, or memory is refused, all
-    /// is as it was.
+    /// Overwrites the block with bytes from `off` on, newer than all layers. If there would be too many layers, or an allocation
+    /// fails, nothing is changed.
     pub(crate) fn apply_patch(
         &mut self,
         alloc: Global,
@@ -138,8 +138,8 @@ impl LayerData {
         Ok(())
     }
 
-    /// Puts a layer in the place of those that it touches: below all others, which it does not touch. Their bytes stay, and `idle`
-    /// are then those of no layer.
+    /// Puts a layer in place of those that it touches, below all others, which it does not touch. The bytes of the former stay,
+    /// and `idle` bytes then belong to no layer.
     fn absorb_touching(
         &mut self,
         alloc: Global,
@@ -172,7 +172,7 @@ impl LayerData {
         Ok(())
     }
 
-    /// Lays bytes over the block, and leaves out those that lie idle.
+    /// Overwrites the block with bytes, and leaves out those that are unused.
     fn pack(&mut self, alloc: Global, off: usize, new: &[u8]) -> Result<(), NoMemory>
         requires { off + length new.now ≤ 4096 }
         ensures ok { OnOk result (IsApplied off new.now self.old self.new) }
@@ -190,7 +190,7 @@ impl LayerData {
         }
     }
 
-    /// These layers and then a cut to so many bytes.
+    /// These layers and then a cut to `n` bytes.
     pub(crate) fn cut_to(&self, alloc: Global, n: u16) -> Result<LayerData, NoMemory>
         ensures { IfOk result (Follows (shortened n) self.now) }
     {
@@ -208,7 +208,7 @@ impl LayerData {
         )
     }
 
-    /// These layers and then others. There are none where that would be too many.
+    /// These layers and then others. It also fails if there would be too many.
     pub(crate) fn composed(&self, alloc: Global, later: &LayerData) -> Result<LayerData, NoMemory>
         ensures { IfOk result (Follows (layered later.now) self.now) }
     {
@@ -241,7 +241,7 @@ impl LayerData {
         })
     }
 
-    /// Puts a layer below all others, and answers whether there was room for it.
+    /// Puts a layer below all others, and returns whether there was space for it.
     fn push(&mut self, alloc: Global, off: usize, run: &[u8]) -> Result<bool, NoMemory>
         requires { off + length run.now ≤ 4096 }
         ensures { IfOk result (λ fits. self.new ≡ (if fits then record { cut = self.old.cut; layers = self.old.layers ++ record { off = off; bytes = run.now } ∷ [] } else self.old)) }
@@ -259,7 +259,7 @@ impl LayerData {
         Ok(true)
     }
 
-    /// The bytes of a block with these layers, where `old` was there; none where there is no block then.
+    /// The bytes of the block `old` with these layers applied; `None` if there is no block then.
     pub(crate) fn over(
         &self,
         alloc: Global,
@@ -279,7 +279,7 @@ impl LayerData {
     }
 }
 
-/// How many bytes the layers have that lie over the bytes `new` from `off` on, or side by side with them.
+/// The number of bytes in the layers that overlap the bytes `new` from `off` on, or are adjacent to them.
 fn touched(extents: &[Extent], off: usize, new: &[u8]) -> usize
     requires { off + length new.now ≤ 4096 }
 {
@@ -314,7 +314,7 @@ fn layer_at<'a>(extents: &[Extent], bytes: &'a [u8], i: usize) -> (usize, &'a [u
     (extent.off as usize, run_of(bytes, extent))
 }
 
-/// Layers with a new one that takes in those that it touches. It lies below all others, which it does not touch.
+/// Layers with a new one that absorbs those that it touches. It is below all others, which it does not touch.
 fn joined(
     alloc: Global,
     none: LayerData,
@@ -344,7 +344,7 @@ fn joined(
     Ok(Some(kept))
 }
 
-/// Has a layer take in an older one that it touches, or puts that one among those that are kept; `false` where there was no room for it.
+/// Absorbs an older layer into `top` if they touch, and otherwise adds it to `kept`; `false` if there was no space for it.
 fn take_or_keep(
     alloc: Global,
     kept: &mut LayerData,
@@ -362,7 +362,7 @@ fn take_or_keep(
     kept.push(alloc, off, run)
 }
 
-/// Has a layer take in those that it touches, which leave the others.
+/// Absorbs into a layer those that it touches, which are removed from the others.
 fn take_all(
     alloc: Global,
     extents: &mut Vec<Extent>,
@@ -385,7 +385,7 @@ fn take_all(
     Ok(())
 }
 
-/// Layers and then those of others, as far as they lie before `end`, the oldest first. There are none where that would be too many.
+/// Layers and then those of others, as far as they are before `end`, oldest first. It also fails if there would be too many.
 fn concat_layers(
     alloc: Global,
     first: LayerData,
@@ -408,7 +408,7 @@ fn concat_layers(
     Ok(all)
 }
 
-/// The bytes of a block with layers over it, the oldest first.
+/// The bytes of a block with layers applied, oldest first.
 fn apply_all(
     alloc: Global,
     old: Vec<u8>,

@@ -9,7 +9,7 @@ use std::alloc::Global;
 use std::marker::Model;
 use std::sync::Arc;
 
-/// A cut of a block, if there is one, and then bytes that are laid over it at several places. A copy is one more owner.
+/// A cut of a block, if there is one, and then bytes that overwrite it at several places. A copy is another reference.
 pub struct Layers {
     stack: Arc<LayerData>,
 }
@@ -47,8 +47,8 @@ impl Layers {
         &self.stack
     }
 
-    /// Lays a patch over the block, newer than all layers, in their place. Where others share them, they would be too many, or memory
-    /// is refused, they are as they were.
+    /// Applies a patch to the block, newer than all layers, in place. If others share the layers, there would be too many, or an
+    /// allocation fails, they are unchanged.
     pub(crate) fn apply_patch(&mut self, alloc: Global, patch: &Patch) -> Result<(), NoMemory>
         ensures ok { OnOk result (IsApplied patch.now.off patch.now.bytes self.old self.new) }
         ensures err { OnErr result (self.new ≡ self.old) }
@@ -59,7 +59,7 @@ impl Layers {
         }
     }
 
-    /// Equal layers: one more owner.
+    /// Equal layers: another reference.
     pub(crate) fn copy(&self) -> Result<Layers, NoMemory>
         ensures { IfOk result (λ l. l ≡ self.now) }
     {

@@ -1,8 +1,8 @@
 //! The bytes of files: a buffered tree that has, at the key of each block, at most 4,096 bytes of a file.
 //!
-//! A write is one patch for each block that it reaches, whatever the file's size, and a cut is at most one shorter
-//! block and one range-delete. Contracts speak of the blocks that the index means: what messages make of them, block by
-//! block, and which bytes of the file a read gives.
+//! A write is one patch for each block that it overlaps, whatever the file's size, and a cut is at most one shorter block and one
+//! range-delete. Contracts speak of the blocks that the index means: what messages make of them, block by block, and which bytes
+//! of the file a read returns.
 #![tactic(auto)]
 
 pub mod block;

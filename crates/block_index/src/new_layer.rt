@@ -1,4 +1,4 @@
-//! A layer that comes, and takes in those that it touches.
+//! A new layer, which absorbs those that it touches.
 ghost use Rattle.std.specs.Prelude.{◌≡◌, ◌+◌, ◌≤◌, List, ℕ, Option, true, false, length, IfOk};
 ghost use Rattle.reference.specs.Indexes.{overlaid};
 
@@ -7,7 +7,7 @@ use pathkey::NoMemory;
 use std::alloc::Global;
 use std::marker::Model;
 
-/// The layer that comes, with all that it took in.
+/// The new layer, with all that it absorbed.
 #[derive(Drop)]
 pub struct NewLayer {
     off: usize,
@@ -51,7 +51,7 @@ impl NewLayer {
         self.bytes.as_slice()
     }
 
-    /// Takes in an older layer that it touches, and answers whether it did.
+    /// Absorbs an older layer if it touches it, and returns whether it did.
     pub fn take(&mut self, alloc: Global, off: usize, run: &[u8]) -> Result<bool, NoMemory>
         requires { off + length run.now ≤ 4096 }
         ensures taken { IfOk result (λ did. did ≡ true → (old : Option (List ℕ)) → overlaid self.new.off self.new.bytes old ≡ overlaid self.old.off self.old.bytes (overlaid off run.now old)) }
@@ -60,7 +60,7 @@ impl NewLayer {
         if !touches(off, run, self.off, self.bytes.as_slice()) {
             return Ok(false);
         }
-        // What lies below these bytes alone adds none, and so asks for no memory.
+        // A layer that these bytes cover entirely adds none, and so needs no memory.
         if self.off <= off && off + run.len() <= self.off + self.bytes.len() {
             return Ok(true);
         }

@@ -1,4 +1,4 @@
-//! Patches: bytes that are laid over a block.
+//! Patches: bytes that overwrite those of a block.
 ghost use Rattle.std.specs.Prelude.{◌≡◌, ◌+◌, ◌≤◌, ◌-◌, length, min, IfOk, IfSome, Option, List, ℕ};
 ghost use Rattle.block_index.specs.Patches.{is_touching, joined};
 ghost use Rattle.reference.specs.Indexes.{overlaid};
@@ -8,7 +8,7 @@ use pathkey::NoMemory;
 use std::alloc::Global;
 use std::marker::Model;
 
-/// Bytes that are laid over a block from an offset on. They end inside the block.
+/// Bytes that overwrite those of a block from an offset on. They end inside the block.
 pub struct Patch {
     off: u16,
     bytes: Bytes,
@@ -57,14 +57,14 @@ impl Patch {
         self.bytes.as_slice()
     }
 
-    /// One more owner of its bytes.
+    /// Another reference to its bytes.
     pub fn share(&self) -> Result<Bytes, NoMemory>
         ensures { IfOk result (λ b. b ≡ self.now.bytes) }
     {
         Ok(self.bytes.clone()?)
     }
 
-    /// An equal patch: one more owner of its bytes.
+    /// An equal patch: another reference to its bytes.
     pub fn copy(&self) -> Result<Patch, NoMemory>
         ensures { IfOk result (λ p. p ≡ self.now) }
     {
@@ -74,8 +74,8 @@ impl Patch {
         })
     }
 
-    /// This patch and then `later` as one, where each begins at or before the other's end. Where the later one covers
-    /// this one, it stands alone.
+    /// This patch and then `later` as one, if each begins at or before the other's end. If the later one covers this one, the
+    /// result is the later one.
     pub fn join(&self, alloc: Global, later: &Patch) -> Result<Option<Patch>, NoMemory>
         ensures { IfOk result (λ r. IfSome r (λ p. (old : Option (List ℕ)) → overlaid p.off p.bytes old ≡ overlaid later.now.off later.now.bytes (overlaid self.now.off self.now.bytes old))) }
     {
@@ -93,7 +93,7 @@ impl Patch {
     }
 }
 
-/// Whether the bytes `v` from `a` on and `w` from `c` on lie over one another or side by side.
+/// Whether the bytes `v` from `a` on and `w` from `c` on overlap or are adjacent.
 pub(crate) fn touches(a: usize, v: &[u8], c: usize, w: &[u8]) -> bool
     requires short { (a + length v.now ≤ 4096) × (c + length w.now ≤ 4096) }
     ensures { result ≡ is_touching a v.now c w.now }
@@ -101,7 +101,7 @@ pub(crate) fn touches(a: usize, v: &[u8], c: usize, w: &[u8]) -> bool
     c <= a + v.len() && a <= c + w.len()
 }
 
-/// The bytes `w` from `c` on laid over the bytes `v` from `a` on.
+/// The bytes `v` from `a` on, overwritten by the bytes `w` from `c` on.
 pub(crate) fn join_bytes(
     alloc: Global,
     a: usize,

@@ -12,12 +12,12 @@ use message::{Update, UpdateTarget};
 use pathkey::NoMemory;
 use std::alloc::Global;
 
-/// A change of a block. Only a patch makes a block where none was.
+/// A change of a block. Only a patch creates a block if there was none.
 #[derive(Drop)]
 pub enum BlockUpdate {
-    /// The bytes are laid over the block, which is lengthened by zeros where it is shorter.
+    /// The bytes overwrite those of the block, which is extended with zeros if it is shorter.
     Patch(Patch),
-    /// The block keeps its first bytes, so many.
+    /// The block keeps its first bytes, at most this many.
     CutTo(u16),
     /// Several of both, one after the other.
     Layers(Layers),
@@ -60,8 +60,8 @@ impl Update for BlockUpdate {
         Ok(true)
     }
 
-    /// Two cuts are one to the smaller length, and two patches that touch are one patch. All others are layers, where those are not too
-    /// many and memory is there.
+    /// Two cuts become one to the smaller length, and two patches that touch become one patch. All others become layers, if there
+    /// are not too many and no allocation fails.
     fn join(&self, alloc: Global, later: &BlockUpdate) -> Result<Option<BlockUpdate>, NoMemory> {
         match (self, later) {
             (BlockUpdate::CutTo(m), BlockUpdate::CutTo(n)) => {
@@ -77,7 +77,7 @@ impl Update for BlockUpdate {
         }
     }
 
-    /// Layers that nobody else holds take in a patch in their place.
+    /// Layers that are not shared absorb a patch in place.
     fn join_in_place(&mut self, alloc: Global, later: &BlockUpdate) -> bool {
         if let (BlockUpdate::Layers(layers), BlockUpdate::Patch(patch)) = (&mut *self, later) {
             if layers.apply_patch(alloc, patch).is_ok() {
@@ -105,7 +105,7 @@ impl Update for BlockUpdate {
 }
 
 impl BlockUpdate {
-    /// This update and then `later`, as layers. There are none where those would be too many.
+    /// This update and then `later`, as layers. It also fails if there would be too many.
     fn composed(&self, alloc: Global, later: &BlockUpdate) -> Result<BlockUpdate, NoMemory>
         ensures { IfOk result (λ u. (old : Option (List ℕ)) → meant u old ≡ meant later.now (meant self.now old)) }
     {
@@ -128,7 +128,7 @@ fn as_layer(alloc: Global, patch: &Patch) -> Result<LayerData, NoMemory>
     Ok(stack)
 }
 
-/// The layers and then an update. There are none where they would be too many.
+/// The layers and then an update. It also fails if there would be too many.
 fn with_update(alloc: Global, first: LayerData, later: &BlockUpdate) -> Result<LayerData, NoMemory>
     ensures { IfOk result (Follows (meant later.now) first) }
 {

@@ -20,7 +20,7 @@ pub struct Batch {
     pub block: Vec<Msg<BlockUpdate>>,
 }
 
-/// A reply that comes without messages.
+/// A reply without messages.
 pub(crate) fn without_messages(alloc: Global, reply: Reply) -> (Reply, Batch)
     ensures reply { result.0 ≡ reply }
     ensures messages { messages result.1 ≡ no_messages }
@@ -30,7 +30,7 @@ pub(crate) fn without_messages(alloc: Global, reply: Reply) -> (Reply, Batch)
     (reply, Batch { meta, block })
 }
 
-/// What a call that is refused comes to.
+/// The result of a call that fails.
 pub(crate) fn refused(alloc: Global, fault: Errno) -> (Reply, Batch)
     ensures reply { result.0 ≡ Reply.Fault fault }
     ensures messages { messages result.1 ≡ no_messages }
@@ -38,7 +38,7 @@ pub(crate) fn refused(alloc: Global, fault: Errno) -> (Reply, Batch)
     without_messages(alloc, Reply::Fault(fault))
 }
 
-/// What a call that is done by a message for the metadata and messages for blocks comes to.
+/// The result of a call that is done by a message for the metadata and messages for blocks.
 pub(crate) fn done(
     alloc: Global,
     reply: Reply,
@@ -53,8 +53,8 @@ pub(crate) fn done(
     Ok((reply, Batch { meta, block }))
 }
 
-/// What a call that puts an entry into a directory, or takes one out, by a message for the metadata and messages for blocks
-/// comes to: it is done, and the directory gets the moment.
+/// The result of a call that adds an entry to a directory, or removes one, by a message for the metadata and messages for blocks:
+/// it succeeds, and the directory gets the mtime `at`.
 pub(crate) fn done_in(
     alloc: Global,
     directory: ParentDir,

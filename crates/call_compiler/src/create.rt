@@ -1,4 +1,4 @@
-//! Calls that make an entry: `mkdir` and `create`.
+//! Calls that create an entry: `mkdir` and `create`.
 ghost use Rattle.std.specs.Prelude.{◌≡◌, IfOk};
 ghost use Rattle.std.specs.Result.{result_err};
 ghost use Rattle.call_compiler.specs.Compiled.{IsCompiled, messages};
@@ -16,7 +16,7 @@ use pathkey::{Errno, NoMemory, Path};
 use reference::{Call, Reply};
 use std::alloc::Global;
 
-/// Makes an empty directory (POSIX.1-2017, mkdir).
+/// Creates an empty directory (POSIX.1-2017, mkdir).
 pub fn mkdir(
     alloc: Global,
     indexes: &Indexes,
@@ -34,7 +34,7 @@ pub fn mkdir(
     done_in(alloc, directory, at, put, Vec::new(alloc))
 }
 
-/// Makes an empty file (open with O_CREAT and O_EXCL, without a descriptor).
+/// Creates an empty file (open with O_CREAT and O_EXCL, without a descriptor).
 pub fn create(
     alloc: Global,
     indexes: &Indexes,
@@ -58,7 +58,7 @@ pub fn create(
     done_in(alloc, directory, at, put, Vec::new(alloc))
 }
 
-/// The directory of the path, where a new entry can be made there; or why none can.
+/// The parent directory of the path, if a new entry can be created there; or why none can.
 fn directory_of_new(
     alloc: Global,
     indexes: &Indexes,

@@ -1,4 +1,4 @@
-//! The moments of directories: the messages that set them, and whether the root gets one.
+//! The mtimes of directories: the messages that set them, and whether that of the root is set.
 ghost use Rattle.std.specs.Prelude.{◌≡◌, ◌∷◌, [], ◌++◌, IfOk, None, OnOk};
 ghost use Rattle.std.specs.List.{list_any};
 ghost use Rattle.call_compiler.specs.Compiled.{touches, touches_root};
@@ -11,17 +11,17 @@ use pathkey::{NoMemory, Path};
 use reference::Call;
 use std::alloc::Global;
 
-/// A directory in which a call puts an entry or takes one out.
+/// A directory in which a call adds or removes an entry.
 #[derive(Drop)]
 pub(crate) struct ParentDir {
-    /// Where it stands.
+    /// Its path.
     pub(crate) path: Path,
-    /// Its moment of last change, if the call has looked it up.
+    /// Its mtime, if the call has looked it up.
     pub(crate) modified: Option<u64>,
 }
 
 impl ParentDir {
-    /// Whether the directory is known to have the moment.
+    /// Whether the directory is known to have this mtime.
     fn has_moment(&self, at: u64) -> bool
         ensures { result ≡ has_moment at self.now }
     {
@@ -32,7 +32,7 @@ impl ParentDir {
     }
 }
 
-/// The directory of a path, which is not looked up; the root is its own.
+/// The parent directory of a path, which is not looked up; the root is its own.
 pub(crate) fn directory_of(alloc: Global, path: &Path) -> Result<ParentDir, NoMemory>
     ensures path { IfOk result (λ d. d.path ≡ parent path.now) }
     ensures moment { IfOk result (λ d. d.modified ≡ None) }
@@ -47,8 +47,8 @@ pub(crate) fn directory_of(alloc: Global, path: &Path) -> Result<ParentDir, NoMe
     })
 }
 
-/// Puts the message that sets the directory's moment behind the others, unless the directory is known to have it. The message takes the
-/// key out of the directory's path.
+/// Appends the message that sets the directory's mtime, unless the directory is known to have it. The message takes the key out
+/// of the directory's path.
 pub(crate) fn touch(
     alloc: Global,
     msgs: &mut Vec<Msg<MetaUpdate>>,
@@ -64,7 +64,7 @@ pub(crate) fn touch(
     Ok(())
 }
 
-/// Puts the messages for the directories of two paths behind the others, one where they are one.
+/// Appends the messages for the directories of two paths, only one if they are the same.
 pub(crate) fn touch_directories(
     alloc: Global,
     msgs: &mut Vec<Msg<MetaUpdate>>,
@@ -84,7 +84,7 @@ pub(crate) fn touch_directories(
     touch(alloc, msgs, to, at)
 }
 
-/// Whether the call, where it is done, gives the root its moment: it puts or takes out an entry of it. It takes no memory.
+/// Whether the call, if it succeeds, sets the root's mtime: it adds or removes an entry of it. It allocates no memory.
 pub fn touches_root(call: &Call) -> bool
     ensures { result ≡ touches_root call.now }
 {
@@ -103,7 +103,7 @@ pub fn touches_root(call: &Call) -> bool
     }
 }
 
-/// Whether a call that puts or takes out the path's entry gives the root its moment. It takes no memory.
+/// Whether a call that adds or removes the path's entry sets the root's mtime. It allocates no memory.
 pub fn is_root_child(path: &Path) -> bool
     ensures { result ≡ list_any is_root (parent path.now ∷ []) }
 {
@@ -114,7 +114,7 @@ pub fn is_root_child(path: &Path) -> bool
     rest.split_first().is_none()
 }
 
-/// Whether a rename gives the root its moment. It takes no memory.
+/// Whether a rename sets the root's mtime. It allocates no memory.
 pub fn renames_root_child(old: &Path, new: &Path) -> bool
     ensures { result ≡ touches_root (Call.Rename old.now new.now) }
 {

@@ -1,4 +1,4 @@
-//! How long a file is.
+//! The length of a file.
 ghost use Rattle.std.specs.Prelude.{◌≢◌, ◌≤◌, ◌^◌, [], IfOk};
 ghost use Rattle.call_compiler.specs.Compiled.{MeanTree};
 ghost use Rattle.call_compiler.specs.Measured.{TellsLength};
@@ -9,7 +9,7 @@ use crate::indexes::Indexes;
 use pathkey::{Errno, NoMemory, Path};
 use std::alloc::Global;
 
-/// The length of the file at the path in bytes, at most 2^40; or why none stands there, EISDIR where a directory does.
+/// The length of the file at the path in bytes, at most 2^40; or why there is none, EISDIR if a directory is there.
 pub fn file_length(
     alloc: Global,
     indexes: &Indexes,

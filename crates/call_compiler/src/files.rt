@@ -19,24 +19,24 @@ use reference::GREATEST_FILE;
 use scan::first_in;
 use std::alloc::Global;
 
-/// A file that stands at a path.
+/// A file at a path.
 #[derive(Clone, Copy)]
 pub(crate) struct FoundFile {
     /// Its length in bytes.
     pub(crate) len: u64,
-    /// Its moment of last change.
+    /// Its mtime.
     pub(crate) modified: u64,
 }
 
 impl FoundFile {
-    /// Whether it has at least so many bytes, and the moment.
+    /// Whether it has at least `end` bytes, and the mtime `at`.
     pub(crate) fn has_grown(self, end: u64, at: u64) -> bool
         ensures { result ≡ has_grown end at self.len self.modified }
     {
         end <= self.len && self.modified == at
     }
 
-    /// Whether it has just so many bytes, and the moment.
+    /// Whether it has exactly `len` bytes, and the mtime `at`.
     pub(crate) fn has_exactly(self, len: u64, at: u64) -> bool
         ensures { result ≡ (self.len == len && (self.modified == at)) }
     {
@@ -44,7 +44,7 @@ impl FoundFile {
     }
 }
 
-/// The file at the path; or why none stands there, `directory` where a directory does.
+/// The file at the path; or why there is none, `directory` if a directory is there.
 pub(crate) fn find_file(
     alloc: Global,
     indexes: &Indexes,
@@ -63,7 +63,7 @@ pub(crate) fn find_file(
     Ok(file_of(at, directory))
 }
 
-/// The file that stands at a path; or why none stands there. No file is longer than the limit.
+/// The file at a path; or why there is none. No file is longer than the limit.
 fn file_of(at: At, directory: Errno) -> Result<FoundFile, Errno>
     ensures reported { (here : trees.At) → at ≡ lookup_answer here → IsShort here → TellsFile here directory result }
     ensures short { IfOk result (λ f. f.len ≤ 2 ^ 40) }
@@ -71,7 +71,7 @@ fn file_of(at: At, directory: Errno) -> Result<FoundFile, Errno>
 {
     match at {
         At::Found(Meta::File { len, modified }) => Ok(FoundFile {
-            // The bound is not met in a tree: it stands for the checker.
+            // The bound has no effect in a tree: it is for the checker.
             len: len.min(GREATEST_FILE),
             modified,
         }),
@@ -81,7 +81,7 @@ fn file_of(at: At, directory: Errno) -> Result<FoundFile, Errno>
     }
 }
 
-/// The message that takes out the blocks of the file at the path; none where it has neither a byte nor a block.
+/// The message that deletes the blocks of the file at the path; none if it has neither a byte nor a block.
 pub(crate) fn without_blocks(
     alloc: Global,
     indexes: &Indexes,
@@ -101,8 +101,8 @@ pub(crate) fn without_blocks(
     Ok(msgs)
 }
 
-/// Whether there may be a block in the range, where the blocks of a file stand. Of a file with bytes none is asked for:
-/// the search would cost more than a range-delete.
+/// Whether there may be a block in the range, which holds the blocks of a file. A file with bytes is not searched for one: the
+/// search would cost more than a range-delete.
 fn may_have_blocks(
     alloc: Global,
     indexes: &Indexes,

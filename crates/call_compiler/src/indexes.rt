@@ -1,4 +1,4 @@
-//! The indexes of a file system, which a call asks and to which its messages go.
+//! The indexes of a file system, which a call reads and to which its messages are appended.
 ghost use Rattle.std.specs.Prelude.{◌≡◌, [], IfOk, IsTrue, OnErr, OnOk};
 ghost use Rattle.call_compiler.specs.Compiled.{MeanTree, messages};
 ghost use Rattle.call_compiler.specs.Laws.{HaveTaken};
@@ -15,14 +15,14 @@ use std::alloc::Global;
 /// The indexes of a file system.
 #[derive(Drop)]
 pub struct Indexes {
-    /// What stands at each path.
+    /// The metadata of each path.
     pub meta: MetaIndex,
     /// The bytes of each file.
     pub block: BlockIndex,
 }
 
 impl Indexes {
-    /// The indexes of the empty root directory, of moment 0, in new trees of this shape. It fails only for want of memory.
+    /// The indexes of the empty root directory, with mtime 0, in new trees of this shape. It fails only if an allocation fails.
     pub fn new(alloc: Global, shape: Shape) -> Result<Indexes, NoMemory>
         requires { IsTrue (is_shape shape) }
         ensures meta_shape { IfOk result (λ i. i.meta.tree.shape ≡ shape) }
@@ -34,7 +34,7 @@ impl Indexes {
         Ok(Indexes { meta, block })
     }
 
-    /// The same indexes, as one more owner of both trees. Later changes of either do not touch the other.
+    /// The same indexes, as another reference to both trees. Later changes of either do not affect the other.
     pub fn share(&self) -> Result<Indexes, NoMemory>
         ensures { IfOk result (λ i. i ≡ self.now) }
     {
@@ -46,8 +46,8 @@ impl Indexes {
         })
     }
 
-    /// Puts the messages of a batch into both trees, whole or not at all. It fails only for want of memory; a tree that
-    /// gets no message is not touched.
+    /// Appends the messages of a batch to both trees atomically. It fails only if an allocation fails; a tree that gets no
+    /// message is not changed.
     pub fn append(&mut self, alloc: Global, batch: Batch) -> Result<(), NoMemory>
         ensures done { OnOk result (HaveTaken (messages batch) self.old self.new) }
         ensures no_meta { batch.meta.items ≡ [] → self.new.meta ≡ self.old.meta }

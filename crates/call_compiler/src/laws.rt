@@ -1,4 +1,4 @@
-//! What a batch is for, what a write leaves out, and which calls give the root their moment.
+//! What a batch is for, what a write leaves out, and which calls set the root's mtime.
 ghost use Rattle.call_compiler.specs.Laws.{AppendLaw, GrowthLaw, RootLaw};
 
 /// An index to which the messages of a call were appended means the tree after the call.
@@ -6,13 +6,13 @@ pub fn appends()
     ensures { AppendLaw }
 {}
 
-/// The root has the moment of a call that puts or takes out an entry of it, and else keeps its own.
+/// The root gets as its mtime the timestamp of a call that adds or removes an entry of it, and otherwise keeps its own.
 pub fn root_mtimes()
     ensures { RootLaw }
 {}
 
-/// Where the indexes mean a tree, a write leaves the message for the length out just where the file of that tree has the length
-/// and the moment already.
+/// If the indexes mean a tree, a write leaves out the message for the length exactly if the file of that tree has the length and
+/// the mtime already.
 pub fn growths()
     ensures { GrowthLaw }
 {}

@@ -1,8 +1,8 @@
 //! File calls compiled to their replies and to messages.
 //!
-//! A call asks the indexes what it has to know, and answers by a reply and a few messages, which do what the call does
-//! once they are appended. Contracts speak of the directory tree that the indexes mean: the reply is the one that the
-//! table of calls gives for this tree, and after the messages the indexes mean the tree that the table makes of it.
+//! A call reads from the indexes what it needs, and returns a reply and a few messages, which do what the call does once they are
+//! appended. Contracts speak of the directory tree that the indexes mean: the reply is the one that the table of calls gives for
+//! this tree, and after the messages the indexes mean the tree that the table makes of it.
 #![tactic(auto)]
 
 ghost use Rattle.std.specs.Prelude.{IfOk};
@@ -30,8 +30,8 @@ pub use batch::Batch;
 pub use indexes::Indexes;
 pub use reference::{Call, Reply};
 
-/// The reply to a file call at a moment, and the messages that do it. It changes nothing, and fails only for want of
-/// memory.
+/// The reply to a file call at a timestamp, and the messages that do it. It changes nothing, and fails only if an allocation
+/// fails.
 pub fn compile(
     alloc: Global,
     indexes: &Indexes,

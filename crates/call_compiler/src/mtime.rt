@@ -11,7 +11,7 @@ use pathkey::{NoMemory, Path};
 use reference::Reply;
 use std::alloc::Global;
 
-/// Sets the mtime of the file or directory at the path, or of the root (POSIX.1-2017, utimensat). It sends one message.
+/// Sets the mtime of the file or directory at the path, or of the root (POSIX.1-2017, utimensat). It sends at most one message.
 pub fn set_mtime(
     alloc: Global,
     indexes: &Indexes,

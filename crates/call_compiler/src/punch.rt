@@ -17,11 +17,11 @@ use pathkey::{Errno, KeyRange, NoMemory, Path, block_key};
 use reference::Reply;
 use std::alloc::Global;
 
-/// Makes zeros of `count` bytes of a file from the offset on, as far as the file reaches: what a write of as many zeros
-/// makes of the tree, and its reply. Where none lies within the file nothing changes.
+/// Sets `count` bytes of a file from the offset on to zero, up to the end of the file: its effect on the tree and its reply are
+/// those of a write of as many zeros. If none is within the file, nothing changes.
 ///
-/// However many they are, it sends at most one range-delete, of the blocks that lie whole among them, two patches, for those
-/// at the ends where they are stored, and the message that gives the file the moment.
+/// However many they are, it sends at most one range-delete, of the blocks that are entirely among them, two patches, for those
+/// at the ends if they are stored, and the message that sets the file's mtime.
 pub fn punch(
     alloc: Global,
     indexes: &Indexes,
@@ -47,7 +47,7 @@ pub fn punch(
     Ok((Reply::Count(len), Batch { meta, block }))
 }
 
-/// How many of `count` bytes from the offset on lie within the file.
+/// How many of `count` bytes from the offset on are within the file.
 fn reached(file: FoundFile, offset: u64, count: u64) -> u64
     ensures value { result ≡ reached_of file.len offset count }
     ensures within { (0 < result) → (offset + result ≤ file.len) }
@@ -55,7 +55,8 @@ fn reached(file: FoundFile, offset: u64, count: u64) -> u64
     file.len.saturating_sub(offset).min(count)
 }
 
-/// The messages that make zeros of the bytes of a file from `from` up to and without `end`: the blocks that lie whole among them go.
+/// The messages that set the bytes of a file from `from` up to but excluding `end` to zero: the blocks that are entirely among
+/// them are deleted.
 fn hole(
     alloc: Global,
     index: &BlockIndex,
@@ -79,8 +80,8 @@ fn hole(
     Ok(msgs)
 }
 
-/// Puts the patch that lays zeros over the bytes of one block, from `from` up to and without `to`, behind the others. There is none where
-/// there are no such bytes, and where the block is not stored, since it has only zeros then.
+/// Appends the patch that overwrites the bytes of one block, from `from` up to but excluding `to`, with zeros. There is none if
+/// there are no such bytes, or if the block is not stored, since it has only zeros then.
 fn push_zeros(
     alloc: Global,
     index: &BlockIndex,
@@ -106,7 +107,7 @@ fn push_zeros(
     Ok(())
 }
 
-/// So many zeros.
+/// `count` zeros.
 fn zeros(alloc: Global, count: usize) -> Result<Bytes, NoMemory>
     ensures { IfOk result (λ bytes. bytes ≡ replicate count 0) }
 {
@@ -115,8 +116,8 @@ fn zeros(alloc: Global, count: usize) -> Result<Bytes, NoMemory>
     Ok(Bytes::from_vec(zeros)?)
 }
 
-/// Puts the range-delete of the blocks of a path from number `first` up to and without `end` behind the others; none where there are
-/// no such blocks.
+/// Appends the range-delete of the blocks of a path from index `first` up to but excluding `end`; none if there are no such
+/// blocks.
 fn push_range(
     alloc: Global,
     path: &Path,

@@ -12,7 +12,7 @@ use pathkey::{Errno, NoMemory, Path};
 use reference::{Call, FileBytes, GREATEST_READ, Listing, Reply};
 use std::alloc::Global;
 
-/// Reads from the offset on at most `count` bytes of a file, none past its end (POSIX.1-2017, pread).
+/// Reads at most `count` bytes of a file from the offset on, none past its end (POSIX.1-2017, pread).
 pub fn read(
     alloc: Global,
     indexes: &Indexes,
@@ -34,7 +34,7 @@ pub fn read(
     Ok(without_messages(alloc, Reply::Data(data)))
 }
 
-/// What stands at the path (stat).
+/// The metadata of the entry at the path (stat).
 pub fn stat(alloc: Global, indexes: &Indexes, path: &Path) -> Result<(Reply, Batch), NoMemory>
     ensures { (at : ℕ) → IfOk result (λ c. IsCompiled indexes.now (Call.Stat path.now) at c.0 (messages c.1)) }
 {
@@ -42,7 +42,7 @@ pub fn stat(alloc: Global, indexes: &Indexes, path: &Path) -> Result<(Reply, Bat
     Ok(without_messages(alloc, reply_of(at)))
 }
 
-/// Kind, length and moment of what stands at a path, or why nothing does.
+/// Kind, length and mtime of the entry at a path, or why there is none.
 fn reply_of(at: At) -> Reply
     ensures { (here : trees.At) → at ≡ lookup_answer here → result ≡ stat_at here }
 {

@@ -1,4 +1,4 @@
-//! Calls that take an entry out: `unlink`, `rmdir` and `rmtree`.
+//! Calls that remove an entry: `unlink`, `rmdir` and `rmtree`.
 ghost use Rattle.std.specs.Prelude.{◌≡◌, [], ◌∷◌, IfOk, not};
 ghost use Rattle.call_compiler.specs.Compiled.{IsCompiled, messages};
 ghost use Rattle.meta_index.specs.Means.{IsMeantBy, lookup_answer};
@@ -15,7 +15,7 @@ use pathkey::{Errno, NoMemory, Path, subtree};
 use reference::{Call, Reply};
 use std::alloc::Global;
 
-/// Takes a file out, with all its blocks (POSIX.1-2017, unlink). A directory is refused.
+/// Removes a file, with all its blocks (POSIX.1-2017, unlink). It fails with EPERM for a directory.
 pub fn unlink(
     alloc: Global,
     indexes: &Indexes,
@@ -34,7 +34,7 @@ pub fn unlink(
     done_in(alloc, directory, at, Msg::Del(key.copy(alloc)?), block)
 }
 
-/// Takes an empty directory out (rmdir).
+/// Removes an empty directory (rmdir).
 pub fn rmdir(
     alloc: Global,
     indexes: &Indexes,
@@ -52,7 +52,7 @@ pub fn rmdir(
     done_in(alloc, directory, at, del, Vec::new(alloc))
 }
 
-/// Why no empty directory can be taken out at the path; none where one can.
+/// Why no empty directory can be removed at the path; `None` if one can.
 fn fault_of_rmdir(alloc: Global, indexes: &Indexes, path: &Path) -> Result<Option<Errno>, NoMemory>
     ensures { IfOk result (λ fault. (t : Tree) → IsMeantBy t indexes.now.meta → fault ≡ first_fault (faults_of_rmdir t path.now)) }
 {
@@ -69,10 +69,10 @@ fn fault_of_rmdir(alloc: Global, indexes: &Indexes, path: &Path) -> Result<Optio
     Ok(Some(Errno::ENOTEMPTY))
 }
 
-/// Whether nothing stands below the path.
+/// Whether nothing exists below the path.
 ///
-/// Likely names are looked up first: only where none is found does the search for the first pair run, which passes every
-/// removed name.
+/// Likely names are looked up first: only if none is found does the search for the first pair run, which passes every removed
+/// name.
 pub(crate) fn is_empty_dir(alloc: Global, indexes: &Indexes, path: &Path) -> Result<bool, NoMemory>
     ensures { IfOk result (λ empty. (t : Tree) → IsMeantBy t indexes.now.meta → empty ≡ not (is_full (entry_at t path.now))) }
 {
@@ -83,9 +83,9 @@ pub(crate) fn is_empty_dir(alloc: Global, indexes: &Indexes, path: &Path) -> Res
     indexes.meta.is_empty_dir(alloc, path)
 }
 
-/// Takes out what stands at the path, with all that lies below it.
+/// Removes the entry at the path, with everything below it.
 ///
-/// It sends one range-delete to each index, whatever lies below.
+/// It sends one range-delete to each index, whatever is below.
 pub fn rmtree(
     alloc: Global,
     indexes: &Indexes,
@@ -94,7 +94,7 @@ pub fn rmtree(
 ) -> Result<(Reply, Batch), NoMemory>
     ensures { IfOk result (λ c. IsCompiled indexes.now (Call.Rmtree path.now) at c.0 (messages c.1)) }
 {
-    // What `key` promises says that the path is one.
+    // The contract of `key` says that the path is one.
     let _key = path.key();
     let here = indexes.meta.find(alloc, path)?;
     if let Some(fault) = fault_of_taking(path, here) {
@@ -107,7 +107,7 @@ pub fn rmtree(
     done_in(alloc, directory, at, Msg::DelRange(range), block)
 }
 
-/// Why no entry with all below it can be taken out of its place, or moved from it, where `here` was found; none where one can.
+/// Why no entry can be removed with everything below it, or moved, where `here` was found; `None` if one can.
 pub(crate) fn fault_of_taking(path: &Path, here: At) -> Option<Errno>
     ensures { (t : Tree) → here ≡ lookup_answer (entry_at t path.now) → result ≡ first_fault (faults_of_rmtree t path.now) }
 {

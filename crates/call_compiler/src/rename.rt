@@ -21,12 +21,12 @@ use pathkey::{Errno, NoMemory, Path, blocks_from, subtree};
 use reference::{Call, Reply};
 use std::alloc::Global;
 
-/// Moves what stands at `old`, with all that lies below it, to `new`, where it replaces a file or an empty directory
-/// (POSIX.1-2017, rename). What stands at `old` stays there where both paths are one.
+/// Moves the entry at `old`, with everything below it, to `new`, where it replaces a file or an empty directory (POSIX.1-2017,
+/// rename). The entry at `old` stays there if both paths are the same.
 ///
-/// Each entry and each block at or below `old` is put under its new key, and then one range-delete in each index takes out what
-/// stood at or below `old`; the blocks of a file that is replaced go before all else, and the moments of both directories
-/// come last. No byte of a file is copied.
+/// Each entry and each block at or below `old` is put under its new key, and then one range-delete in each index removes what was
+/// at or below `old`; the blocks of a file that is replaced are removed before all else, and the mtimes of both directories are
+/// set last. No byte of a file is copied.
 pub fn rename(
     alloc: Global,
     indexes: &Indexes,
@@ -36,7 +36,7 @@ pub fn rename(
 ) -> Result<(Reply, Batch), NoMemory>
     ensures { IfOk result (λ c. IsCompiled indexes.now (Call.Rename old.now new.now) at c.0 (messages c.1)) }
 {
-    // What `key` promises says that both paths are paths.
+    // The contract of `key` says that both paths are paths.
     let _old_key = old.key();
     let _new_key = new.key();
     let from = indexes.meta.find(alloc, old)?;
@@ -61,7 +61,7 @@ pub fn rename(
 }
 
 /// Why `from`, which was found at `old`, cannot be put at `new`, another path, where `to` was found, whatever the length of its
-/// texts; none where it can.
+/// texts; `None` if it can.
 fn fault_of_place(
     alloc: Global,
     indexes: &Indexes,
@@ -82,7 +82,7 @@ fn fault_of_place(
     Ok(fault_of_replacing(from, to, empty))
 }
 
-/// Whether nothing stands below the path, where `here` was found. The index is asked of a directory alone.
+/// Whether nothing exists below the path, where `here` was found. The index is read only for a directory.
 fn is_empty_there(alloc: Global, indexes: &Indexes, path: &Path, here: At) -> Result<bool, NoMemory>
     ensures { IfOk result (λ empty. (t : trees.Tree) → IsMeantBy t indexes.now.meta → here ≡ lookup_answer (trees.entry_at t path.now) → empty ≡ not (is_full (trees.entry_at t path.now))) }
 {
@@ -93,7 +93,7 @@ fn is_empty_there(alloc: Global, indexes: &Indexes, path: &Path, here: At) -> Re
     }
 }
 
-/// Whether a directory stands at a path.
+/// Whether a directory is at a path.
 fn is_directory(at: At) -> bool
     ensures { (here : trees.At) → at ≡ lookup_answer here → result ≡ stands_directory here }
 {
@@ -105,7 +105,7 @@ fn is_directory(at: At) -> bool
     }
 }
 
-/// Why what stands at one path cannot take the place of what stands at another, below which nothing stands or something.
+/// Why the entry at one path cannot replace what is at another; `empty` says whether nothing exists below the other.
 fn fault_of_replacing(from: At, to: At, empty: bool) -> Option<Errno>
     ensures { (a b : trees.At) → from ≡ lookup_answer a → to ≡ lookup_answer b → empty ≡ not (is_full b) → path_fault a ≡ None → result ≡ first_fault (faults_of_replacing a b) }
 {
@@ -115,12 +115,12 @@ fn fault_of_replacing(from: At, to: At, empty: bool) -> Option<Errno>
         (At::Found(Meta::Dir { .. }), At::Found(Meta::Dir { .. })) if !empty => Some(
             Errno::ENOTEMPTY,
         ),
-        // Nothing stands there, a file takes a file's place, or a directory an empty one's.
+        // Nothing exists there, a file replaces a file, or a directory an empty one.
         _ => None,
     }
 }
 
-/// The message that takes out the blocks of a file at the path, where `to` was found; none where that is no file.
+/// The message that deletes the blocks of a file at the path, where `to` was found; none if that is not a file.
 fn delete_target_blocks(
     alloc: Global,
     to: At,
@@ -136,7 +136,7 @@ fn delete_target_blocks(
     Ok(msgs)
 }
 
-/// Whether a file stands at the path, where `here` was found. None stands at the root of a tree.
+/// Whether a file is at the path, where `here` was found. The root of a tree is not a file.
 fn has_file(path: &Path, here: At) -> bool
     ensures file { (t : trees.Tree) → IsTree t → here ≡ lookup_answer (trees.entry_at t path.now) → result ≡ is_file (trees.entry_at t path.now) }
     ensures below { result ≡ true → path.now ≢ [] }
@@ -149,8 +149,8 @@ fn has_file(path: &Path, here: At) -> bool
     }
 }
 
-/// The batch of a rename: behind the messages, a range-delete in each index over what lies at or below the old path, and
-/// the moments of both directories.
+/// The batch of a rename: after the messages, a range-delete in each index over what is at or below the old path, and the mtimes
+/// of both directories.
 fn with_source_deleted(
     alloc: Global,
     old: &Path,

@@ -15,7 +15,7 @@ use pathkey::{Errno, Key, NoMemory, Path};
 use reference::{Call, GREATEST_FILE, Reply, fits_file};
 use std::alloc::Global;
 
-/// Lays bytes over a file from the offset on (POSIX.1-2017, pwrite). No bytes change nothing, at any offset.
+/// Writes bytes to a file from the offset on (POSIX.1-2017, pwrite). A write of no bytes changes nothing, at any offset.
 pub fn write(
     alloc: Global,
     indexes: &Indexes,
@@ -43,7 +43,7 @@ pub fn write(
     Ok((Reply::Count(len), Batch { meta, block }))
 }
 
-/// The message that raises the length of the file at the key to `end` and gives it the moment; none where it has both.
+/// The message that raises the length of the file at the key to `end` and sets its mtime; none if it has both.
 pub(crate) fn growth(
     alloc: Global,
     key: &Key,
@@ -60,7 +60,7 @@ pub(crate) fn growth(
     Ok(msgs)
 }
 
-/// How many bytes there are.
+/// The number of bytes.
 fn count(bytes: &[u8]) -> u64
     ensures value { result ≡ length bytes.now }
     ensures bytes { AreBytes bytes.now }
@@ -68,7 +68,7 @@ fn count(bytes: &[u8]) -> u64
     bytes.len() as u64
 }
 
-/// Cuts a file to a length, or lengthens it by zeros (truncate).
+/// Cuts a file to a length, or extends it with zeros (truncate).
 pub fn truncate(
     alloc: Global,
     indexes: &Indexes,
@@ -94,7 +94,7 @@ pub fn truncate(
     done(alloc, Reply::Done, set, block)
 }
 
-/// The messages that cut the blocks of a file of `old` bytes to the first `len`; none where it has no more.
+/// The messages that cut the blocks of a file of `old` bytes to the first `len`; none if it has no more.
 fn cut_from(
     alloc: Global,
     index: &BlockIndex,

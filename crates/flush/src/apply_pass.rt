@@ -1,8 +1,8 @@
-//! Messages laid into a leaf's entries in one pass over both.
+//! Messages applied to a leaf's entries in one pass over both.
 //!
-//! Messages mostly stand by rising key, as entries do. So a pass moves the entries, in their order, from a queue of
-//! those that are left to a vector of those that are done: for each message those up to its key, and then the message is
-//! applied to the last one, or makes a new one there. It never moves the entries behind a new one to make a place for it.
+//! Messages are mostly sorted by key, as entries are. So a pass moves the entries, in their order, from a queue of those
+//! that are left to a vector of those that are done: for each message those up to its key, and then the message is applied
+//! to the last one, or makes a new one there. It never moves the entries after a new one to make a place for it.
 ghost use Rattle.std.specs.Prelude.{◌≡◌, ◌≤◌, ◌<◌, ◌+◌, ◌-◌, ◌∷◌, ◌++◌, [], ℕ, List, None, Some, true, false, length, vec_capacity, slice_get, IfNone};
 ghost use Rattle.std.specs.Option.{option_to_list};
 ghost use Rattle.pathkey.specs.Keys.{is_below};
@@ -16,14 +16,14 @@ use pathkey::Key;
 use std::alloc::Global;
 use std::collections::VecDeque;
 
-/// So many messages pay for a pass, which moves all entries, whatever the messages are.
+/// A pass, which moves all entries, pays off for this number of messages, whatever the messages are.
 ///
-/// Measured beside a search for each message, in leaves of 100 to 900 entries: a pass is done sooner from 6 to 8 messages on
-/// where all make or take entries, and from 50 to 100 on where none does. At this number it gains more in the one case than it
+/// Measured against a search for each message, in leaves of 100 to 900 entries: a pass is faster from 6 to 8 messages on if
+/// all add or remove entries, and from 50 to 100 on if none does. At this number it gains more in the one case than it
 /// loses in the other.
 const FEW: usize = 16;
 
-/// Whether there is a first entry and its key does not stand behind this one.
+/// Whether there is a first entry and its key is not after this one.
 fn is_up_to<V>(left: &VecDeque<(Key, V)>, key: &Key) -> bool
     ensures yes { result ≡ true → 0 < length left.now.items }
     ensures no { result ≡ false → is_below key.now (first_key None left.now.items) ≡ true }
@@ -34,7 +34,7 @@ fn is_up_to<V>(left: &VecDeque<(Key, V)>, key: &Key) -> bool
     }
 }
 
-/// Takes the first entry out, where its key does not stand behind this one.
+/// Removes and returns the first entry, if its key is not after this one.
 fn next_up_to<V>(left: &mut VecDeque<(Key, V)>, key: &Key) -> Option<(Key, V)>
     ensures moved { left.old.items ≡ option_to_list result ++ left.new.items }
     ensures end { IfNone result (is_below key.now (first_key None left.new.items) ≡ true) }
@@ -45,7 +45,7 @@ fn next_up_to<V>(left: &mut VecDeque<(Key, V)>, key: &Key) -> Option<(Key, V)>
     left.pop_front()
 }
 
-/// Moves the entries whose keys do not stand behind this one.
+/// Moves the entries whose keys are not after this one.
 fn advance<V>(done: &mut Vec<(Key, V)>, left: &mut VecDeque<(Key, V)>, key: &Key)
     requires { length done.old.items + length left.old.items ≤ vec_capacity done.old }
     ensures all { done.new.items ++ left.new.items ≡ done.old.items ++ left.old.items }
@@ -67,7 +67,7 @@ fn finish<V>(done: &mut Vec<(Key, V)>, left: &mut VecDeque<(Key, V)>)
     }
 }
 
-/// Whether all entries stand before the key.
+/// Whether all entries are before the key.
 fn are_before<V>(entries: &[(Key, V)], key: &Key) -> bool
     requires { Rises [] None entries.now }
     ensures { result ≡ true → Rises [] (Some key.now) entries.now }
@@ -89,8 +89,8 @@ fn end_at<V>(entries: &[(Key, V)], key: &Key) -> bool
     }
 }
 
-/// Takes the last entry out, to be held, where it has the key. It answers whether the others stand before the key:
-/// they do not where a message does not stand behind those before it.
+/// Moves the last entry to `held`, if it has the key. It returns whether the others are before the key: they are not if a
+/// message is not after those before it.
 fn hold<V: Drop>(done: &mut Vec<(Key, V)>, held: &mut Vec<(Key, V)>, key: &Key) -> bool
     requires rising { Rises [] None done.old.items }
     requires empty { held.old.items ≡ [] }
@@ -107,14 +107,14 @@ fn hold<V: Drop>(done: &mut Vec<(Key, V)>, held: &mut Vec<(Key, V)>, key: &Key) 
         return false;
     }
     if held.reserve(1).is_err() {
-        // Refused memory ends the pass; what is left over is tried one by one.
+        // A failed allocation ends the pass; the remaining messages are tried one by one.
         return false;
     }
     held.push_reserved(done.take_last());
     true
 }
 
-/// Applies the message to what is held, where there are places for it, and moves what is held then behind the others.
+/// Applies the message to what is held, if there are places for it, and then moves what is held after the others.
 fn apply_msg_to<U: Update>(
     alloc: Global,
     done: &mut Vec<(Key, U::Value)>,
@@ -139,7 +139,7 @@ fn apply_msg_to<U: Update>(
     did
 }
 
-/// Applies a message of one key that stands behind what is done, where the leaf has room for it, and says whether it did.
+/// Applies a message of one key that is after what is done, if the leaf has room for it, and returns whether it did.
 fn step<U: Update>(
     alloc: Global,
     done: &mut Vec<(Key, U::Value)>,
@@ -159,7 +159,7 @@ fn step<U: Update>(
     ensures empty { held.new.items ≡ [] }
 {
     let Some(key) = msg.point_key() else {
-        // A range-delete behind other messages ends the pass.
+        // A range-delete after other messages ends the pass.
         return false;
     };
     advance(done, left, key);
@@ -170,8 +170,8 @@ fn step<U: Update>(
     apply_msg_to(alloc, done, held, msg, places)
 }
 
-/// Applies messages, the oldest first, up to one that does not stand behind those before it, for which there is no room
-/// or that is refused memory, and counts them.
+/// Applies messages, the oldest first, up to one that is not after those before it, for which there is no room or for which
+/// an allocation fails, and counts them.
 fn apply_pass<U: Update>(
     alloc: Global,
     done: &mut Vec<(Key, U::Value)>,
@@ -197,7 +197,7 @@ fn apply_pass<U: Update>(
     count
 }
 
-/// How many entries a leaf of so many has room for, when it gets so many messages.
+/// How many entries a leaf of `entries` entries has room for, when it gets `msgs` messages.
 fn room_after(entries: usize, msgs: usize, most: usize) -> usize
     ensures all { entries ≤ result }
     ensures few { entries ≤ most → result ≤ most }
@@ -207,8 +207,8 @@ fn room_after(entries: usize, msgs: usize, most: usize) -> usize
 
 /// Applies messages to entries, the oldest first, in one pass, and counts them.
 ///
-/// It takes none where they are few, and none where there is no memory for the entries' new place: a search for
-/// each is then the way.
+/// It applies none if they are few, and none if the allocation for the entries' new place fails: they are then to be
+/// applied by a search for each.
 pub(crate) fn apply_sorted<U: Update>(
     alloc: Global,
     entries: &mut Vec<(Key, U::Value)>,

@@ -13,7 +13,7 @@ use message::Update;
 use node::count::height;
 use node::{Body, Node, Place, Slot, StepKind, Tree, TreeStep};
 
-/// Whether a node that stands so many levels above the leaves has leaves below it.
+/// Whether a node that is `levels` levels above the leaves has leaves below it.
 fn is_lowest(levels: usize) -> bool
     ensures yes { result ≡ true → levels ≤ 1 }
     ensures no { result ≡ false → 1 < levels }
@@ -21,7 +21,7 @@ fn is_lowest(levels: usize) -> bool
     levels <= 1
 }
 
-/// The flush of a slot of a node that stands so many levels above the leaves.
+/// The flush of a slot of a node that is `levels` levels above the leaves.
 fn flush_at(levels: usize) -> StepKind
     ensures leaf { levels ≤ 1 → result ≡ FlushLeaf }
     ensures inner { 1 < levels → result ≡ FlushInner }
@@ -33,7 +33,7 @@ fn flush_at(levels: usize) -> StepKind
     }
 }
 
-/// The step at slot number `i` of the node at the place.
+/// The step at slot index `i` of the node at the place.
 fn step_at(kind: StepKind, at: Place, i: usize) -> TreeStep
     requires { i < 256 }
     ensures { result ≡ record { kind = kind; at = at; slot = i } }
@@ -45,20 +45,20 @@ fn step_at(kind: StepKind, at: Place, i: usize) -> TreeStep
     }
 }
 
-/// The place of the node below slot number `i`.
+/// The place of the node below slot index `i`.
 fn below(at: Place, i: usize) -> Place
     requires few { i < 256 }
     requires short { length (way at) < 15 }
     ensures { way result ≡ way at ++ i ∷ [] }
 {
     let Some(under) = at.under(i as u8) else {
-        // The way has fewer than 15 numbers, so there is a place for one more.
+        // The path has fewer than 15 indexes, so there is space for one more.
         unreachable!()
     };
     under
 }
 
-/// The number of the first of these slots in which at least so many messages wait.
+/// The index of the first of these slots with at least `least` pending messages.
 fn own_slot<U: Update>(slots: &[Slot<U>], least: usize) -> Option<usize>
     ensures bound { IfSome result (λ i. i < length slots.now) }
     ensures first { MatchOption result (AreLight (λ ms n. length ms) least (seen_slots slots.now)) (IsFirst (λ ms n. length ms) least (seen_slots slots.now)) }
@@ -72,8 +72,8 @@ fn own_slot<U: Update>(slots: &[Slot<U>], least: usize) -> Option<usize>
     Some(own_slot(later, least)? + 1)
 }
 
-/// The number of the first of these slots below whose child so many messages wait in one slot, where in none of their own
-/// lists so many do.
+/// The index of the first of these slots below whose child `least` messages are pending in one slot, if none of their own
+/// lists has that many.
 fn slot_above<U: Update>(slots: &[Slot<U>], least: usize) -> usize
     requires some { 0 < least }
     requires light { AreLight (λ ms n. length ms) least (seen_slots slots.now) }
@@ -82,7 +82,7 @@ fn slot_above<U: Update>(slots: &[Slot<U>], least: usize) -> usize
     ensures first { IsFirst (λ ms n. longest n) least (seen_slots slots.now) result }
 {
     let Some((slot, later)) = slots.split_first() else {
-        // Not met: below one of the slots so many messages wait in one list.
+        // Unreachable: below one of the slots `least` messages are pending in one list.
         unreachable!()
     };
     if slot.child.weight().longest >= least {
@@ -91,9 +91,9 @@ fn slot_above<U: Update>(slots: &[Slot<U>], least: usize) -> usize
     slot_above(later, least) + 1
 }
 
-/// The flush of the first slot with at least so many messages, in the walk of this node and all below it, where there is one.
+/// The flush of the first slot with at least `least` messages, in the walk of this node and all below it, if there is one.
 ///
-/// It goes down one path, as the weights that the nodes keep tell.
+/// It goes down one path, guided by the weights that the nodes store.
 fn first_heavy<U: Update>(node: &Node<U>, levels: usize, at: Place, least: usize) -> TreeStep
     requires even { IsWalkable levels node.now }
     requires short { length (way at) + levels ≤ 16 }
@@ -102,7 +102,7 @@ fn first_heavy<U: Update>(node: &Node<U>, levels: usize, at: Place, least: usize
     ensures { IsFirstOf least result (loads (way at) node.now) }
 {
     let Body::Inner(slots) = node.body() else {
-        // In a leaf nothing waits, and here something does.
+        // In a leaf nothing is pending, and here something is.
         unreachable!()
     };
     let slots = slots.as_slice();
@@ -113,11 +113,11 @@ fn first_heavy<U: Update>(node: &Node<U>, levels: usize, at: Place, least: usize
     first_heavy(&slots[i].child, levels - 1, below(at, i), least)
 }
 
-/// The flush of a slot than which no slot has more pending messages; `None` where nothing is pending.
+/// The flush of a slot than which no slot has more pending messages; `None` if nothing is pending.
 ///
-/// Of equally heavy slots it is the first in the walk from the root that takes a node before its children. The flush
-/// is never answered by `NotThere`. It looks at the slots of the nodes on the way to that slot and at the weights that their
-/// children keep, and for the tree's height at the first nodes of each level.
+/// Of equally full slots it is the first in the walk from the root that takes a node before its children. The reply to the
+/// flush is never `NotThere`. It reads the slots of the nodes on the path to that slot and the weights that their children
+/// store, and for the tree's height the first nodes of each level.
 pub fn heaviest<U: Update>(tree: &Tree<U>) -> Option<TreeStep>
     ensures nothing { (result ≡ None) ↔ (total Pending tree.now.root ≡ 0) }
     ensures first { IfSome result (FlushesHeaviest (loads [] tree.now.root)) }

@@ -1,7 +1,7 @@
 //! A flush into an inner node.
 //!
-//! Messages for one key are moved into the slots that hold their keys, those of a key in one go where that can be. Range-deletes
-//! at the front of a list are copied, since their pieces need keys of their own.
+//! Messages for one key are moved into the slots that hold their keys, those of a key at once if possible. Range-deletes at
+//! the front of a list are copied, since their pieces need keys of their own.
 ghost use Rattle.std.specs.Prelude.{◌≡◌, ℕ, true, false, ◌+◌, ◌≤◌, ◌<◌, ◌∷◌, [], length, take, map, None, IfOk, OnOk, OnErr};
 ghost use Rattle.node.specs.Appended.{batches_by_slot, HaveTaken};
 ghost use Rattle.node.specs.Lawful.{pending as pending_of};
@@ -25,7 +25,7 @@ use pending::Pending;
 use std::alloc::Global;
 use std::sync::Arc;
 
-/// How many of the messages, from the oldest on, make with what waits in the slots at most `room` pieces.
+/// How many of the messages, from the oldest on, make at most `room` pieces with those pending in the slots.
 pub fn count_fitting<U: Update>(slots: &[Slot<U>], msgs: &[Msg<U>], room: usize) -> usize
     requires { room < 65536 }
     ensures within { result ≤ length msgs.now }
@@ -35,14 +35,14 @@ pub fn count_fitting<U: Update>(slots: &[Slot<U>], msgs: &[Msg<U>], room: usize)
 {
     let waiting = pending_len(slots);
     if waiting > room as u128 {
-        // Not met in a lawful tree: no node below the root holds more than it has room for.
+        // Unreachable in a lawful tree: no node below the root holds more than it has room for.
         return 0;
     }
     let mut total = waiting as usize;
     let mut count = 0;
     for msg in msgs {
         let more = pieces_in(slots, msg);
-        // No flush brings so many messages: that bound stands for the checker.
+        // No flush brings so many messages: that bound is there for the checker.
         if count == 65535 || more > room - total {
             return count;
         }
@@ -52,7 +52,7 @@ pub fn count_fitting<U: Update>(slots: &[Slot<U>], msgs: &[Msg<U>], room: usize)
     count
 }
 
-/// Puts copies of messages into slots, where they and what waits there are at most `room` pieces.
+/// Appends copies of messages to slots, if they and what is pending there are at most `room` pieces.
 pub fn append_within<U: Update>(
     alloc: Global,
     below: &mut [Slot<U>],
@@ -67,8 +67,7 @@ pub fn append_within<U: Update>(
     append_copies(alloc, below, msgs)
 }
 
-/// Puts copies of the messages into the slots of the child, as many as it has room for: a node has room for `room`
-/// pieces.
+/// Appends copies of the messages to the slots of the child, as many as it has room for: a node has room for `room` pieces.
 fn push_to_child<U: Update>(
     alloc: Global,
     room: u16,
@@ -79,25 +78,25 @@ fn push_to_child<U: Update>(
     ensures small { (n : ℕ) → result ≡ Did n → n < 65536 }
 {
     if msgs.is_empty() {
-        // Not met: `applies` has found a message, and an inner node below.
+        // Unreachable: `applies` has found a message, and an inner node below.
         return StepReply::NotThere;
     }
     let Ok(own) = Arc::make_mut(child) else {
         return StepReply::NoMemory;
     };
     let Body::Inner(below) = own.body_mut() else {
-        // Not met, as above.
+        // Unreachable, as above.
         return StepReply::NotThere;
     };
     let count = count_fitting(below.as_slice(), msgs, room as usize);
     if count == 0 {
-        // Not met: `has_room` has counted the pieces of the first message.
+        // Unreachable: `has_room` has counted the pieces of the first message.
         own.update_weight();
         return StepReply::NoRoom;
     }
     let few = &msgs[..count];
     let taken = append_within(alloc, below.as_mut_slice(), few, room as usize);
-    // Also where memory was refused, since `body_mut` has forgotten the weight.
+    // Also if an allocation failed, since `body_mut` has cleared the weight.
     own.update_weight();
     let Ok(()) = taken else {
         return StepReply::NoMemory;
@@ -113,7 +112,7 @@ pub fn few_oldest<U: Update>(list: &Pending<U>, most: u16) -> usize
     list.len().min((most as usize).max(1))
 }
 
-/// How many pieces more a child takes where it has room for `room` in all; a leaf takes none.
+/// How many more pieces a child takes if it has room for `room` in all; a leaf takes none.
 pub fn free_pieces<U: Update>(child: &Node<U>, room: u16) -> u16
     ensures { result ≡ free_pieces room child.now }
 {
@@ -123,8 +122,8 @@ pub fn free_pieces<U: Update>(child: &Node<U>, room: u16) -> u16
     }
 }
 
-/// Puts copies of a slot's oldest messages into its child, as many as the child has room for, and takes them from the slot.
-/// Of the messages behind the first it looks at no more than the list has range-deletes.
+/// Appends copies of a slot's oldest messages to its child, as many as the child has room for, and removes them from the
+/// slot. Of the messages after the first it reads no more than the list has range-deletes.
 fn push_copies<U: Update>(alloc: Global, room: u16, slot: &mut Slot<U>) -> StepReply
     ensures lo { slot.new.lo ≡ slot.old.lo }
     ensures left { slot.new.pending.0 ≡ left result slot.old.pending.0 }
@@ -143,8 +142,8 @@ fn push_copies<U: Update>(alloc: Global, room: u16, slot: &mut Slot<U>) -> StepR
     reply
 }
 
-/// Moves a list's oldest messages into the slot that holds their key, at most `most`, and counts them: those of one key in one
-/// go, or the first. A range-delete stays, and a message whose key lies before all slots.
+/// Moves a list's oldest messages into the slot that holds their key, at most `most`, and counts them: those of one key at
+/// once, or the first. A range-delete stays, and a message whose key is before all slots.
 fn move_oldest<U: Update>(
     below: &mut [Slot<U>],
     list: &mut Pending<U>,
@@ -159,15 +158,15 @@ fn move_oldest<U: Update>(
         return Ok(0);
     };
     let Some(i) = holder(below, key) else {
-        // Not met in a lawful tree, where the first slot begins at or before each key of the list.
+        // Unreachable in a lawful tree, where the first slot begins at or before each key of the list.
         return Ok(0);
     };
     let slot = &mut below[i];
     list.flush_oldest(&mut slot.pending, most)
 }
 
-/// Moves a list's oldest messages into the slots that hold their keys, at most `room`, up to one that stays or finds no
-/// memory, and counts them. Memory is refused where none has moved.
+/// Moves a list's oldest messages into the slots that hold their keys, at most `room`, up to one that stays or for which an
+/// allocation fails, and counts them. It fails only if an allocation fails and none has moved.
 fn move_points<U: Update>(
     below: &mut [Slot<U>],
     list: &mut Pending<U>,
@@ -206,16 +205,16 @@ fn push_points<U: Update>(
     }
     let own = Arc::make_mut(child)?;
     let Body::Inner(below) = own.body_mut() else {
-        // Not met: callers give a leaf no room.
+        // Unreachable: callers give a leaf no room.
         return Ok(0);
     };
     let moved = move_points(below.as_mut_slice(), list, room);
-    // Also where memory was refused, since `body_mut` has forgotten the weight.
+    // Also if an allocation failed, since `body_mut` has cleared the weight.
     own.update_weight();
     moved
 }
 
-/// Takes the oldest messages of a slot to its child, as many as the child has room for: copies of the first few, and then
+/// Moves the oldest messages of a slot to its child, as many as the child has room for: copies of the first few, and then
 /// messages for one key.
 fn push_front<U: Update>(alloc: Global, room: u16, slot: &mut Slot<U>) -> StepReply
     requires { IsSearchable slot.old.child.value }
@@ -230,12 +229,12 @@ fn push_front<U: Update>(alloc: Global, room: u16, slot: &mut Slot<U>) -> StepRe
     let most = free_pieces(&slot.child, room) as usize;
     match push_points(&mut slot.child, &mut slot.pending, most) {
         Ok(count) => StepReply::Did(first + count as u32),
-        // The first few have gone down already: the others wait.
+        // The first few have gone down already: the others stay pending.
         Err(_) => reply,
     }
 }
 
-/// Takes the oldest messages of a slot to its child, as many as the child has room for.
+/// Moves the oldest messages of a slot to its child, as many as the child has room for.
 fn push_oldest<U: Update>(alloc: Global, room: u16, slot: &mut Slot<U>) -> StepReply
     requires { IsSearchable slot.old.child.value }
     ensures lo { slot.new.lo ≡ slot.old.lo }
@@ -260,7 +259,7 @@ fn takes<U: Update>(slots: &[Slot<U>], list: &Pending<U>, room: u16) -> bool
     pending_len(slots) + pieces_of_oldest(slots, list) as u128 <= room as u128
 }
 
-/// Whether the slot with number `i` has a message and an inner node below it.
+/// Whether the slot with index `i` has a message and an inner node below it.
 pub fn is_flushable<U: Update>(slots: &[Slot<U>], i: usize) -> bool
     ensures { result ≡ can_flush_inner (slots_from i (seen_slots slots.now)) }
 {
@@ -286,7 +285,7 @@ impl<U: Update> SlotStep<U> for InnerFlush {
 
     fn has_room(&self, shape: Shape, _root: bool, slots: &[Slot<U>], i: usize) -> bool {
         if i >= slots.len() {
-            // Not met, as the next two: `applies` has found a message, and an inner node below.
+            // Unreachable, as the next two: `applies` has found a message, and an inner node below.
             return true;
         }
         let slot = &slots[i];
@@ -308,7 +307,7 @@ impl<U: Update> SlotStep<U> for InnerFlush {
         i: usize,
     ) -> StepReply {
         if i >= slots.len() {
-            // Not met: `applies` has found the slot.
+            // Unreachable: `applies` has found the slot.
             return StepReply::NotThere;
         }
         let slot = &mut slots[i];
@@ -316,12 +315,11 @@ impl<U: Update> SlotStep<U> for InnerFlush {
     }
 }
 
-/// Moves the oldest messages of a slot into its child, an inner node, cut at the child's pivots and newer than what
-/// waits there.
+/// Moves the oldest messages of a slot into its child, an inner node, cut at the child's pivots and newer than what is
+/// pending there.
 ///
-/// It takes as many messages as the child has room for. It answers `NotThere`, without memory, where the node, the
-/// slot or a message is missing or the child is a leaf, and `NoRoom` where the child has no room for the pieces of
-/// the first message.
+/// It moves as many messages as the child has room for. It returns `NotThere`, without allocating, if the node, the slot or
+/// a message is missing or the child is a leaf, and `NoRoom` if the child has no room for the pieces of the first message.
 pub fn flush_inner<U: Update>(alloc: Global, tree: &mut Tree<U>, at: Place, slot: u8) -> StepReply
     ensures { Answers U.means FlushInner (way at) slot result tree.old tree.new }
 {

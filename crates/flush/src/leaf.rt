@@ -1,9 +1,9 @@
 //! A flush into a leaf.
 //!
-//! Messages are applied to the leaf in its place, the oldest first, as many as it has room for. Only where the leaf is
-//! full and a message needs an entry more is the leaf cut in two, on a copy: the messages up to that one then leave the
-//! slot, and the next flush finds a leaf with half its room free. So messages for keys that the full leaf has, of which one
-//! may come with each new entry, do not put the cut off.
+//! Messages are applied to the leaf in place, the oldest first, as many as it has room for. Only if the leaf is full and a
+//! message needs one more entry is the leaf split in two, on a copy: the messages up to that one then leave the slot, and
+//! the next flush finds a leaf with half its room free. So messages for keys that the full leaf has, of which one may come
+//! with each new entry, do not delay the split.
 ghost use Rattle.std.specs.Prelude.{◌≡◌, ◌≤◌, ◌<◌, ◌∷◌, [], None, true, false, length, take, drop, ◌⊎◌, ⊤, IsTrue, IfOk, OnErr, MatchOption};
 ghost use Rattle.std.specs.Option.{option_copied};
 ghost use Rattle.message.specs.Oldest.{given_at, put_at};
@@ -34,12 +34,12 @@ use pathkey::{Key, NoMemory};
 use std::alloc::Global;
 use std::sync::Arc;
 
-/// So many messages of a slot a flush into a leaf looks at, and copies, at most: as many as a node may hold.
+/// The largest number of a slot's messages that a flush into a leaf reads and copies: as many as a node may hold.
 const MAX_EXAMINED: u16 = 1024;
 
 /// Whether a leaf of at least `most` entries has none for the key of a put; `None` is another message.
 ///
-/// An update of an absent key may give it a value too, but only applying it tells.
+/// An update of an absent key may give it a value too, but only applying it shows that.
 fn is_overfull<U: Update>(entries: &[(Key, U::Value)], put: Option<&Key>, most: u16) -> bool
     requires { Rises [] None entries.now }
     ensures yes { result ≡ true → (m : Msg U U.Value) → put_at m ≡ option_copied put.entry → Overflows U.means most entries.now (m ∷ []) }
@@ -51,7 +51,7 @@ fn is_overfull<U: Update>(entries: &[(Key, U::Value)], put: Option<&Key>, most: 
     }
 }
 
-/// Applies messages to entries one by one, up to one for which there may be no room or that is refused memory, and counts
+/// Applies messages to entries one by one, up to one for which there may be no room or an allocation fails, and counts
 /// them.
 fn apply_each<U: Update>(
     alloc: Global,
@@ -72,7 +72,7 @@ fn apply_each<U: Update>(
     count
 }
 
-/// How many range-deletes stand before all other messages.
+/// How many range-deletes are before all other messages.
 fn leading_ranges<U: Update>(msgs: &[Msg<U>]) -> usize
     ensures { result ≤ length msgs.now }
 {
@@ -86,8 +86,8 @@ fn leading_ranges<U: Update>(msgs: &[Msg<U>]) -> usize
     count
 }
 
-/// Applies messages: the range-deletes at their head one by one, those behind them in one pass, and again one by one
-/// what the pass left over.
+/// Applies messages: the range-deletes at their head one by one, those after them in one pass, and again one by one those
+/// that the pass left over.
 fn apply_all<U: Update>(
     alloc: Global,
     entries: &mut Vec<(Key, U::Value)>,
@@ -104,8 +104,8 @@ fn apply_all<U: Update>(
     count + apply_each(alloc, entries, &msgs[count..], most)
 }
 
-/// Applies messages to entries, the oldest first, up to one for which there may be no room or that is refused memory,
-/// and counts them.
+/// Applies messages to entries, the oldest first, up to one for which there may be no room or an allocation fails, and
+/// counts them.
 fn apply_fitting<U: Update>(
     alloc: Global,
     entries: &mut Vec<(Key, U::Value)>,
@@ -130,7 +130,7 @@ fn takes_oldest<U: Update>(slot: &Slot<U>, most: u16) -> bool
     ensures { result ≡ true → HasPlace U.means most slot.now.pending.0 slot.now.child.value }
 {
     if slot.pending.len() == 0 {
-        // Not met, nor is an inner node: `applies` has found a message, and a leaf.
+        // Unreachable, as is an inner node: `applies` has found a message, and a leaf.
         return false;
     }
     match slot.child.body() {
@@ -142,7 +142,7 @@ fn takes_oldest<U: Update>(slot: &Slot<U>, most: u16) -> bool
     }
 }
 
-/// Applies as many of the messages to the leaf as its room takes, in its place.
+/// Applies as many of the messages to the leaf as it has room for, in place.
 fn apply_some<U: Update>(
     alloc: Global,
     most: u16,
@@ -153,7 +153,7 @@ fn apply_some<U: Update>(
     ensures { Filled U.means most result msgs.now child.old.value child.new.value }
 {
     if msgs.is_empty() {
-        // Not met, nor is an inner node: the slot's leaf has room for its oldest message.
+        // Unreachable, as is an inner node: the slot's leaf has room for its oldest message.
         return StepReply::NotThere;
     }
     let Ok(own) = Arc::make_mut(child) else {
@@ -165,14 +165,14 @@ fn apply_some<U: Update>(
     let count = apply_fitting(alloc, entries, msgs, most as usize);
     own.update_weight();
     if count == 0 {
-        // There is room for the first message, so it was refused memory.
+        // There is room for the first message, so an allocation failed.
         return StepReply::NoMemory;
     }
     StepReply::Did(count as u32)
 }
 
-/// Applies as many of a slot's oldest messages to its leaf as the leaf's room takes, in its place,
-/// where there is room for the oldest. The slot loses the messages that its leaf has.
+/// Applies as many of a slot's oldest messages to its leaf as the leaf has room for, in place, if there is room for the
+/// oldest. The slot loses the messages that its leaf has.
 fn apply_oldest_fitting<U: Update>(alloc: Global, most: u16, slot: &mut Slot<U>) -> StepReply
     requires searchable { IsSearchable slot.old.child.value }
     requires place { HasPlace U.means most slot.old.pending.0 slot.old.child.value }
@@ -191,7 +191,7 @@ fn apply_oldest_fitting<U: Update>(alloc: Global, most: u16, slot: &mut Slot<U>)
     reply
 }
 
-/// How many messages there are up to the first for which a leaf has no room, and with it; 0 where it has room for each.
+/// How many messages there are up to and including the first for which a leaf has no room; 0 if it has room for each.
 fn up_to_overfull<U: Update>(entries: &[(Key, U::Value)], msgs: &[Msg<U>], most: u16) -> usize
     requires { Rises [] None entries.now }
     ensures { result ≤ length msgs.now }
@@ -206,15 +206,15 @@ fn up_to_overfull<U: Update>(entries: &[(Key, U::Value)], msgs: &[Msg<U>], most:
     0
 }
 
-/// How many of a slot's oldest messages there are up to the first for which its full leaf has no room, and with it; 0 where
-/// there is none or the leaf is not full. It looks at 255 messages at most, and at no more than a full leaf has entries.
+/// How many of a slot's oldest messages there are up to and including the first for which its full leaf has no room; 0 if
+/// there is none or the leaf is not full. It reads 255 messages at most, and no more than a full leaf has entries.
 fn oldest_to_cut<U: Update>(alloc: Global, slot: &Slot<U>, most: u16) -> u8
     requires { IsSearchable slot.now.child.value }
     ensures within { result ≤ length slot.now.pending.0 }
     ensures few { result ≤ most }
 {
     let Body::Leaf(entries) = slot.child.body() else {
-        // Not met: `applies` has found a leaf.
+        // Unreachable: `applies` has found a leaf.
         return 0;
     };
     if entries.len() < most as usize {
@@ -222,14 +222,14 @@ fn oldest_to_cut<U: Update>(alloc: Global, slot: &Slot<U>, most: u16) -> u8
     }
     let few = slot.pending.len().min(most as usize).min(255);
     let Ok(msgs) = slot.pending.copy_front(alloc, few) else {
-        // Refused memory puts the cut off: only what there is room for is tried.
+        // A failed allocation delays the split: only what there is room for is tried.
         return 0;
     };
     up_to_overfull(entries.as_slice(), msgs.as_slice(), most) as u8
 }
 
-/// How many of a slot's oldest messages go down at once with a cut of its full leaf; 0 where it is not to be cut: it has
-/// room for each, or its node has none for one slot more.
+/// How many of a slot's oldest messages go down at once with a split of its full leaf; 0 if it is not to be split: it has
+/// room for each, or its node has none for one more slot.
 fn count_to_cut<U: Update>(
     alloc: Global,
     shape: Shape,
@@ -251,7 +251,7 @@ fn count_to_cut<U: Update>(
     }
 }
 
-/// The entries of the slot's leaf after so many of its oldest messages; `None` where it has no message or no leaf.
+/// The entries of the slot's leaf after `count` of its oldest messages; `None` if it has no message or no leaf.
 fn after_oldest<U: Update>(
     alloc: Global,
     slot: &Slot<U>,
@@ -263,7 +263,7 @@ fn after_oldest<U: Update>(
     ensures rising { IfOk result (λ r. MatchOption r ⊤ (λ v. Rises [] None v.items)) }
 {
     if slot.pending.len() == 0 {
-        // Not met, nor is an inner node: `applies` has found a message, and a leaf.
+        // Unreachable, as is an inner node: `applies` has found a message, and a leaf.
         return Ok(None);
     }
     let oldest = slot.pending.copy_front(alloc, count as usize)?;
@@ -273,7 +273,7 @@ fn after_oldest<U: Update>(
     }
 }
 
-/// Puts entries into the place of the slot's leaf, whose `count` oldest messages they have.
+/// Replaces the slot's leaf by entries to which its `count` oldest messages have been applied.
 fn keep<U: Update>(
     alloc: Global,
     slot: &mut Slot<U>,
@@ -291,8 +291,8 @@ fn keep<U: Update>(
     StepReply::Did(count as u32)
 }
 
-/// Cuts a slot in two over the halves of these entries, without its `consumed` oldest messages. On want of memory the slot is as
-/// it was.
+/// Splits a slot in two over the halves of these entries, without its `consumed` oldest messages. If an allocation fails,
+/// the slot is as it was.
 fn split_leaf_slot<U: Update>(
     alloc: Global,
     slot: &mut Slot<U>,
@@ -312,7 +312,7 @@ fn split_leaf_slot<U: Update>(
     split_slot(alloc, slot, consumed, pivot, left, right)
 }
 
-/// Cuts the slot with number `i` in two, over the halves of these entries, which have its `count` oldest messages.
+/// Splits the slot with index `i` in two, over the halves of these entries, which have its `count` oldest messages.
 fn split_leaf<U: Update>(
     alloc: Global,
     shape: Shape,
@@ -333,7 +333,7 @@ fn split_leaf<U: Update>(
 {
     let slot = &slots[i];
     if !can_split(shape, root, slots.as_slice(), count, &slot.pending) {
-        // Met for an update of an absent key alone: only applying it told that it gives a value.
+        // Reached for an update of an absent key alone: only applying it showed that it gives a value.
         return StepReply::NoRoom;
     }
     if slots.reserve(1).is_err() {
@@ -344,13 +344,13 @@ fn split_leaf<U: Update>(
         return StepReply::NoMemory;
     };
     let Ok(()) = slots.insert(i + 1, back) else {
-        // Room for it was reserved before the cut.
+        // Room for it was reserved before the split.
         unreachable!()
     };
     StepReply::Did(count as u32)
 }
 
-/// Applies the `count` oldest messages of a slot to a copy of its leaf, which is cut in two where it is too large.
+/// Applies the `count` oldest messages of a slot to a copy of its leaf, which is split in two if it is too large.
 fn apply_oldest<U: Update>(
     alloc: Global,
     shape: Shape,
@@ -369,7 +369,7 @@ fn apply_oldest<U: Update>(
         return StepReply::NoMemory;
     };
     let Some(entries) = after else {
-        // Not met: `applies` has found a message, and a leaf.
+        // Unreachable: `applies` has found a message, and a leaf.
         return StepReply::NotThere;
     };
     if entries.len() <= shape.leaf as usize {
@@ -398,7 +398,7 @@ impl<U: Update> SlotStep<U> for LeafFlush {
 
     fn has_room(&self, shape: Shape, root: bool, slots: &[Slot<U>], i: usize) -> bool {
         if i >= slots.len() {
-            // Not met, as the next two: `applies` has found a message, and a leaf below.
+            // Unreachable, as the next two: `applies` has found a message, and a leaf below.
             return true;
         }
         let slot = &slots[i];
@@ -424,7 +424,7 @@ impl<U: Update> SlotStep<U> for LeafFlush {
         i: usize,
     ) -> StepReply {
         if i >= slots.len() {
-            // Not met: `applies` has found the slot.
+            // Unreachable: `applies` has found the slot.
             return StepReply::NotThere;
         }
         if !takes_oldest(&slots[i], shape.leaf) {
@@ -438,12 +438,13 @@ impl<U: Update> SlotStep<U> for LeafFlush {
     }
 }
 
-/// Applies the oldest messages of a slot to its child, a leaf, which is cut in two where it would be too large.
+/// Applies the oldest messages of a slot to its child, a leaf, which is split in two if it would be too large.
 ///
-/// It takes as many messages as the leaf has room for; where the leaf is full, and its node has room for one slot more, also
-/// the first for which the leaf has none, and cuts it. It answers `NotThere`, without memory, where the node, the slot or a
-/// message is missing or the child is an inner node, and `NoRoom` where the leaf would be too large after the first message
-/// and the node has no room for one slot more or, below the root, for the range-deletes that would stand in both slots.
+/// It takes as many messages as the leaf has room for; if the leaf is full, and its node has room for one more slot, also
+/// the first for which the leaf has none, and splits it. It returns `NotThere`, without allocating, if the node, the slot
+/// or a message is missing or the child is an inner node, and `NoRoom` if the leaf would be too large after the first
+/// message and the node has no room for one more slot or, below the root, for the range-deletes that would be in both
+/// slots.
 pub fn flush_leaf<U: Update>(alloc: Global, tree: &mut Tree<U>, at: Place, slot: u8) -> StepReply
     ensures { Answers U.means FlushLeaf (way at) slot result tree.old tree.new }
 {

@@ -1,7 +1,7 @@
 //! Flushes: pending messages that go one level down.
 //!
-//! A flush takes the oldest messages of one slot to the slot's child, as many as the child has room for. The value
-//! at every key stays: what waited above now waits, or stands, below (Brodal and Fagerberg 2003). `heaviest` names the
+//! A flush moves the oldest messages of one slot to the slot's child, as many as the child has room for. The value at every
+//! key stays: what was pending above is now pending, or applied, below (Brodal and Fagerberg 2003). `heaviest` names the
 //! flush that moves most: that of a slot than which no slot has more pending messages.
 #![tactic(auto)]
 

@@ -30,7 +30,7 @@ pub(crate) fn has_room<U: Update>(
     }
 }
 
-/// Applies the message where there is room for it, and says whether it did.
+/// Applies the message if there is room for it, and returns whether it did.
 pub(crate) fn apply_within<U: Update>(
     alloc: Global,
     entries: &mut Vec<(Key, U::Value)>,

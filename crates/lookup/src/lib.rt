@@ -1,4 +1,4 @@
-//! The value at a key, through the messages that wait on the way to its leaf.
+//! The value at a key, with the messages pending on the path to its leaf applied.
 #![tactic(auto)]
 
 ghost use Rattle.std.specs.Prelude.{◌≡◌, IfOk, [], None};
@@ -13,8 +13,8 @@ use node::{Body, Node, Tree};
 use pathkey::{Key, NoMemory};
 use std::alloc::Global;
 
-/// The value at the key: its leaf's entry under the messages that wait on the way, the oldest first
-/// (Bender et al., ;login: 2015). The way ends early at a message that settles the value.
+/// The value at the key: its leaf's entry with the messages pending on the path applied, oldest first (Bender et al., ;login:
+/// 2015). The descent ends early at a message that determines the value.
 pub fn get<U: Update>(
     alloc: Global,
     tree: &Tree<U>,
@@ -34,7 +34,7 @@ fn find<U: Update>(alloc: Global, node: &Node<U>, key: &Key) -> Result<Option<U:
         Body::Leaf(entries) => find_entry::<U>(alloc, entries.as_slice(), key),
         Body::Inner(slots) => {
             if slots.is_empty() {
-                // Not met in a lawful tree, whose inner nodes have slots.
+                // Does not occur in a lawful tree, whose inner nodes have slots.
                 return Ok(None);
             }
             let slot = &slots[slot_of(slots.as_slice(), key)];

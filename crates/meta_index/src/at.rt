@@ -1,4 +1,4 @@
-//! What stands at a path, as far as metadata tell.
+//! What is at a path, according to the metadata.
 ghost use Rattle.std.specs.Prelude.{◌≡◌, None};
 ghost use Rattle.meta_index.specs.Means.{beyond, found_meta, moment_reported, lookup_answer};
 ghost use Rattle.reference.specs.Calls.{no_directory_fault, path_fault};
@@ -7,19 +7,19 @@ ghost use Rattle.reference.specs.Tree as trees;
 use pathkey::Errno;
 use reference::Meta;
 
-/// What stands at a path.
+/// What is at a path.
 #[derive(Clone, Copy, Debug, PartialEq, Eq)]
 pub enum At {
     /// An entry with this metadata.
     Found(Meta),
     /// Nothing: the first name that decides is absent from its directory.
     Missing,
-    /// Nothing: a file stands before the last name.
+    /// Nothing: a name before the last is that of a file.
     Blocked,
 }
 
 impl At {
-    /// What stands at a name below an entry with this metadata, where no entry has that name.
+    /// What is at a name below an entry with this metadata, if no entry has that name.
     pub(crate) fn below(above: Meta) -> At
         ensures reported { (here : trees.At) → At.Found above ≡ lookup_answer here → result ≡ lookup_answer (beyond here) }
         ensures nothing { found_meta result ≡ None }
@@ -30,7 +30,7 @@ impl At {
         }
     }
 
-    /// Why nothing stands at the path; none where something does.
+    /// Why the path does not exist; `None` if it does.
     pub fn fault_of_path(self) -> Option<Errno>
         ensures { (here : trees.At) → self ≡ lookup_answer here → result ≡ path_fault here }
     {
@@ -41,14 +41,14 @@ impl At {
         }
     }
 
-    /// Why the path names no directory; none where it does.
+    /// Why the path names no directory; `None` if it does.
     pub fn fault_of_directory(self) -> Option<Errno>
         ensures { (here : trees.At) → self ≡ lookup_answer here → result ≡ no_directory_fault here }
     {
         self.directory_mtime().err()
     }
 
-    /// The moment of last change of the directory that stands at the path; or why none does.
+    /// The mtime of the directory at the path; or why there is none.
     pub(crate) fn directory_mtime(self) -> Result<u64, Errno>
         ensures { (here : trees.At) → self ≡ lookup_answer here → result ≡ moment_reported here }
     {

@@ -1,4 +1,4 @@
-//! The metadata index, and what stands at a path.
+//! The metadata index, and the entry at a path.
 ghost use Rattle.std.specs.Prelude.{◌≡◌, ◌+◌, ◌*◌, ◌<◌, ◌≤◌, ◌∷◌, ◌++◌, ℕ, List, [], IfOk, OnOk, IsTrue, None, length, not, true};
 ghost use Rattle.std.specs.Result.{result_err};
 ghost use Rattle.meta_index.specs.Asked.{AsksFor, IsFrugal};
@@ -25,7 +25,7 @@ use scan::readahead::Readahead;
 use scan::{first_in, scan};
 use std::alloc::Global;
 
-/// The metadata of each path at which something stands, the root too, under the path's key.
+/// The metadata of each path that exists, including the root, under the path's key.
 #[derive(Drop)]
 pub struct MetaIndex {
     /// The buffered tree that holds them.
@@ -33,8 +33,8 @@ pub struct MetaIndex {
 }
 
 impl MetaIndex {
-    /// The index of the empty root directory, of moment 0, whose entry waits as one message in a new tree. It fails only for want of
-    /// memory.
+    /// The index of the empty root directory, with mtime 0, whose entry is one pending message in a new tree. It fails only if an
+    /// allocation fails.
     pub fn new(alloc: Global, shape: Shape) -> Result<MetaIndex, NoMemory>
         requires { IsTrue (is_shape shape) }
         ensures shape { IfOk result (λ m. m.tree.shape ≡ shape) }
@@ -47,9 +47,9 @@ impl MetaIndex {
         Ok(MetaIndex { tree })
     }
 
-    /// What stands at the path. It fails only for want of memory.
+    /// The entry at the path, or why there is none. It fails only if an allocation fails.
     ///
-    /// It finds the metadata that the index has under the path's key, and none where it has none there, whatever it means.
+    /// It finds the metadata that the index has under the path's key, and none if it has none there, whatever the index means.
     pub fn find(&self, alloc: Global, path: &Path) -> Result<At, NoMemory>
         ensures reported { IfOk result (λ at. (t : DirectoryTree) → IsMeantBy t self.now → at ≡ lookup_answer (entry_at t path.now)) }
         ensures value { IfOk result (λ at. found_meta at ≡ metadata self.now (enc path.now)) }
@@ -60,7 +60,7 @@ impl MetaIndex {
         }
     }
 
-    /// Whether something stands at the path, by one look-up. It fails only for want of memory.
+    /// Whether the path exists, by one lookup. It fails only if an allocation fails.
     pub fn has(&self, alloc: Global, path: &Path) -> Result<bool, NoMemory>
         ensures { IfOk result (λ there. (t : DirectoryTree) → IsMeantBy t self.now → there ≡ is_found (entry_at t path.now)) }
     {
@@ -68,7 +68,7 @@ impl MetaIndex {
         Ok(meta.is_some())
     }
 
-    /// Why nothing stands at the path: the nearest path above at which something stands is a directory, or a file.
+    /// Why the path does not exist: the nearest existing path above is a directory, or a file.
     fn find_obstacle(&self, alloc: Global, path: &Path) -> Result<At, NoMemory>
         ensures reported { IfOk result (λ at. (t : DirectoryTree) → IsMeantBy t self.now → look t path.now ≡ None → at ≡ lookup_answer (entry_at t path.now)) }
         ensures nothing { IfOk result (λ at. found_meta at ≡ None) }
@@ -80,12 +80,12 @@ impl MetaIndex {
             }
             ancestor = above.parent(alloc)?;
         }
-        // Not met where the index means a tree: something stands at the root.
+        // Does not occur if the index means a tree: the root exists.
         Ok(At::Missing)
     }
 
-    /// The parent of the path, where a directory stands there, or why no entry can be made at the path; the root is its own
-    /// parent. It fails only for want of memory.
+    /// The parent of the path, if a directory is there, or why no entry can be created at the path; the root is its own parent.
+    /// It fails only if an allocation fails.
     pub fn find_parent(&self, alloc: Global, path: &Path) -> Result<Result<Path, Errno>, NoMemory>
         ensures parent { IfOk result (λ found. IfOk found (λ p. p ≡ parent path.now)) }
         ensures fault { IfOk result (λ found. (t : DirectoryTree) → IsMeantBy t self.now → result_err found ≡ parent_fault t path.now) }
@@ -96,8 +96,8 @@ impl MetaIndex {
         }
     }
 
-    /// The parent of the path with its moment of last change, where a directory stands there, or why no
-    /// entry can be made at the path; the root is its own parent. It fails only for want of memory.
+    /// The parent of the path with its mtime, if a directory is there, or why no entry can be created at the path; the root is
+    /// its own parent. It fails only if an allocation fails.
     pub fn find_parent_mtime(
         &self,
         alloc: Global,
@@ -116,16 +116,16 @@ impl MetaIndex {
         }
     }
 
-    /// Why no entry can be made at the path: its parent is no directory; none where it is one, and at the root. It fails
-    /// only for want of memory.
+    /// Why no entry can be created at the path: its parent is not a directory; `None` if it is one, and at the root. It fails
+    /// only if an allocation fails.
     pub fn fault_of_parent(&self, alloc: Global, path: &Path) -> Result<Option<Errno>, NoMemory>
         ensures { IfOk result (λ fault. (t : DirectoryTree) → IsMeantBy t self.now → fault ≡ parent_fault t path.now) }
     {
         Ok(self.find_parent(alloc, path)?.err())
     }
 
-    /// Whether nothing stands below the path: so it is at an empty directory, and where no directory stands. It fails only
-    /// for want of memory.
+    /// Whether nothing exists below the path: true for an empty directory, and if there is no directory at the path. It fails
+    /// only if an allocation fails.
     pub fn is_empty_dir(&self, alloc: Global, path: &Path) -> Result<bool, NoMemory>
         ensures { IfOk result (λ empty. (t : DirectoryTree) → IsMeantBy t self.now → empty ≡ not (is_full (entry_at t path.now))) }
     {
@@ -133,8 +133,8 @@ impl MetaIndex {
         self.is_empty_dir_counted(alloc, path, &mut searches)
     }
 
-    /// Whether nothing stands below the path, as `is_empty_dir` tells it. It leaves in `searches` how
-    /// often it asked the tree for a first pair: once.
+    /// Whether nothing exists below the path, as `is_empty_dir` reports it. It stores in `searches` how often it searched the
+    /// tree for a first pair: once.
     pub fn is_empty_dir_counted(
         &self,
         alloc: Global,
@@ -149,11 +149,11 @@ impl MetaIndex {
         Ok(first_in(alloc, &self.tree, &below)?.is_none())
     }
 
-    /// Whether something stands below the path, by looking up keys at which an entry probably stands. `true` is certain;
-    /// `false` says nothing.
+    /// Whether something exists below the path, by looking up keys at which an entry probably exists. `true` is certain; `false`
+    /// says nothing.
     ///
-    /// A search for the first pair passes every removed name, which this does not: ask it first where a directory is probably
-    /// not empty. It fails only for want of memory.
+    /// A search for the first pair passes every removed name, which this does not: call it first if a directory is probably not
+    /// empty. It fails only if an allocation fails.
     pub fn probe_nonempty(&self, alloc: Global, path: &Path) -> Result<bool, NoMemory>
         ensures { IfOk result (λ there. there ≡ true → (t : DirectoryTree) → IsMeantBy t self.now → is_full (entry_at t path.now) ≡ true) }
     {
@@ -161,7 +161,7 @@ impl MetaIndex {
         self.has_likely(alloc, &range)
     }
 
-    /// Whether the range has a pair at a key that is guessed; `false` says nothing of the range.
+    /// Whether the range has a pair at a guessed key; `false` says nothing about the range.
     fn has_likely(&self, alloc: Global, range: &KeyRange) -> Result<bool, NoMemory>
         ensures { IfOk result (λ there. there ≡ true → HasPair (metadata self.now) range.now.lo range.now.hi) }
     {
@@ -192,7 +192,7 @@ impl MetaIndex {
         }
     }
 
-    /// Whether the key lies in the range and has a value.
+    /// Whether the key is in the range and has a value.
     fn has_in(&self, alloc: Global, range: &KeyRange, key: &Key) -> Result<bool, NoMemory>
         ensures { IfOk result (λ there. there ≡ true → HasPair (metadata self.now) range.now.lo range.now.hi) }
     {
@@ -203,10 +203,10 @@ impl MetaIndex {
         Ok(meta.is_some())
     }
 
-    /// The entries of the directory at the path, kind and name of each, in byte order of names; none where no directory
-    /// stands there. It fails only for want of memory.
+    /// The entries of the directory at the path, kind and name of each, in byte order of names; none if no directory is there. It
+    /// fails only if an allocation fails.
     ///
-    /// It asks for one entry after the other, and passes what lies below each.
+    /// It reads one entry after the other, and skips what is below each.
     pub fn children(&self, alloc: Global, path: &Path) -> Result<Vec<(Kind, Vec<u8>)>, NoMemory>
         ensures { IfOk result (λ v. (t : DirectoryTree) → IsMeantBy t self.now → pairs_of v.items ≡ names_of (entry_at t path.now)) }
     {
@@ -214,9 +214,8 @@ impl MetaIndex {
         self.children_counted(alloc, path, &mut searches)
     }
 
-    /// The entries of the directory at the path, as `children` lists them. It leaves in `searches` how
-    /// often it walked the tree: for each entry once at most, and once more. No walk asks for more than
-    /// 256 pairs.
+    /// The entries of the directory at the path, as `children` lists them. It stores in `searches` how often it walked the tree:
+    /// at most once for each entry, and once more. No walk requests more than 256 pairs.
     pub fn children_counted(
         &self,
         alloc: Global,
@@ -230,10 +229,9 @@ impl MetaIndex {
         self.children_measured(alloc, path, searches, &mut pairs)
     }
 
-    /// The entries of the directory at the path, as `children` lists them. It leaves in `walks` how
-    /// often it walked the tree, as `children_counted` does, and in `pairs` for how many pairs these
-    /// walks asked, all together: for each entry two at most, and 32 more, whatever lies below the
-    /// entries.
+    /// The entries of the directory at the path, as `children` lists them. It stores in `walks` how often it walked the tree, as
+    /// `children_counted` does, and in `pairs` how many pairs these walks requested in total: at most two for each entry, and 32
+    /// more, whatever is below the entries.
     pub fn children_measured(
         &self,
         alloc: Global,
@@ -260,9 +258,9 @@ impl MetaIndex {
         Ok(entries)
     }
 
-    /// The first pair of the range behind all that lies at the path with this key, or below it.
+    /// The first pair of the range after everything at or below the path with this key.
     ///
-    /// What lies there is passed by its first bytes; the key where it ends is made for a new piece alone.
+    /// What is there is skipped by its first bytes; the key where it ends is built only for a new batch.
     fn first_past(
         &self,
         alloc: Global,
@@ -284,8 +282,8 @@ impl MetaIndex {
         pieces.first(alloc, &self.tree, rest)
     }
 
-    /// The first `limit` pairs of the path's subtree, its own too, in key order, or all where there are fewer. It fails
-    /// only for want of memory.
+    /// The first `limit` pairs of the path's subtree, including its own, in key order, or all if there are fewer. It fails only
+    /// if an allocation fails.
     pub fn below(
         &self,
         alloc: Global,

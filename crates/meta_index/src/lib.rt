@@ -1,9 +1,9 @@
-//! The metadata of the file system: a buffered tree that has, at the key of each path at which something stands, whether
-//! it is a directory or a file of which length, and its moment of last change.
+//! The metadata of the file system: a buffered tree that has, at the key of each path that exists, whether it is a directory or a
+//! file of which length, and its mtime.
 //!
-//! It is asked by full paths (full-path indexing: Jannen et al., FAST 2015): what stands at a path is one look-up, and
-//! what a directory holds lies side by side behind its own key. Contracts speak of the directory tree that the index
-//! means: each answer is the one that this tree gives.
+//! It is queried by full paths (full-path indexing: Jannen et al., FAST 2015): the entry at a path is one lookup, and the
+//! contents of a directory are side by side after its own key. Contracts speak of the directory tree that the index means: each
+//! result is the one that this tree gives.
 #![tactic(auto)]
 
 pub mod at;

@@ -1,7 +1,8 @@
 //! A guess at a key in a range at which the metadata index has a pair.
 //!
-//! A search for the first pair passes every name that was removed before it. Names are mostly removed in order, so a pair near the
-//! end of the range is much cheaper to find. No claim rests on the guess: the caller asks the index whether it has a pair there.
+//! A search for the first pair passes every name that was removed before it. Names are mostly removed in order, so a pair near
+//! the end of the range is much cheaper to find. No claim depends on the guess: the caller looks up whether the index has a pair
+//! there.
 use crate::update::MetaUpdate;
 use message::Resolution;
 use message::ends::is_before_end;
@@ -10,10 +11,10 @@ use pathkey::{Key, KeyRange, NoMemory};
 use reference::Meta;
 use std::alloc::Global;
 
-/// The most inner levels of a tree.
+/// The maximum number of inner levels of a tree.
 const LEVELS: u8 = 16;
 
-/// The most keys of a slot's messages that are tried.
+/// The maximum number of keys of a slot's messages that are tried.
 const TRIES: u8 = 64;
 
 /// The last slot that begins before the end of the range.
@@ -50,8 +51,8 @@ fn is_given(alloc: Global, slot: &Slot<MetaUpdate>, key: &Key) -> Result<bool, N
     Ok(matches!(resolution, Resolution::Value(Some(_))))
 }
 
-/// The least key behind all keys that begin with the same `depth` bytes as this one and the next byte; `None` if there is no such byte
-/// or it is the last of all.
+/// The least key after all keys that begin with the same `depth` bytes as this one and the next byte; `None` if there is no such
+/// byte or it is 255.
 fn past(alloc: Global, key: &Key, depth: usize) -> Result<Option<Key>, NoMemory> {
     let bytes = key.as_bytes();
     let Some(byte) = bytes.get(depth) else {
@@ -67,8 +68,8 @@ fn past(alloc: Global, key: &Key, depth: usize) -> Result<Option<Key>, NoMemory>
 
 /// A key in the range to which the messages of a slot give a value.
 ///
-/// From one key with a message it goes to the first that differs in an early byte, as long as there is one, then to the first that
-/// differs in a later byte: so it passes long runs of removed names, and comes to the last key with a message.
+/// From one key with a message it goes to the first that differs in an early byte, as long as there is one, then to the first
+/// that differs in a later byte: so it skips long runs of removed names, and reaches the last key with a message.
 pub(crate) fn given_in(
     alloc: Global,
     slot: &Slot<MetaUpdate>,

@@ -1,4 +1,4 @@
-//! Updates of the metadata at one path: the length of a file set or raised, and the moment of last change.
+//! Updates of the metadata at one path: the length of a file set or raised, and the mtime.
 ghost use Rattle.std.specs.Prelude.{◌≡◌, Some, Option, IfOk, IfSome, is_some};
 ghost use Rattle.meta_index.specs.Updates.{joins, means as meant};
 ghost use Rattle.reference.specs.declared.reply.Meta.{Meta as MetaValue};
@@ -8,14 +8,14 @@ use pathkey::NoMemory;
 use reference::Meta;
 use std::alloc::Global;
 
-/// A change of the metadata at a path. Where nothing stands, nothing comes of it.
+/// A change of the metadata at a path. It has no effect if the path does not exist.
 #[derive(Clone, Copy, Debug, PartialEq, Eq)]
 pub enum MetaUpdate {
-    /// The file has this length, and this moment of last change. A directory stays as it is.
+    /// Sets the length and the mtime of a file. A directory stays as it is.
     SetLen(u64, u64),
-    /// The file has at least this length, and this moment of last change. A directory stays as it is.
+    /// Raises the length of a file to at least this, and sets its mtime. A directory stays as it is.
     Grow(u64, u64),
-    /// The directory or file has this moment of last change.
+    /// Sets the mtime of the directory or file.
     Touch(u64),
 }
 
@@ -46,8 +46,8 @@ impl MetaUpdate {
         }
     }
 
-    /// The one update that means this one and then `later`, with the moment of `later`: where both change a file, or both
-    /// set the moment alone.
+    /// The one update that means this one and then `later`, with the mtime of `later`, if both change a file, or both set only
+    /// the mtime.
     pub fn joined(self, later: MetaUpdate) -> Option<MetaUpdate>
         ensures means { IfSome result (λ one. (old : Option MetaValue) → meant one old ≡ meant later (meant self old)) }
         ensures some { is_some result ≡ joins self later }

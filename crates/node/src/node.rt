@@ -1,6 +1,6 @@
 //! The nodes of a tree.
 //!
-//! Contracts see a node as a pure tree (`PNode`): no pointer, no capacity and no sharing stands in it.
+//! Contracts see a node as a pure tree (`PNode`), without pointers, capacities or sharing.
 
 use message::UpdateTarget;
 use pathkey::Key;
@@ -26,14 +26,14 @@ pub mod search;
 #[cycle(node)]
 #[derive(Drop)]
 pub struct Node<U: UpdateTarget> {
-    /// What it holds.
+    /// Its entries or slots.
     body: Body<U>,
-    /// What waits at or below it, where that is known. Many places make a slot and few make a node, so it stands here and
-    /// not in the slot above.
+    /// How much is pending at or below it, if known. Many places in the code make a slot and few make a node, so it is
+    /// stored here and not in the slot above.
     weight: Option<PendingWeight>,
 }
 
-/// A leaf of entries that rise by key, or an inner node of slots that rise by pivot.
+/// A leaf of entries sorted by key, or an inner node of slots sorted by pivot.
 #[cycle(node)]
 #[derive(Drop)]
 pub enum Body<U: UpdateTarget> {
@@ -49,7 +49,7 @@ pub enum Body<U: UpdateTarget> {
 pub struct Slot<U: UpdateTarget> {
     /// The pivot: the least key of the slot's range, which ends where the next slot begins.
     pub lo: Key,
-    /// The messages that wait for the child.
+    /// The messages pending for the child.
     pub pending: Pending<U>,
     /// The node below.
     pub child: Arc<Node<U>>,

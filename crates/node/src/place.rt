@@ -1,9 +1,9 @@
-//! Where in a tree a step works.
+//! The node at which a step works.
 ghost use Rattle.std.specs.Prelude.{◌≡◌, ◌≤◌, ◌++◌, [], ◌∷◌, take, MatchOption};
 
 use crate::step::StepKind;
 
-/// The way from the root to a node: at most 15 slot numbers.
+/// The path from the root to a node: at most 15 slot indexes.
 #[derive(Clone, Copy)]
 pub struct Place {
     numbers: [u8; 15],
@@ -22,7 +22,7 @@ impl Place {
         }
     }
 
-    /// The place of the node below the slot with this number; `None` at 15 numbers.
+    /// The place of the node below the slot with this index; `None` at 15 indexes.
     pub fn under(&self, slot: u8) -> Option<Place>
         ensures { MatchOption result (self.now.len ≡ 15) (λ p. take p.len p.numbers ≡ take self.now.len self.now.numbers ++ slot ∷ []) }
     {
@@ -37,7 +37,7 @@ impl Place {
         })
     }
 
-    /// The slot numbers from the root down.
+    /// The slot indexes from the root down.
     pub fn numbers(&self) -> &[u8]
         ensures { result.now ≡ take self.now.len self.now.numbers }
     {
@@ -45,13 +45,13 @@ impl Place {
     }
 }
 
-/// A step and where it works. The steps of the root do not read `at` and `slot`.
+/// A step and the node at which it works. The steps of the root do not read `at` and `slot`.
 #[derive(Clone, Copy)]
 pub struct TreeStep {
     /// What is done.
     pub kind: StepKind,
     /// The node.
     pub at: Place,
-    /// The number of the node's slot.
+    /// The index of the node's slot.
     pub slot: u8,
 }

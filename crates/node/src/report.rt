@@ -3,11 +3,11 @@
 /// The size of a tree, exactly.
 #[derive(Clone, Copy, Debug, PartialEq, Eq)]
 pub struct ShapeReport {
-    /// How many levels of inner nodes stand above the leaves.
+    /// How many levels of inner nodes are above the leaves.
     pub levels: u128,
     /// How many slots all inner nodes have.
     pub slots: u128,
-    /// How many pending pieces wait in all slots.
+    /// How many pieces are pending in all slots.
     pub pending: u128,
     /// How many entries all leaves have.
     pub entries: u128,
@@ -18,7 +18,7 @@ pub struct ShapeReport {
 pub enum Quantity {
     /// The slots of an inner node.
     Slots,
-    /// The pieces that wait in its slots.
+    /// The pieces pending in its slots.
     Pending,
     /// The entries of a leaf.
     Entries,

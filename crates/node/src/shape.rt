@@ -1,7 +1,7 @@
 //! The limits of a tree's nodes.
 ghost use Rattle.std.specs.Prelude.{◌≡◌};
 
-/// The fewest slots that an inner node of a shape may have at most, and the fewest entries of a leaf.
+/// The least limit on the slots of an inner node that a shape may set, and the least limit on the entries of a leaf.
 pub const LEAST: u16 = 4;
 
 /// The most slots of an inner node, in any shape.

@@ -3,33 +3,33 @@
 /// What a step does.
 #[derive(Clone, Copy, Debug, PartialEq, Eq)]
 pub enum StepKind {
-    /// The oldest messages of a slot go into the slots of its child, an inner node.
+    /// The oldest messages of a slot are moved into the slots of its child, an inner node.
     FlushInner,
     /// The oldest messages of a slot are applied to its child, a leaf.
     FlushLeaf,
-    /// The inner node below a slot is cut in two.
+    /// The inner node below a slot is split in two.
     SplitInner,
-    /// The leaves below a slot and the next become one.
+    /// The leaves below a slot and the next are merged.
     MergeLeaves,
-    /// The inner nodes below a slot and the next become one.
+    /// The inner nodes below a slot and the next are merged.
     MergeInner,
-    /// A new root has one slot over the old one.
+    /// A new root is put above the old one, with one slot.
     RootUp,
-    /// The root's only child is the root.
+    /// The root's only child becomes the root.
     RootDown,
-    /// What stands below a slot under a range-delete of the whole slot goes at once.
+    /// The subtree below a slot under a range-delete of the whole slot is dropped at once.
     DropCovered,
 }
 
 /// The reply of a step. Every reply but `Did` leaves the tree as it was.
 #[derive(Clone, Copy, Debug, PartialEq, Eq)]
 pub enum StepReply {
-    /// The step is done, and so many messages have left their slot for good.
+    /// The step is done, and the given number of messages have left their slot for good.
     Did(u32),
     /// There is nothing for the step to do there.
     NotThere,
     /// A node would grow past the tree's shape.
     NoRoom,
-    /// A growth was refused.
+    /// An allocation failed.
     NoMemory,
 }

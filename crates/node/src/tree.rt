@@ -24,7 +24,7 @@ pub mod append;
 pub mod install_subtree;
 pub mod step;
 
-/// A buffered tree. Every tree is lawful, which its type keeps.
+/// A buffered tree. Every tree is lawful, which its type guarantees.
 pub struct Tree<U: UpdateTarget> {
     shape: Shape,
     root: Arc<Node<U>>,
@@ -62,7 +62,7 @@ impl<U: Update> Tree<U> {
         Ok(Tree { shape, root })
     }
 
-    /// The same tree, as one more owner of its root. Later changes of either do not touch the other.
+    /// The same tree, with another reference to its root. Later changes of either do not touch the other.
     pub fn share(&self) -> Result<Tree<U>, NoMemory>
         ensures { IfOk result (λ t. t ≡ self.now) }
     {
@@ -89,30 +89,31 @@ impl<U: Update> Tree<U> {
         &self.root
     }
 
-    /// How many trees have the root: this one, and each that shares it. No claim rests on it.
+    /// How many trees have the root: this one, and each that shares it. No claim depends on it.
     pub fn owners(&self) -> usize {
         Arc::strong_count(&self.root)
     }
 
-    /// Whether the two trees have one root, so that neither was changed since one was shared from the other: then one more
-    /// owner of the one is one more of the other. It may err while another thread shares either, and no claim rests on it.
+    /// Whether the two trees have one root, so that neither was changed since one was shared from the other: then another
+    /// reference to the one is another to the other. It may be wrong while another thread shares either, and no claim
+    /// depends on it.
     pub fn has_root_of(&self, other: &Tree<U>) -> Result<bool, NoMemory> {
         let before = other.owners();
         let shared = self.share()?;
         let after = other.owners();
-        // Let go only now: it had to be an owner while `after` was counted.
+        // Dropped only now: it had to hold a reference while `after` was counted.
         drop(shared);
         Ok(before != after)
     }
 
-    /// How many pieces wait in the tree. It costs a look at the root's slots and no walk.
+    /// How many pieces are pending in the tree. It reads the root's slots and does not walk the tree.
     pub fn pending(&self) -> u128
         ensures { result ≡ total_of Pending self.now.root }
     {
         self.root.weight().pending
     }
 
-    /// How large the tree is, but for what waits found by a walk of all its nodes.
+    /// How large the tree is; all but the pending pieces is found by a walk of all its nodes.
     pub fn shape_report(&self) -> ShapeReport
         ensures { result ≡ report_of self.now }
     {
@@ -132,9 +133,9 @@ impl<U: Update> Tree<U> {
         self.root = root;
     }
 
-    /// Puts messages, the oldest first, into the root's slots, whole or not at all.
+    /// Appends messages, the oldest first, to the root's slots, atomically.
     ///
-    /// It moves the messages, and copies the root's own level only where another tree shares it.
+    /// It moves the messages, and copies the root's own level only if another tree shares it.
     pub fn append(&mut self, alloc: Global, msgs: Vec<Msg<U>>) -> Result<(), NoMemory>
         ensures ok { OnOk result (Appended U.means msgs.items self.old self.new) }
         ensures err { OnErr result (self.new ≡ self.old) }
@@ -144,7 +145,7 @@ impl<U: Update> Tree<U> {
     }
 }
 
-/// Puts one batch into two trees, whole or not at all.
+/// Appends one batch to two trees, atomically.
 pub fn append_both<A: Update, B: Update>(
     alloc: Global,
     first: &mut Tree<A>,

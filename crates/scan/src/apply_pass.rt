@@ -1,4 +1,4 @@
-//! A pending list laid over the pairs of what is below it, in key order.
+//! A pending list applied to the pairs of what is below it, in key order.
 //!
 //! Pairs that no message touches are moved as they are, up to the next key that has a message for it alone.
 ghost use Rattle.std.specs.Prelude.{◌≡◌, ◌<◌, ◌+◌, ◌++◌, ◌∷◌, List, ℕ, Some, true, false, length, IfNone, IfSome, OnOk};
@@ -17,8 +17,8 @@ use pending::{Pending, PointCursor, PointHit, advance};
 use std::alloc::Global;
 use std::collections::VecDeque;
 
-/// Pushes what the messages make of the pairs `below`, which are all that stand from `from` up to `end`, until there are
-/// `limit` pairs.
+/// Pushes what the messages make of the pairs `below`, which are all that exist from `from` up to `end`, until there are `limit`
+/// pairs.
 pub fn apply_pass<'m, U: Update>(
     alloc: Global,
     list: &'m Pending<U>,
@@ -48,8 +48,8 @@ pub fn apply_pass<'m, U: Update>(
     Ok(())
 }
 
-/// The next key before `end` that has a message for it alone, if there is one. It is searched for from `at`, unless the walk goes along
-/// the entries.
+/// The next key before `end` that has a message for it alone, if there is one. The search starts at `at`, unless the walk goes
+/// along the entries.
 fn next_from<'a: 'b, 'b, U: Update>(
     ahead: &mut PointCursor<'a, U>,
     at: &'b Key,
@@ -68,7 +68,7 @@ fn next_from<'a: 'b, 'b, U: Update>(
     advance(ahead, at, end)
 }
 
-/// Moves the pairs that stand before `stop`, until there are `limit` pairs.
+/// Moves the pairs before `stop`, until there are `limit` pairs.
 fn push_before<V: Drop>(
     rest: &mut VecDeque<(Key, V)>,
     stop: Option<&Key>,
@@ -87,7 +87,7 @@ fn push_before<V: Drop>(
     Ok(())
 }
 
-/// Pushes what the messages make of the value at a key that was met and that no pair stands before.
+/// Pushes what the messages make of the value at a key that was found, before which there is no pair.
 fn push_at<U: Update>(
     alloc: Global,
     ahead: &PointCursor<'_, U>,
@@ -105,7 +105,7 @@ fn push_at<U: Update>(
     push_pair(alloc, key, value, pairs)
 }
 
-/// Takes out the first pair, if it stands at the key or before it, and answers its value.
+/// Removes the first pair, if it is at the key or before it, and returns its value.
 fn take_by<V: Drop>(rest: &mut VecDeque<(Key, V)>, key: &Key) -> Option<V>
     ensures some { IfSome result (λ v. (k : List ℕ) × (rest.old.items ≡ (k, v) ∷ rest.new.items) × (before k (next_key key.now) ≡ true)) }
     ensures none { IfNone result ((rest.new.items ≡ rest.old.items) × StartsFrom (Some (next_key key.now)) rest.old.items) }
@@ -116,7 +116,7 @@ fn take_by<V: Drop>(rest: &mut VecDeque<(Key, V)>, key: &Key) -> Option<V>
     Some(value)
 }
 
-/// Takes out the first pair, if it stands at the key or before it.
+/// Removes the first pair, if it is at the key or before it.
 fn pop_by<V: Drop>(rest: &mut VecDeque<(Key, V)>, key: &Key) -> Option<(Key, V)>
     ensures some { IfSome result (λ p. (rest.old.items ≡ p ∷ rest.new.items) × (before p.0 (next_key key.now) ≡ true)) }
     ensures none { IfNone result ((rest.new.items ≡ rest.old.items) × StartsFrom (Some (next_key key.now)) rest.old.items) }
@@ -130,7 +130,7 @@ fn pop_by<V: Drop>(rest: &mut VecDeque<(Key, V)>, key: &Key) -> Option<(Key, V)>
     rest.pop_front()
 }
 
-/// Takes out the first pair, if it stands before `stop`.
+/// Removes the first pair, if it is before `stop`.
 fn pop_before<V: Drop>(rest: &mut VecDeque<(Key, V)>, stop: Option<&Key>) -> Option<(Key, V)>
     ensures some { IfSome result (λ p. (rest.old.items ≡ p ∷ rest.new.items) × (is_below p.0 (option_copied stop.entry) ≡ true)) }
     ensures none { IfNone result ((rest.new.items ≡ rest.old.items) × StartsFrom (option_copied stop.entry) rest.old.items) }

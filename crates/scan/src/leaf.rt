@@ -11,7 +11,7 @@ use node::leaf::count_before;
 use pathkey::{Key, NoMemory};
 use std::alloc::Global;
 
-/// The first entry from `lo` up to and without `hi`, found by a search in strides.
+/// The first entry from `lo` up to but excluding `hi`, found by a search in strides.
 pub fn first_entry<U: Update>(
     alloc: Global,
     entries: &[(Key, U::Value)],
@@ -33,7 +33,7 @@ pub fn first_entry<U: Update>(
     Ok(Some((key, U::copy_value(alloc, &entry.1)?)))
 }
 
-/// Pushes the entries from `lo` up to and without `hi`, until there are `limit` pairs.
+/// Pushes the entries from `lo` up to but excluding `hi`, until there are `limit` pairs.
 pub fn push_entries<U: Update>(
     alloc: Global,
     entries: &[(Key, U::Value)],

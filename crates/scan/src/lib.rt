@@ -1,9 +1,9 @@
-//! The first pairs of a range of keys, in key order, through the messages that wait on the way to the leaves.
+//! The first pairs of a range of keys, in key order, with the messages pending on the paths to the leaves applied.
 //!
-//! A search goes from one stretch of keys to the next: up to where the next pivot stands, or the next message begins or
-//! ends, each message touches all keys or none. A stretch under a range-delete is passed at once, with all older messages
-//! for its keys, and on any other the first pair of the child decides. A scan of more pairs is one walk: it takes the pairs
-//! of a child at once, and lays the messages of the slot over them.
+//! A search goes from one segment of keys to the next: up to the next pivot, or to where the next message begins or ends, each
+//! message affects all keys or none. A segment under a range-delete is skipped at once, with all older messages for its keys, and
+//! in any other the first pair of the child decides. A scan of more pairs is one walk: it reads the pairs of a child at once, and
+//! applies the messages of the slot to them.
 #![tactic(auto)]
 
 ghost use Rattle.std.specs.Prelude.{IfOk};
@@ -25,7 +25,7 @@ mod search;
 mod slot;
 mod walk;
 
-/// The first pair of the range; none where the range has no value.
+/// The first pair of the range; `None` if the range has no value.
 pub fn first_in<U: Update>(
     alloc: Global,
     tree: &Tree<U>,
@@ -36,7 +36,7 @@ pub fn first_in<U: Update>(
     first(alloc, tree.root(), &range.lo, range.hi.as_ref())
 }
 
-/// The first `limit` pairs of the range, or all where there are fewer, in key order.
+/// The first `limit` pairs of the range, or all if there are fewer, in key order.
 pub fn scan<U: Update>(
     alloc: Global,
     tree: &Tree<U>,

@@ -1,4 +1,4 @@
-//! The pairs of a range one after the other, taken from the tree piece by piece.
+//! The pairs of a range one after the other, read from the tree in batches.
 ghost use Rattle.std.specs.Prelude.{◌≡◌, ◌+◌, ◌-◌, ◌*◌, ◌^◌, ℕ, [], List, Bool, true, false, eqb, max, min, IfOk, IfNone};
 ghost use Rattle.std.specs.Fn.{ComputesKey};
 ghost use Rattle.std.specs.List.{starts_with};
@@ -14,28 +14,28 @@ use pathkey::{Key, KeyRange, NoMemory};
 use std::alloc::Global;
 use std::collections::VecDeque;
 
-/// The most pairs of the first piece.
+/// The maximum number of pairs in the first batch.
 const FIRST: usize = 32;
 
-/// The most pairs of a piece.
+/// The maximum number of pairs in a batch.
 const MOST: usize = 256;
 
-/// Pairs that were taken from a tree and are not asked for yet.
+/// Pairs that were read from a tree and have not been requested yet.
 ///
-/// Each piece has twice as many pairs as the one before. Where pairs are passed, the next piece has one: a caller that jumps
-/// over most pairs has few of them copied for nothing. Behind a short piece the tree is asked no more. Each piece is one walk of
-/// the tree, which is counted where it is made.
+/// Each batch has twice as many pairs as the one before. If pairs are skipped, the next batch has one: a caller that skips most
+/// pairs has few of them copied in vain. After a short batch the tree is not read again. Each batch is one walk of the tree,
+/// which is counted when it is made.
 #[derive(Drop)]
 pub struct Readahead<U: Update> {
-    /// They stand in key order.
+    /// They are in key order.
     pub pairs: VecDeque<(Key, U::Value)>,
     /// Whether no other pair is left in the range.
     pub all: bool,
-    /// How many walks of the tree there were, as far as 64 bits count.
+    /// The number of walks of the tree, which saturates at 2^64 - 1.
     pub walks: u64,
-    /// How many pairs these walks asked for, all together, as far as 64 bits count.
+    /// The total number of pairs that these walks requested, which saturates at 2^64 - 1.
     pub asked: u64,
-    /// How many pairs the next piece may have, at least one.
+    /// The maximum number of pairs in the next batch, at least one.
     most: usize,
 }
 
@@ -53,10 +53,10 @@ impl<U: Update> Readahead<U> {
         }
     }
 
-    /// The first pair of the range; none where the range has no value.
+    /// The first pair of the range; `None` if the range has no value.
     ///
-    /// It is `first_in` for ranges with one end, each of which begins behind the pair that was given before. The tree is walked once
-    /// where none of the pairs at hand lies in the range and others may be left, and not at all else.
+    /// It is `first_in` for ranges with the same end, each of which begins after the pair that was returned before. The tree is
+    /// walked once if none of the buffered pairs is in the range and others may be left, and otherwise not at all.
     pub fn first(
         &mut self,
         alloc: Global,
@@ -79,7 +79,7 @@ impl<U: Update> Readahead<U> {
         self.refill(alloc, tree, range)
     }
 
-    /// Walks the tree for the next piece, counts the walk, and takes out the first pair.
+    /// Walks the tree for the next batch, counts the walk, and removes the first pair.
     fn refill(
         &mut self,
         alloc: Global,
@@ -92,22 +92,22 @@ impl<U: Update> Readahead<U> {
         ensures asked { self.new.asked ≡ min (self.old.asked + max self.old.most 1) (2 ^ 64 - 1) }
         ensures most { self.new.most ≡ min (2 * max self.old.most 1) 256 }
     {
-        // Never 0, but no type keeps that.
+        // Never 0, but no type guarantees that.
         let most = self.most.max(1);
         self.most = most.saturating_add(most).min(MOST);
         self.walks = self.walks.saturating_add(1);
         self.asked = self.asked.saturating_add(most as u64);
-        // It is counted already, also where it is refused memory.
+        // It is counted already, also if an allocation fails.
         let piece = scan(alloc, tree, range, most)?;
         self.all = piece.len() < most;
         self.pairs = VecDeque::from_vec(piece);
         Ok(self.pairs.pop_front())
     }
 
-    /// Takes out the first pair whose key does not begin with this one, and those before it.
+    /// Removes the first pair whose key does not begin with this one, and those before it.
     ///
-    /// It is for a caller that passes all that lies below the pair which was given last. Where none is left, the others of the range
-    /// begin at the least key behind all that begin so, unless `all` says that there are no others.
+    /// It is for a caller that skips everything below the pair that was returned last. If none is left, the others of the range
+    /// begin at the least key after all keys with this prefix, unless `all` says that there are no others.
     pub fn next_past(&mut self, front: &Key) -> Option<(Key, U::Value)>
         ensures all { self.new.all ≡ self.old.all }
         ensures none { IfNone result (self.new.pairs.items ≡ []) }
@@ -119,7 +119,7 @@ impl<U: Update> Readahead<U> {
         self.take_unless(|key| key.as_bytes().starts_with(front.as_bytes()))
     }
 
-    /// Takes out the first pair that does not stand before the key, and those before it.
+    /// Removes the first pair that is not before the key, and those before it.
     fn take_from(&mut self, lo: &Key) -> Option<(Key, U::Value)>
         ensures all { self.new.all ≡ self.old.all }
         ensures taken { IsTaken (λ k. before k lo.now) self.old.pairs.items result self.new.pairs.items }
@@ -130,7 +130,7 @@ impl<U: Update> Readahead<U> {
         self.take_unless(|key| key.cmp(lo).is_lt())
     }
 
-    /// Takes out the first pair whose key is not passed, and those before it.
+    /// Removes the first pair whose key is not `passed`, and those before it.
     fn take_unless<P: FnMut(&Key) -> bool>(&mut self, passed: P) -> Option<(Key, U::Value)>
         requires { P.IsAlwaysCallable passed }
         ensures all { self.new.all ≡ self.old.all }

@@ -17,9 +17,9 @@ use node::{Body, Node, Slot};
 use pathkey::{Key, NoMemory};
 use std::alloc::Global;
 
-/// The first pair below a node from `lo` up to and without `hi`.
+/// The first pair below a node from `lo` up to but excluding `hi`.
 ///
-/// It goes from one stretch to the next, and ends at the first that has a pair.
+/// It goes from one segment to the next, and ends at the first that has a pair.
 #[cycle(first)]
 pub fn first<U: Update>(
     alloc: Global,
@@ -35,7 +35,7 @@ pub fn first<U: Update>(
         Body::Inner(slots) => slots,
     };
     if slots.is_empty() {
-        // Not met in a lawful tree, whose inner nodes have slots.
+        // Does not occur in a lawful tree, whose inner nodes have slots.
         return Ok(None);
     }
     let mut from = lo.copy(alloc)?;
@@ -55,9 +55,9 @@ pub fn first<U: Update>(
     Ok(None)
 }
 
-/// The first pair of a slot on a stretch of its messages.
+/// The first pair of a slot in a segment of its messages.
 ///
-/// The child is not asked where the messages tell the values of the stretch.
+/// The child is not read if the messages determine the values of the segment.
 #[cycle(first)]
 fn first_of_slot<U: Update>(
     alloc: Global,

@@ -1,4 +1,4 @@
-//! What the messages of a slot make of a stretch of its child.
+//! What the messages of a slot make of a segment of its child.
 ghost use Rattle.std.specs.Prelude.{◌≡◌, ◌<◌, IfOk, None, length};
 ghost use Rattle.std.specs.Option.{option_copied};
 ghost use Rattle.message.specs.Ranges.{earlier_end};
@@ -14,7 +14,7 @@ use pathkey::{Key, NoMemory};
 use pending::Pending;
 use std::alloc::Global;
 
-/// Where the slot with this number ends, or `hi` where that is earlier.
+/// Where the slot with this index ends, or `hi` if that is earlier.
 pub fn slot_end<'a, U: Update>(
     slots: &'a [Slot<U>],
     i: usize,
@@ -40,7 +40,7 @@ pub fn pair_at<V: Drop>(
     }
 }
 
-/// What the messages, which act on all keys of a stretch as on its first, make of the stretch's first pair below.
+/// What the messages, which act on all keys of a segment as on its first, make of the segment's first pair below.
 pub fn changed<U: Update>(
     alloc: Global,
     list: &Pending<U>,

@@ -1,7 +1,7 @@
 //! The walk of a range, from the root down: one descent serves a whole slot.
 //!
-//! The pairs that the messages leave as they are come from the child in one walk, and the keys with messages of their own are
-//! laid between them.
+//! The pairs that the messages leave unchanged are read from the child in one walk, and the keys with messages of their own are
+//! inserted between them.
 ghost use Rattle.std.specs.Prelude.{◌≡◌, ◌<◌, List, ℕ, OnOk, IfOk, length, true, false};
 ghost use Rattle.std.specs.Option.{option_copied};
 ghost use Rattle.message.specs.PointKeys.{is_cleared};
@@ -22,10 +22,10 @@ use node::{Body, Node, Slot};
 use pathkey::{Key, NoMemory};
 use std::alloc::Global;
 
-/// Pushes the pairs below a node from `lo` up to and without `hi`, until there are `limit` pairs.
+/// Pushes the pairs below a node from `lo` up to but excluding `hi`, until there are `limit` pairs.
 ///
-/// It goes from slot to slot, and in a slot to where its range-deletes next begin or end. Where memory is refused, some pairs
-/// may have been pushed.
+/// It goes from slot to slot, and in a slot to where its range-deletes next begin or end. If an allocation fails, some pairs may
+/// have been pushed.
 #[cycle(walk)]
 pub fn walk<U: Update>(
     alloc: Global,
@@ -45,7 +45,7 @@ pub fn walk<U: Update>(
         Body::Inner(slots) => slots,
     };
     if slots.is_empty() {
-        // Not met in a lawful tree, whose inner nodes have slots.
+        // Does not occur in a lawful tree, whose inner nodes have slots.
         return Ok(());
     }
     let mut from = lo.copy(alloc)?;
@@ -66,9 +66,9 @@ pub fn walk<U: Update>(
     Ok(())
 }
 
-/// Pushes the pairs of a slot where its range-deletes hold all keys or none, until there are `limit` pairs.
+/// Pushes the pairs of a slot in a range where its range-deletes cover all keys or none, until there are `limit` pairs.
 ///
-/// The child is not asked where they hold all.
+/// The child is not read if they cover all.
 #[cycle(walk)]
 fn walk_slot<U: Update>(
     alloc: Global,
@@ -93,8 +93,8 @@ fn walk_slot<U: Update>(
     walk_rounds(alloc, slot, from, stop, limit, pairs)
 }
 
-/// Pushes the pairs of a slot where no range-delete holds a key, until there are `limit` pairs, in
-/// rounds: messages may take pairs away, so that more of the child's are asked for.
+/// Pushes the pairs of a slot in a range where no range-delete covers a key, until there are `limit` pairs, in rounds: messages
+/// may remove pairs, so that more of the child's are requested.
 #[cycle(walk)]
 fn walk_rounds<U: Update>(
     alloc: Global,
@@ -116,8 +116,8 @@ fn walk_rounds<U: Update>(
     Ok(())
 }
 
-/// One round: the child is asked for as many pairs as are wanted, and the messages are laid over them. Where that gives fewer,
-/// and the child may have more, it answers the key where the next round begins.
+/// One round: it reads as many pairs of the child as are wanted, and applies the messages to them. If that gives fewer, and the
+/// child may have more, it returns the key where the next round begins.
 #[cycle(walk)]
 fn round<U: Update>(
     alloc: Global,

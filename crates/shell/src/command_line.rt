@@ -234,7 +234,7 @@ fn with_work<'a>(alloc: Global) -> Result<Command<'a>, AllocError>
         "steps",
         "N",
         value_parser!(u16).range(0..=1000),
-        "Steps of tidying after each line, 0 to 1000 [default: 0]",
+        "Tree steps after each line, 0 to 1000 [default: 0]",
     )
 }
 

@@ -1,4 +1,4 @@
-//! A subtree under a range-delete of its whole range, which goes at once.
+//! A subtree under a range-delete of its whole range, which is dropped at once.
 ghost use Rattle.std.specs.Prelude.{◌≡◌, ◌∷◌, [], IfOk};
 ghost use Rattle.std.specs.Option.{option_copied};
 ghost use Rattle.node.specs.Places.{way};
@@ -18,12 +18,12 @@ use pending::Pending;
 use std::alloc::Global;
 use std::sync::Arc;
 
-/// Whether the oldest message of the first slot covers the slot's whole range, where the slots end at `hi`.
+/// Whether the oldest message of the first slot covers the slot's whole range, given that the slots end at `hi`.
 fn is_first_covered<U: Update>(slots: &[Slot<U>], hi: Option<&Key>) -> bool
     ensures { result ≡ can_drop_covered (option_copied hi.entry) (seen_slots slots.now) }
 {
     let Some((slot, later)) = slots.split_first() else {
-        // Not met: the slot is among these.
+        // Unreachable: the slot is among these.
         return false;
     };
     slot.pending.oldest_covers(&slot.lo, next_pivot(later, hi))
@@ -62,15 +62,14 @@ fn empty_subtree_like<U: Update>(
         return Ok(Arc::new(alloc, Node::empty_leaf(alloc))?);
     };
     let child = match slots.first() {
-        // Not met in a lawful tree, whose inner nodes have slots.
+        // Unreachable in a lawful tree, whose inner nodes have slots.
         None => Arc::new(alloc, Node::empty_leaf(alloc))?,
         Some(first) => empty_subtree_like(alloc, lo, &first.child)?,
     };
     node_above(alloc, lo, child)
 }
 
-/// Takes the oldest message away from a slot that begins at `lo`, and the subtree below it, in whose place an empty
-/// one comes.
+/// Removes the oldest message of a slot that begins at `lo`, and replaces the subtree below it by an empty one.
 fn clear_slot<U: Update>(
     alloc: Global,
     lo: &Key,
@@ -80,7 +79,7 @@ fn clear_slot<U: Update>(
     ensures { Swept result lo.now pending.old.0 pending.new.0 child.old.value child.new.value }
 {
     if pending.len() == 0 {
-        // Not met: `applies` has found the message.
+        // Unreachable: `applies` has found the message.
         return StepReply::NotThere;
     }
     let Ok(empty) = empty_subtree_like(alloc, lo, child) else {
@@ -91,7 +90,7 @@ fn clear_slot<U: Update>(
     StepReply::Did(1)
 }
 
-/// The drop of what stands below one slot.
+/// The drop of the subtree below one slot.
 struct CoveredDrop;
 
 impl<U: Update> SlotStep<U> for CoveredDrop {
@@ -117,7 +116,7 @@ impl<U: Update> SlotStep<U> for CoveredDrop {
         i: usize,
     ) -> StepReply {
         if i >= slots.len() {
-            // Not met: `applies` has found the slot.
+            // Unreachable: `applies` has found the slot.
             return StepReply::NotThere;
         }
         let slot = &mut slots[i];
@@ -125,11 +124,11 @@ impl<U: Update> SlotStep<U> for CoveredDrop {
     }
 }
 
-/// Drops what stands below a slot whose oldest message is a range-delete of the slot's whole range, and that message.
+/// Drops the subtree below a slot whose oldest message is a range-delete of the slot's whole range, and that message.
 ///
-/// An empty subtree of the same depth comes in its place: the old one is not walked but down its first children, and
-/// goes with its last owner. The answer is `NotThere`, without memory, where the node, the slot or the message is
-/// missing or the message leaves a key of the slot's range alone, and never `NoRoom`.
+/// An empty subtree of the same depth replaces it: the old one is walked only down its first children, and is freed with
+/// its last reference. It returns `NotThere`, without allocating, if the node, the slot or the message is missing or the
+/// message does not cover a key of the slot's range, and never `NoRoom`.
 pub fn drop_covered<U: Update>(alloc: Global, tree: &mut Tree<U>, at: Place, slot: u8) -> StepReply
     ensures { Answers U.means DropCovered (way at) slot result tree.old tree.new }
 {

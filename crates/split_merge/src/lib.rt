@@ -1,8 +1,8 @@
-//! Steps that change a tree's shape and keep what it means: nodes are cut in two and joined, a covered subtree goes
-//! at once, and the root goes up and down.
+//! Steps that change a tree's shape and preserve what it means: nodes are split and merged, a covered subtree is dropped at
+//! once, and the root is raised and lowered.
 //!
-//! Each step keeps the value at every key and every limit of the tree's shape. Where a slot is cut at a pivot, so is
-//! the list of the messages that wait in it.
+//! Each step preserves the value at every key and every limit of the tree's shape. If a slot is split at a pivot, so is its
+//! list of pending messages.
 #![tactic(auto)]
 
 pub mod drop_subtree;

@@ -1,4 +1,4 @@
-//! The root one level down.
+//! The root lowered by one level.
 ghost use Rattle.std.specs.Prelude.{◌≡◌, ◌∷◌, [], None, IfOk, IfErr};
 ghost use Rattle.std.specs.Option.{option_copied};
 ghost use Rattle.node.specs.Appended.{batches_by_slot, HaveTaken, IsAppended};
@@ -15,8 +15,8 @@ use pending::Pending;
 use std::alloc::Global;
 use std::sync::Arc;
 
-/// A slot over the same child, where the list's part for the slot's range stands behind the messages that waited; `hi` is where
-/// the range ends, if it does.
+/// A slot over the same child, with the list's part for the slot's range after the messages that were pending; `hi` is the
+/// end of the range, if it has one.
 fn slot_over<U: Update>(
     alloc: Global,
     slot: &Slot<U>,
@@ -33,8 +33,8 @@ fn slot_over<U: Update>(
     Ok(Slot { lo, pending, child })
 }
 
-/// The slots of a node over the same children, where the list's part for each slot's range stands
-/// behind the messages that waited there; the last one has no end.
+/// The slots of a node over the same children, with the list's part for each slot's range after the messages that were
+/// pending there; the last one has no end.
 fn slots_over<U: Update>(
     alloc: Global,
     slots: &[Slot<U>],
@@ -52,8 +52,8 @@ fn slots_over<U: Update>(
     Ok(all)
 }
 
-/// A root over the slots' children, where the list's messages stand behind what waited in the slots, each in those whose ranges it
-/// touches.
+/// A root over the slots' children, with the list's messages after those pending in the slots, each in those whose ranges
+/// it touches.
 fn appended<U: Update>(
     alloc: Global,
     slots: &[Slot<U>],
@@ -71,7 +71,7 @@ fn new_root_down<U: Update>(alloc: Global, root: &Node<U>) -> Result<Arc<Node<U>
     ensures err { IfErr result (λ e. Stays e root.now) }
 {
     let Body::Inner(slots) = root.body() else {
-        // Not met: a tree's root is an inner node.
+        // Unreachable: a tree's root is an inner node.
         return Err(StepReply::NotThere);
     };
     if slots.len() != 1 {
@@ -88,11 +88,11 @@ fn new_root_down<U: Update>(alloc: Global, root: &Node<U>) -> Result<Arc<Node<U>
     Ok(new)
 }
 
-/// Puts the root's only child in the root's place, and the old root's messages behind what waits in its slots.
+/// Replaces the root by its only child, and appends the old root's messages to those pending in the child's slots.
 ///
-/// It copies the child's own level, and cuts the root's list into its lists. They share the messages for one key with the lists
-/// that they come from, and what stands below is shared. It answers `NotThere`, without memory, where the root has more slots than
-/// one or its child is a leaf, and never `NoRoom`, since a root's lists have no limit.
+/// It copies the child's own level, and cuts the root's list into its lists. They share the messages for one key with the
+/// lists that they come from, and what is below is shared. It returns `NotThere`, without allocating, if the root has more
+/// than one slot or its child is a leaf, and never `NoRoom`, since a root's lists have no limit.
 pub fn root_down<U: Update>(alloc: Global, tree: &mut Tree<U>) -> StepReply
     ensures { AnswersDown U.means result tree.old tree.new }
 {

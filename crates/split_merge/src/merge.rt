@@ -1,4 +1,4 @@
-//! Two neighbouring slots made one, over one node of what both children hold.
+//! Two neighbouring slots merged into one, over one node with the contents of both children.
 //!
 //! The ranges of the slots are disjoint, so the left slot's messages and then the right slot's mean at each key what
 //! its own list meant.
@@ -22,21 +22,21 @@ use pending::Pending;
 use std::alloc::Global;
 use std::sync::Arc;
 
-/// Whether the slot with number `i` has a next one.
+/// Whether the slot with index `i` has a next one.
 fn has_next<U: Update>(slots: &[Slot<U>], i: usize) -> bool
     ensures yes { result ≡ true → i + 1 < length slots.now }
     ensures no { result ≡ false → length slots.now ≤ i + 1 }
 {
-    // Not `i + 1 < slots.len()`: that sum may be no number.
+    // Not `i + 1 < slots.len()`: that sum may overflow.
     slots.len().saturating_sub(i) > 1
 }
 
-/// Whether two numbers are together at most this.
+/// Whether the sum of two numbers is at most this.
 fn fit(left: u128, right: u128, most: u16) -> bool
     ensures yes { result ≡ true → left + right ≤ most }
     ensures no { result ≡ false → most < left + right }
 {
-    // No two nodes of a tree hold so much that the sum is cut off.
+    // No two nodes of a tree hold so much that the sum saturates.
     left.saturating_add(right) <= most as u128
 }
 
@@ -64,20 +64,20 @@ fn fit_in_one<U: Update>(shape: Shape, left: &Node<U>, right: &Node<U>) -> bool
         (Body::Inner(slots), Body::Inner(later)) => {
             slots_fit(shape, slots.as_slice(), later.as_slice())
         }
-        // Not met, as the next: a tree's leaves are equally deep.
+        // Unreachable, as the next: a tree's leaves are at equal depth.
         (Body::Leaf(_), Body::Inner(_)) => true,
         (Body::Inner(_), Body::Leaf(_)) => true,
     }
 }
 
-/// Whether one node has room for what the children of the slot with number `i` and of the next hold, or
-/// they are of two kinds, or there is no next one.
+/// Whether one node has room for what the children of the slot with index `i` and of the next hold, or they are of two
+/// kinds, or there is no next one.
 fn pair_fits<U: Update>(shape: Shape, slots: &[Slot<U>], i: usize) -> bool
     ensures yes { result ≡ true → AreTooMany shape (slots_from i (seen_slots slots.now)) → ⊥ }
     ensures no { result ≡ false → AreTooMany shape (slots_from i (seen_slots slots.now)) }
 {
     if !has_next(slots, i) {
-        // Not met: `applies` has found the next slot.
+        // Unreachable: `applies` has found the next slot.
         return true;
     }
     let first = &slots[i];
@@ -97,7 +97,7 @@ fn are_of_one_kind<U: Update>(left: &Node<U>, right: &Node<U>) -> bool
     }
 }
 
-/// Moves what the node `right` holds behind what `left` holds.
+/// Moves what the node `right` holds to the end of what `left` holds.
 fn merge_nodes<U: Update>(left: &mut Arc<Node<U>>, right: &mut Arc<Node<U>>) -> Result<(), NoMemory>
     requires { are_alike left.old.value right.old.value ≡ true }
     ensures ok { OnOk result (left.new.value ≡ both left.old.value right.old.value) }
@@ -106,7 +106,7 @@ fn merge_nodes<U: Update>(left: &mut Arc<Node<U>>, right: &mut Arc<Node<U>>) -> 
     let left = Arc::make_mut(left)?;
     let right = Arc::make_mut(right)?;
     match (left.body_mut(), right.body_mut()) {
-        // Where memory is refused, both hold what they held, but keep no weight.
+        // If an allocation fails, both hold what they held, but store no weight.
         (Body::Leaf(entries), Body::Leaf(later)) => entries.append(later)?,
         (Body::Inner(slots), Body::Inner(later)) => slots.append(later)?,
         // Callers have two of one kind.
@@ -117,7 +117,8 @@ fn merge_nodes<U: Update>(left: &mut Arc<Node<U>>, right: &mut Arc<Node<U>>) -> 
     Ok(())
 }
 
-/// A list of what waits in two slots, the messages of the right one behind the others. Both lists stay as they are, and are shared.
+/// A list of the messages pending in two slots, those of the right one after the others. Both lists stay as they are, and
+/// are shared.
 fn merged_pending<U: Update>(
     alloc: Global,
     left: &Slot<U>,
@@ -129,7 +130,7 @@ fn merged_pending<U: Update>(
     list.merged(alloc, right.pending.copy(alloc)?, &right.lo)
 }
 
-/// Moves the messages of the slot `right`, and what its child holds, behind those of `left`.
+/// Moves the messages of the slot `right`, and what its child holds, after those of `left`.
 fn merge_into_left<U: Update>(
     alloc: Global,
     left: &mut Slot<U>,
@@ -139,21 +140,21 @@ fn merge_into_left<U: Update>(
     ensures ok { OnOk result (IsJoined U.means left.old right.old left.new) }
     ensures err { OnErr result ((see_slot left.new ≡ see_slot left.old) × (see_slot right.new ≡ see_slot right.old)) }
 {
-    // First, since nothing may be refused once the nodes are joined.
+    // First, since no allocation may fail once the nodes are merged.
     let list = merged_pending(alloc, left, right)?;
     merge_nodes(&mut left.child, &mut right.child)?;
     left.pending = list;
     Ok(())
 }
 
-/// Makes one slot of the slot with number `i` of a node and the next.
+/// Merges the slot with index `i` of a node and the next.
 ///
-/// It asks for no room.
+/// It requires no room.
 fn merge_slots<U: Update>(alloc: Global, slots: &mut Vec<Slot<U>>, i: usize) -> StepReply
     ensures { (shape : Shape) (root : Bool) → MergeReplies U.means shape root i result (seen_slots slots.old.items) (seen_slots slots.new.items) }
 {
     if !has_next(slots.as_slice(), i) {
-        // Not met, nor are two kinds: `applies` has found two nodes of one kind.
+        // Unreachable, as are two kinds: `applies` has found two nodes of one kind.
         return StepReply::NotThere;
     }
     if !are_of_one_kind(&slots[i].child, &slots[i + 1].child) {
@@ -163,7 +164,7 @@ fn merge_slots<U: Update>(alloc: Global, slots: &mut Vec<Slot<U>>, i: usize) -> 
     if merge_into_left(alloc, &mut slots[i], &mut right).is_ok() {
         return StepReply::Did(0);
     }
-    // Refused memory: the slot goes back to the place that it has just left.
+    // An allocation failed: the slot goes back to the position that it has just left.
     let Ok(()) = slots.insert(i + 1, right) else {
         unreachable!()
     };
@@ -232,21 +233,21 @@ impl<U: Update> SlotStep<U> for InnerMerge {
     }
 }
 
-/// Makes one leaf of the leaves below a slot and the next, and one slot of the two, where both lists of messages wait.
+/// Merges the leaves below a slot and the next, and the two slots into one, in which both lists of messages are pending.
 ///
-/// It answers `NotThere`, without memory, where the node or one of the slots is missing or has no leaf below it, and
-/// `NoRoom` where one leaf has no room for the entries of both.
+/// It returns `NotThere`, without allocating, if the node or one of the slots is missing or has no leaf below it, and
+/// `NoRoom` if one leaf has no room for the entries of both.
 pub fn merge_leaves<U: Update>(alloc: Global, tree: &mut Tree<U>, at: Place, slot: u8) -> StepReply
     ensures { Answers U.means MergeLeaves (way at) slot result tree.old tree.new }
 {
     tree.step(alloc, &LeafMerge, at, slot)
 }
 
-/// Makes one inner node of the inner nodes below a slot and the next, and one slot of the two, where both lists of
-/// messages wait.
+/// Merges the inner nodes below a slot and the next, and the two slots into one, in which both lists of messages are
+/// pending.
 ///
-/// It answers `NotThere`, without memory, where the node or one of the slots is missing or has a leaf below it, and
-/// `NoRoom` where one node has no room for the slots of both or for what waits in them.
+/// It returns `NotThere`, without allocating, if the node or one of the slots is missing or has a leaf below it, and
+/// `NoRoom` if one node has no room for the slots of both or for what is pending in them.
 pub fn merge_inner<U: Update>(alloc: Global, tree: &mut Tree<U>, at: Place, slot: u8) -> StepReply
     ensures { Answers U.means MergeInner (way at) slot result tree.old tree.new }
 {

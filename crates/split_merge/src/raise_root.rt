@@ -1,4 +1,4 @@
-//! The root one level up.
+//! The root raised by one level.
 ghost use Rattle.std.specs.Prelude.{◌≡◌, ◌≤◌, ◌<◌, [], true, false, map, IfOk, IfErr};
 ghost use Rattle.message.specs.Effects.{Takes};
 ghost use Rattle.node.specs.RootSteps.{levels, AnswersUp};
@@ -12,7 +12,7 @@ use pending::Pending;
 use std::alloc::Global;
 use std::sync::Arc;
 
-/// Whether at least `n` inner nodes stand above the first leaf.
+/// Whether at least `n` inner nodes are above the first leaf.
 fn has_levels<U: Update>(node: &Node<U>, n: u8) -> bool
     ensures deep { result ≡ true → n ≤ levels node.now }
     ensures shallow { result ≡ false → levels node.now < n }
@@ -24,7 +24,7 @@ fn has_levels<U: Update>(node: &Node<U>, n: u8) -> bool
         return false;
     };
     match slots.first() {
-        // Not met in a lawful tree, whose inner nodes have slots.
+        // Unreachable in a lawful tree, whose inner nodes have slots.
         None => n == 1,
         Some(first) => has_levels(&first.child, n - 1),
     }
@@ -81,7 +81,7 @@ fn new_root_up<U: Update>(alloc: Global, root: &Node<U>) -> Result<Arc<Node<U>>,
     ensures err { IfErr result (λ e. Refused U.means e root.now) }
 {
     let Body::Inner(slots) = root.body() else {
-        // Not met: a tree's root is an inner node.
+        // Unreachable: a tree's root is an inner node.
         return Err(StepReply::NotThere);
     };
     if slots.len() == 1 {
@@ -96,10 +96,10 @@ fn new_root_up<U: Update>(alloc: Global, root: &Node<U>) -> Result<Arc<Node<U>>,
     Ok(new)
 }
 
-/// Puts a new root with one slot above the old one, and all messages of the old root into it.
+/// Puts a new root with one slot above the old one, and moves all messages of the old root into it.
 ///
-/// It answers `NotThere`, without memory, where the root has one slot, and `NoRoom` where the tree has 16 levels of
-/// inner nodes.
+/// It returns `NotThere`, without allocating, if the root has one slot, and `NoRoom` if the tree has 16 levels of inner
+/// nodes.
 pub fn root_up<U: Update>(alloc: Global, tree: &mut Tree<U>) -> StepReply
     ensures { AnswersUp U.means result tree.old tree.new }
 {

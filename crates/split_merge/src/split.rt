@@ -1,4 +1,4 @@
-//! An inner node cut in two.
+//! An inner node split in two.
 ghost use Rattle.std.specs.Prelude.{◌≡◌, IfOk};
 ghost use Rattle.node.specs.Places.{way};
 ghost use Rattle.node.specs.Pure.{inner};
@@ -33,7 +33,7 @@ fn node_over<U: Update>(alloc: Global, slots: &[Slot<U>]) -> Result<Arc<Node<U>>
     Ok(Arc::new(alloc, Node::of(body))?)
 }
 
-/// The halves of a node, where it is an inner node with two slots or more.
+/// The halves of a node, if it is an inner node with two slots or more.
 fn split_half<U: Update>(alloc: Global, node: &Node<U>) -> Result<Option<SplitNode<U>>, NoMemory>
     ensures { IfOk result (HalvesOf node.now) }
 {
@@ -78,7 +78,7 @@ impl<U: Update> SlotStep<U> for InnerSplit {
 
     fn has_room(&self, shape: Shape, root: bool, slots: &[Slot<U>], i: usize) -> bool {
         if i >= slots.len() {
-            // Not met: `applies` has found the slot.
+            // Unreachable: `applies` has found the slot.
             return true;
         }
         let slot = &slots[i];
@@ -94,14 +94,14 @@ impl<U: Update> SlotStep<U> for InnerSplit {
         i: usize,
     ) -> StepReply {
         if i >= slots.len() {
-            // Not met: `applies` has found the slot.
+            // Unreachable: `applies` has found the slot.
             return StepReply::NotThere;
         }
         let Ok(halves) = split_half(alloc, &slots[i].child) else {
             return StepReply::NoMemory;
         };
         let Some(SplitNode { pivot, left, right }) = halves else {
-            // Not met: `applies` has found an inner node with two slots or more.
+            // Unreachable: `applies` has found an inner node with two slots or more.
             return StepReply::NotThere;
         };
         if slots.reserve(1).is_err() {
@@ -111,19 +111,19 @@ impl<U: Update> SlotStep<U> for InnerSplit {
             return StepReply::NoMemory;
         };
         let Ok(()) = slots.insert(i + 1, back) else {
-            // Room for it was reserved before the cut.
+            // Room for it was reserved before the split.
             unreachable!()
         };
         StepReply::Did(0)
     }
 }
 
-/// Cuts the inner node below a slot in two, each with half of its slots, and the slot's messages at the pivot between
+/// Splits the inner node below a slot in two, each with half of its slots, and the slot's messages at the pivot between
 /// them.
 ///
-/// It answers `NotThere`, without memory, where the node or the slot is missing or the child is a leaf or has one
-/// slot, and `NoRoom` where the node has no room for one slot more or, below the root, for the range-deletes that
-/// would stand in both slots.
+/// It returns `NotThere`, without allocating, if the node or the slot is missing or the child is a leaf or has one slot,
+/// and `NoRoom` if the node has no room for one more slot or, below the root, for the range-deletes that would be in both
+/// slots.
 pub fn split_inner<U: Update>(alloc: Global, tree: &mut Tree<U>, at: Place, slot: u8) -> StepReply
     ensures { Answers U.means SplitInner (way at) slot result tree.old tree.new }
 {

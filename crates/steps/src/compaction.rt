@@ -1,6 +1,7 @@
-//! Relief: the heaviest flush or, where it has no room, what makes room for it.
+//! Compaction: the fullest slot's flush or, if it has no room, a step that makes room for it.
 //!
-//! It stands here once, for a tree by itself and for the live trees of a volume, whose steps also say which marks they leave.
+//! It is written once, for a tree by itself and for the live trees of a volume, whose steps also report which marks they
+//! leave.
 ghost use Rattle.std.specs.Prelude.{◌≡◌, ◌↔◌, None, IfSome, IfNone};
 ghost use Rattle.node.specs.Places.{way};
 ghost use Rattle.node.specs.Report.{total};
@@ -15,7 +16,7 @@ use message::Update;
 use node::{StepReply, Tree, TreeStep};
 use std::alloc::Global;
 
-/// How many steps that have no room are given up for another before a turn ends.
+/// How many steps without room are replaced by another before a turn ends.
 pub const MAX_ATTEMPTS: u8 = 64;
 
 /// A step that was tried, and its reply.
@@ -23,7 +24,7 @@ pub const MAX_ATTEMPTS: u8 = 64;
 pub struct TriedStep {
     /// The step.
     pub step: TreeStep,
-    /// What it answered.
+    /// Its reply.
     pub reply: StepReply,
 }
 
@@ -34,20 +35,20 @@ pub trait CompactTarget<T> {
     ghost use Rattle.node.specs.declared.place.TreeStep.{TreeStep};
     ghost use Rattle.node.specs.declared.step.StepReply.{StepReply};
 
-    /// What a step that answers so says of `T` before and after it.
+    /// What a step with that reply says of `T` before and after it.
     ghost answers: { Self → TreeStep → StepReply → T → T → Type 0 };
 
-    /// How many pieces wait in the tree.
+    /// How many pieces are pending in the tree.
     ghost waiting: { Self → T → ℕ };
 
-    /// The flush of the slot than which none has more pending messages; none where nothing is pending.
+    /// The flush of the slot than which none has more pending messages; `None` if nothing is pending.
     fn heaviest(self, on: &T) -> Option<TreeStep>
         ensures { (result ≡ None) ↔ (waiting self on.now ≡ 0) };
 
-    /// A step to try where this one has no room; none where none is known.
+    /// A step to try if this one has no room; `None` if none is known.
     fn make_room(self, on: &T, step: TreeStep) -> Option<TreeStep>;
 
-    /// The step that parts a flush's node before the flush is tried; none where the flush is to be tried at once.
+    /// The step that splits a flush's node before the flush is tried; `None` if the flush is to be tried at once.
     fn preemptive_split(self, on: &T, flush: TreeStep) -> Option<TreeStep>;
 
     /// Tries the step.
@@ -87,7 +88,7 @@ impl<U: Update> CompactTarget<Tree<U>> for SingleTree {
     }
 }
 
-/// Does the step or, where it has no room, what makes room for it; gives the step that was tried last.
+/// Does the step or, if it has no room, a step that makes room for it; returns the step that was tried last.
 fn do_with_room<T, L: CompactTarget<T> + Copy>(
     alloc: Global,
     lane: L,
@@ -108,8 +109,8 @@ fn do_with_room<T, L: CompactTarget<T> + Copy>(
     do_with_room(alloc, lane, on, other, tries - 1)
 }
 
-/// Parts the flush's node, or does what makes room for that, where this is better than to try the flush; `None` where it is
-/// not or none of these steps is done, and nothing has changed.
+/// Splits the flush's node, or does what makes room for that, if this is better than to try the flush; `None` if it is not
+/// or none of these steps is done, and nothing has changed.
 fn prepare<T, L: CompactTarget<T> + Copy>(
     alloc: Global,
     lane: L,
@@ -127,10 +128,10 @@ fn prepare<T, L: CompactTarget<T> + Copy>(
     }
 }
 
-/// Flushes the heaviest slot of the tree or, where its flush has no room, does what makes room for it; `None` where nothing is
-/// pending. Where a full leaf could not be cut, since its node has all slots that it may have, the node is parted first.
+/// Flushes the fullest slot of the tree or, if its flush has no room, does what makes room for it; `None` if nothing is
+/// pending. If a full leaf could not be split, since its node has all slots that it may have, the node is split first.
 ///
-/// The reply is `NoRoom` only where no step that makes room was found, or where [`MAX_ATTEMPTS`] of them had none either.
+/// The reply is `NoRoom` only if no step that makes room was found, or if [`MAX_ATTEMPTS`] of them had none either.
 pub fn compact_in<T, L: CompactTarget<T> + Copy>(
     alloc: Global,
     lane: L,

@@ -18,9 +18,9 @@ pub use compaction::{
 };
 pub use room::{make_room, preemptive_split};
 
-/// Does the step. Whatever it answers, the tree means what it meant.
+/// Does the step. Whatever the reply, the tree means what it meant.
 ///
-/// `NotThere`, `NoRoom` and `NoMemory` come where the step of that kind answers them, and leave the tree as it was.
+/// `NotThere`, `NoRoom` and `NoMemory` are returned if the step of that kind returns them, and leave the tree as it was.
 pub fn do_step<U: Update>(alloc: Global, tree: &mut Tree<U>, step: TreeStep) -> StepReply
     ensures { StepAnswers U.means step.kind (way step.at) step.slot result tree.old tree.new }
 {

@@ -1,11 +1,11 @@
-//! What makes room where a step has none.
+//! Steps that make room for a step that has none.
 //!
-//! No claim rests on the choices that are made here: every step keeps what the tree means, and is proved to.
+//! No claim depends on the choices that are made here: every step preserves what the tree means, and is proved to.
 use message::Update;
 use node::count::pending_len;
 use node::{Body, Node, Place, Shape, Slot, StepKind, Tree, TreeStep};
 
-/// The slots of the node that the numbers lead to; `None` where no inner node is there.
+/// The slots of the node that the indexes lead to; `None` if no inner node is there.
 fn slots_at<'a, U: Update>(root: &'a Node<U>, numbers: &[u8]) -> Option<&'a [Slot<U>]> {
     let mut node = root;
     for number in numbers {
@@ -14,7 +14,7 @@ fn slots_at<'a, U: Update>(root: &'a Node<U>, numbers: &[u8]) -> Option<&'a [Slo
     node.slots()
 }
 
-/// The place that these numbers lead to; `None` where they are more than 15.
+/// The place that these indexes lead to; `None` if they are more than 15.
 fn place_from(numbers: &[u8]) -> Option<Place> {
     let mut at = Place::root();
     for number in numbers {
@@ -23,7 +23,7 @@ fn place_from(numbers: &[u8]) -> Option<Place> {
     Some(at)
 }
 
-/// The number of the slot with the most messages, the first of equals; `None` where no message waits.
+/// The index of the slot with the most messages, the first of equals; `None` if no message is pending.
 fn fullest<U: Update>(slots: &[Slot<U>]) -> Option<usize> {
     let mut number = None;
     let mut most = 0;
@@ -43,7 +43,7 @@ fn flush_of<U: Update>(slots: &[Slot<U>], at: Place, number: usize) -> Option<Tr
     } else {
         StepKind::FlushInner
     };
-    // Always a number: a node of a tree has at most 64 slots.
+    // Always succeeds: a node of a tree has at most 64 slots.
     let slot = u8::try_from(number).ok()?;
     Some(TreeStep { kind, at, slot })
 }
@@ -63,14 +63,14 @@ fn of_root(kind: StepKind) -> TreeStep {
     }
 }
 
-/// The step that parts the node at a place: at the root a new root goes above it first.
+/// The step that splits the node at a place: at the root a new root is put above it first.
 fn split_node(at: Place) -> Option<TreeStep> {
     let Some((last, above)) = at.numbers().split_last() else {
         return Some(of_root(StepKind::RootUp));
     };
     Some(TreeStep {
         kind: StepKind::SplitInner,
-        // Always a place: these are the numbers of one without the last.
+        // Always a place: these are the indexes of one without the last.
         at: place_from(above)?,
         slot: *last,
     })
@@ -78,11 +78,11 @@ fn split_node(at: Place) -> Option<TreeStep> {
 
 /// How the children of two neighbouring slots are merged; `None` if one node with what both hold would be over half full.
 ///
-/// A node that was cut in two is over half full when its parts are put together again, so a cut is not undone by a merge.
+/// A node that was split in two is over half full when its parts are merged again, so a split is not undone by a merge.
 fn merge_of<U: Update>(shape: Shape, slot: &Slot<U>, next: &Slot<U>) -> Option<StepKind> {
     match (slot.child.body(), next.child.body()) {
         (Body::Leaf(entries), Body::Leaf(later)) => {
-            // Each message counts as the entry that it may add, so that flushing them does not cut the merged leaf again.
+            // Each message counts as the entry that it may add, so that flushing them does not split the merged leaf again.
             let waiting = slot.pending.len().saturating_add(next.pending.len());
             let all = entries.len().saturating_add(later.len());
             if all.saturating_add(waiting) > shape.leaf as usize / 2 {
@@ -102,7 +102,7 @@ fn merge_of<U: Update>(shape: Shape, slot: &Slot<U>, next: &Slot<U>) -> Option<S
             }
             Some(StepKind::MergeInner)
         }
-        // Not met: the leaves of a tree are equally deep.
+        // Unreachable: the leaves of a tree are at equal depth.
         _ => None,
     }
 }
@@ -116,7 +116,7 @@ fn merge_in<U: Update>(shape: Shape, slots: &[Slot<U>], at: Place) -> Option<Tre
             return Some(TreeStep { kind, at, slot });
         }
         left = next;
-        // No node of a tree has so many slots that the number is cut off.
+        // No node of a tree has so many slots that the index saturates.
         slot = slot.saturating_add(1);
     }
     None
@@ -130,7 +130,7 @@ fn is_small<U: Update>(shape: Shape, node: &Node<U>) -> bool {
     }
 }
 
-/// Whether the child of the slot with this number, or of a slot beside it, is small.
+/// Whether the child of the slot with this index, or of a slot beside it, is small.
 fn is_near_small<U: Update>(shape: Shape, slots: &[Slot<U>], number: usize) -> bool {
     for i in number.saturating_sub(1)..number.saturating_add(2) {
         if let Some(slot) = slots.get(i) {
@@ -142,7 +142,8 @@ fn is_near_small<U: Update>(shape: Shape, slots: &[Slot<U>], number: usize) -> b
     false
 }
 
-/// The first merge of two children of the node at a place, if a path leads by the slot with this number and a child there is small.
+/// The first merge of two children of the node at a place, if a path goes through the slot with this index and a child
+/// there is small.
 fn merge_near<U: Update>(
     shape: Shape,
     slots: &[Slot<U>],
@@ -171,9 +172,9 @@ fn merge_on_path<U: Update>(tree: &Tree<U>, flush: TreeStep) -> Option<TreeStep>
     merge_near(tree.shape(), node.slots()?, at, flush.slot as usize)
 }
 
-/// The step that takes away a root with one slot whose child has few slots; `None` if the root is not so.
+/// The step that removes a root with one slot whose child has few slots; `None` if the root is not so.
 ///
-/// A root goes up only over a node with all slots that it may have, so that the two steps do not alternate.
+/// A root is raised only over a node with all slots that it may have, so that the two steps do not alternate.
 fn lower<U: Update>(tree: &Tree<U>) -> Option<TreeStep> {
     let slots = tree.root().slots()?;
     if slots.len() != 1 {
@@ -186,7 +187,7 @@ fn lower<U: Update>(tree: &Tree<U>) -> Option<TreeStep> {
     Some(of_root(StepKind::RootDown))
 }
 
-/// The step that takes away a root with one slot, or merges two neighbours on the path to a flush.
+/// The step that removes a root with one slot, or merges two neighbours on the path to a flush.
 fn shrink<U: Update>(tree: &Tree<U>, flush: TreeStep) -> Option<TreeStep> {
     match lower(tree) {
         Some(step) => Some(step),
@@ -194,10 +195,10 @@ fn shrink<U: Update>(tree: &Tree<U>, flush: TreeStep) -> Option<TreeStep> {
     }
 }
 
-/// The step that cuts the node of a flush in two, if the flush is into a full leaf and the node has all slots that it may have.
+/// The step that splits the node of a flush, if the flush is into a full leaf and the node has all slots that it may have.
 ///
-/// A full leaf is cut for what a flush brings, but not below such a node: there a flush takes no more than the messages that add no
-/// entry. If more of these arrive again and again, those behind them would never move.
+/// A full leaf is split for what a flush brings, but not below such a node: there a flush takes no more than the messages
+/// that add no entry. If more of these arrive again and again, those after them would never move.
 fn part_full<U: Update>(tree: &Tree<U>, flush: TreeStep) -> Option<TreeStep> {
     let slots = slots_at(tree.root(), flush.at.numbers())?;
     let slot = slots.get(flush.slot as usize)?;
@@ -213,8 +214,8 @@ fn part_full<U: Update>(tree: &Tree<U>, flush: TreeStep) -> Option<TreeStep> {
     }
 }
 
-/// The step that reshapes the nodes on the way to a flush before the flush is tried: a merge of nodes that removals have left
-/// nearly empty, or else a cut of the flush's node. `None` if the flush is to be tried at once.
+/// The step that reshapes the nodes on the path to a flush before the flush is tried: a merge of nodes that removals have
+/// left nearly empty, or else a split of the flush's node. `None` if the flush is to be tried at once.
 pub fn preemptive_split<U: Update>(tree: &Tree<U>, flush: TreeStep) -> Option<TreeStep> {
     match shrink(tree, flush) {
         Some(step) => Some(step),
@@ -257,7 +258,7 @@ fn takes_any<U: Update>(shape: Shape, slot: &Slot<U>) -> bool {
     }
 }
 
-/// The number of the slot with the most messages, the first of equals, of those whose flush has room in any case.
+/// The index of the slot with the most messages, the first of equals, of those whose flush has room in any case.
 fn fullest_with_room<U: Update>(shape: Shape, slots: &[Slot<U>]) -> Option<usize> {
     let mut number = None;
     let mut most = 0;
@@ -270,8 +271,8 @@ fn fullest_with_room<U: Update>(shape: Shape, slots: &[Slot<U>]) -> Option<usize
     number
 }
 
-/// What makes room where a node has too many messages for one of its children to be cut: a flush of a slot whose child has room.
-/// If there is none, two leaves of the child that was to be cut are merged, so that it has a free slot itself.
+/// What makes room if a node has too many messages for one of its children to be split: a flush of a slot whose child has
+/// room. If there is none, two leaves of the child that was to be split are merged, so that it has a free slot itself.
 fn unload<U: Update>(tree: &Tree<U>, slots: &[Slot<U>], split: TreeStep) -> Option<TreeStep> {
     if let Some(number) = fullest_with_room(tree.shape(), slots) {
         return flush_of(slots, split.at, number);
@@ -282,17 +283,17 @@ fn unload<U: Update>(tree: &Tree<U>, slots: &[Slot<U>], split: TreeStep) -> Opti
     }
 }
 
-/// What makes room where a node has too many messages for one of its leaves to be cut: a flush of its fullest slot.
+/// What makes room if a node has too many messages for one of its leaves to be split: a flush of its fullest slot.
 fn flush_or_part<U: Update>(slots: &[Slot<U>], flush: TreeStep) -> Option<TreeStep> {
     let other = flush_of(slots, flush.at, fullest(slots)?)?;
     if other.slot != flush.slot {
         return Some(other);
     }
-    // The flush's own slot is the fullest, and it has no room: the node is parted.
+    // The flush's own slot is the fullest, and it has no room: the node is split.
     split_node(flush.at)
 }
 
-/// What gives the step's node room for one slot more, or makes that needless.
+/// What gives the step's node room for one more slot, or makes that needless.
 fn widen_parent<U: Update>(tree: &Tree<U>, step: TreeStep) -> Option<TreeStep> {
     let slots = slots_at(tree.root(), step.at.numbers())?;
     if slots.len() >= tree.shape().fanout as usize {
@@ -304,12 +305,12 @@ fn widen_parent<U: Update>(tree: &Tree<U>, step: TreeStep) -> Option<TreeStep> {
     }
 }
 
-/// A step to do where this one has no room; `None` where none is known. That step may have no room either, and then a
-/// step to do in its place is found by the next call.
+/// A step to do if this one has no room; `None` if none is known. That step may have no room either, and then a step to do
+/// in its place is found by the next call.
 ///
 /// A flush into an inner node waits for that node's fullest slot. A flush into a leaf and a split wait for their node to
-/// have one slot more: where it has all that it may have, it is cut in two itself, the root below a new one; where its
-/// pending pieces are too many, one of its slots is flushed, or leaves below are merged.
+/// have one more slot: if it has all that it may have, it is split itself, the root below a new one; if its pending pieces
+/// are too many, one of its slots is flushed, or leaves below are merged.
 pub fn make_room<U: Update>(tree: &Tree<U>, step: TreeStep) -> Option<TreeStep> {
     match step.kind {
         StepKind::FlushInner => flush_fullest(tree, step.at.under(step.slot)?),

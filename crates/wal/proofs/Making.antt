@@ -12,7 +12,7 @@ use Rattle.volume.specs.Typed.{replied}
 use Rattle.volume.specs.Volumes.{PVolume, Means}
 use Rattle.wal.specs.declared.wal_entry.WalEntry.{WalEntry}
 use Rattle.wal.specs.declared.wal_entry.WalEntry.TheVariants.{SetMtime}
-use Rattle.wal.specs.Runs.{Asked, FitsAsked, Happens, HasMtime, IsRefused, Makes, Reaches, asked_in, fault_in, fault_of, made, outcome_of}
+use Rattle.wal.specs.Runs.{Effect, FitsEffect, Happens, HasMtime, IsRefused, Makes, Reaches, effect_in, fault_in, fault_of, made, outcome_of}
 
 lack_reported : (w : World) (e : Event) (a : Answer) → MayLack w e a → fault_of a ≡ Some ENOMEM
 lack_reported w (Ask c at) a h = ap fault_of h
@@ -32,15 +32,15 @@ no_lack (Settled (Err e)) h = cc
 
 -- the answer fits each world that the volume meant; where it is no refusal, the world refuses nothing, and the volume now means the next one
 pub Answers : WalEntry → Answer → PVolume → PVolume → Type 0
-Answers c a old new = (w : World) → Means old w → FitsAsked w (asked_in w c) a × (fault_of a ≡ None → (fault_in w c ≡ None) × Means new (made w c))
+Answers c a old new = (w : World) → Means old w → FitsEffect w (effect_in w c) a × (fault_of a ≡ None → (fault_in w c ≡ None) × Means new (made w c))
 
 -- of an event that a world is asked for
-pub answers_from : (c : WalEntry) (event : World → Event) (a : Answer) (old new : PVolume) → ((w : World) → asked_in w c ≡ Happens (event w)) → ((w : World) → Means old w → Fits w (event w) a × Means new (next w (event w) a)) → Answers c a old new
+pub answers_from : (c : WalEntry) (event : World → Event) (a : Answer) (old new : PVolume) → ((w : World) → effect_in w c ≡ Happens (event w)) → ((w : World) → Means old w → Fits w (event w) a × Means new (next w (event w) a)) → Answers c a old new
 unfolding Answers
 answers_from c event a old new is h = λ w m.
     let both = h w m in
     let e = event w in
-    subst (λ (x : Asked). FitsAsked w x a × (fault_of a ≡ None → (fault_of (outcome_of w x).1 ≡ None) × Means new (outcome_of w x).0)) (sym (is w)) (
+    subst (λ (x : Effect). FitsEffect w x a × (fault_of a ≡ None → (fault_of (outcome_of w x).1 ≡ None) × Means new (outcome_of w x).0)) (sym (is w)) (
       both.0,
       λ good. (
         ⊎_elim
@@ -56,7 +56,7 @@ mtime_answers : (p : Path) (at : ℕ) (r : Reply) (old new : PVolume) → SetsMt
 unfolding Answers
 mtime_answers p at r old new sets = λ w m. from w (sets.leads w m)
   where
-    from : (w : World) → Sets p at r new w ⊎ (r ≡ Fault ENOMEM) → FitsAsked w (HasMtime p at) (Replied r) × (fault_of (Replied r) ≡ None → (fault_in w (SetMtime p at) ≡ None) × Means new (made w (SetMtime p at)))
+    from : (w : World) → Sets p at r new w ⊎ (r ≡ Fault ENOMEM) → FitsEffect w (HasMtime p at) (Replied r) × (fault_of (Replied r) ≡ None → (fault_in w (SetMtime p at) ≡ None) × Means new (made w (SetMtime p at)))
     from w (inl h) = (inl (ap Replied h.0), λ good. (ap (λ (q : Reply). fault_of (Replied q)) (sym h.0) ∙ good, h.1))
     from w (inr h) = (inr (ap Replied h), λ good. absurd (let lack : fault_of (Replied r) ≡ Some ENOMEM = ap (λ (q : Reply). fault_of (Replied q)) h in cc))
 

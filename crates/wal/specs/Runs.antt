@@ -17,31 +17,31 @@ use Rattle.volume.specs.Mtimes.{with_mtime}
 use Rattle.volume.specs.Volumes.{PVolume, Means}
 use Rattle.wal.specs.declared.replay_error.ReplayError.{ReplayError}
 
--- what a change asks of a world: an event, or that what is at a path has this mtime
-pub data Asked : Type 0 where
-  Happens : Event → Asked
-  HasMtime : Path → ℕ → Asked
+-- what a change does to a world: it is an event, or it gives what is at a path this mtime
+pub data Effect : Type 0 where
+  Happens : Event → Effect
+  HasMtime : Path → ℕ → Effect
 
-abbrev pub asked_in : World → WalEntry → Asked
-asked_in w (OnPath what p at) = Happens (Ask (call_at what p) at)
-asked_in w (Rename o n at) = Happens (Ask (ask.Rename o n) at)
-asked_in w (Truncate p len at) = Happens (Ask (ask.Truncate p len) at)
-asked_in w (Write p off bytes at) = Happens (Ask (ask.Write p off bytes) at)
-asked_in w (Punch p off n at) = Happens (hole_in p off n at w)
-asked_in w (SetMtime p at) = HasMtime p at
-asked_in w (Keep Snapshot s) = Happens (TakeSnapshot s)
-asked_in w (Keep Remove s) = Happens (DropSnapshot s)
-asked_in w (Keep Restore s) = Happens (RestoreSnapshot s)
+abbrev pub effect_in : World → WalEntry → Effect
+effect_in w (OnPath what p at) = Happens (Ask (call_at what p) at)
+effect_in w (Rename o n at) = Happens (Ask (ask.Rename o n) at)
+effect_in w (Truncate p len at) = Happens (Ask (ask.Truncate p len) at)
+effect_in w (Write p off bytes at) = Happens (Ask (ask.Write p off bytes) at)
+effect_in w (Punch p off n at) = Happens (hole_in p off n at w)
+effect_in w (SetMtime p at) = HasMtime p at
+effect_in w (Keep Snapshot s) = Happens (TakeSnapshot s)
+effect_in w (Keep Remove s) = Happens (DropSnapshot s)
+effect_in w (Keep Restore s) = Happens (RestoreSnapshot s)
 
 -- the world after it, and the answer
-abbrev pub outcome_of : World → Asked → World × Answer
+abbrev pub outcome_of : World → Effect → World × Answer
 outcome_of w (Happens e) = outcome w e
 outcome_of w (HasMtime p at) = (with_mtime p at w, Replied (mtime_set at w.live p).1)
 
--- an answer to it: that one, or an allocation failure where there may be one
-abbrev pub FitsAsked : World → Asked → Answer → Type 0
-FitsAsked w (Happens e) a = Fits w e a
-FitsAsked w (HasMtime p at) a = (a ≡ Replied (mtime_set at w.live p).1) ⊎ (a ≡ Replied (Fault ENOMEM))
+-- an answer that fits it: that one, or an allocation failure where there may be one
+abbrev pub FitsEffect : World → Effect → Answer → Type 0
+FitsEffect w (Happens e) a = Fits w e a
+FitsEffect w (HasMtime p at) a = (a ≡ Replied (mtime_set at w.live p).1) ⊎ (a ≡ Replied (Fault ENOMEM))
 
 -- why an answer is a refusal, where it is one
 abbrev pub fault_of : Answer → Option Errno
@@ -51,11 +51,11 @@ fault_of _ = None
 
 -- why a world refuses a change, if it does
 abbrev pub fault_in : World → WalEntry → Option Errno
-fault_in w c = fault_of (outcome_of w (asked_in w c)).1
+fault_in w c = fault_of (outcome_of w (effect_in w c)).1
 
 -- the world after a change
 abbrev pub made : World → WalEntry → World
-made w c = (outcome_of w (asked_in w c)).0
+made w c = (outcome_of w (effect_in w c)).0
 
 -- and after changes, one after the other
 abbrev pub after : World → List WalEntry → World
@@ -75,7 +75,7 @@ Reaches cs old new = (w : World) → Means old w → AllDone w cs × Means new (
 
 -- each world that the volume means answers the change with this fault: its own, or want of memory where that may be
 abbrev pub IsRefused : WalEntry → Errno → PVolume → Type 0
-IsRefused c e v = (w : World) → Means v w → (a : Answer) × FitsAsked w (asked_in w c) a × (fault_of a ≡ Some e)
+IsRefused c e v = (w : World) → Means v w → (a : Answer) × FitsEffect w (effect_in w c) a × (fault_of a ≡ Some e)
 
 -- the change was done; or it was refused so, and nothing changed
 abbrev pub Makes : WalEntry → Result (Unit {0}) Errno → PVolume → PVolume → Type 0

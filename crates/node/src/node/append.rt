@@ -1,4 +1,5 @@
-//! New messages in the slots of a root. Slots from which a job was taken keep their lists, with the new messages behind them.
+//! New messages in the slots of a root. Slots from which a job was taken keep their lists, with the new messages after
+//! them.
 ghost use Rattle.std.specs.Prelude.{◌≡◌, ◌↔◌, ◌+◌, ◌<◌, ◌≤◌, ◌++◌, [], ◌∷◌, true, None, OnOk, OnErr, map, length, get_or};
 ghost use Rattle.message.specs.Effects.{Takes};
 ghost use Rattle.node.specs.Appended.{batches_by_slot as parts_of, HaveTaken, IsAppended};
@@ -16,7 +17,7 @@ use pathkey::NoMemory;
 use pending::Pending;
 use std::alloc::Global;
 
-/// Puts a part behind a list that has room for it; where `plain`, the list stays as it was.
+/// Appends a part to a list that has room for it; if `plain`, the list stays as it was.
 fn push_batch<U: Update>(pending: &mut Pending<U>, slot_batch: &mut Vec<Msg<U>>, plain: bool)
     requires { length slot_batch.old.items ≤ pending.old.1 }
     ensures takes { Takes U.means pending.old.0 slot_batch.old.items pending.new.0 }
@@ -29,7 +30,7 @@ fn push_batch<U: Update>(pending: &mut Pending<U>, slot_batch: &mut Vec<Msg<U>>,
     }
 }
 
-/// Whether the first of the numbers is above 0, and the others. It takes no memory.
+/// Whether the first of the numbers is above 0, and the others. It does not allocate.
 fn first_kept(kept: &[u32]) -> (bool, &[u32])
     ensures { IsFirstKept kept.now result.0 result.1.now }
 {
@@ -39,8 +40,8 @@ fn first_kept(kept: &[u32]) -> (bool, &[u32])
     }
 }
 
-/// Puts each part behind what waits in its slot, where there is room for it; where the slot's number is above 0, what
-/// waits stays as it was.
+/// Appends each part to its slot's pending list, which has room for it; if the slot's number is above 0, the list stays as
+/// it was.
 pub fn push_batches<U: Update>(
     slots: &mut [Slot<U>],
     batches_by_slot: &mut [Vec<Msg<U>>],
@@ -62,7 +63,7 @@ pub fn push_batches<U: Update>(
     push_batches(slots, batches_by_slot, kept)
 }
 
-/// Whether the number at the place is above 0; one that is missing is 0. It takes no memory.
+/// Whether the number at the index is above 0; a missing one is 0. It does not allocate.
 fn is_kept(kept: &[u32], i: usize) -> bool
     ensures { (0 < get_or kept.now i 0) ↔ (result ≡ true) }
 {
@@ -72,7 +73,7 @@ fn is_kept(kept: &[u32], i: usize) -> bool
     }
 }
 
-/// Puts a message behind a list that has room for it; where `plain`, the list stays as it was.
+/// Appends a message to a list that has room for it; if `plain`, the list stays as it was.
 fn push_msg<U: Update>(pending: &mut Pending<U>, msg: Msg<U>, plain: bool)
     requires { 0 < pending.old.1 }
     ensures takes { Takes U.means pending.old.0 (msg ∷ []) pending.new.0 }
@@ -86,8 +87,8 @@ fn push_msg<U: Update>(pending: &mut Pending<U>, msg: Msg<U>, plain: bool)
     }
 }
 
-/// Puts each message as it is behind what waits in the slot with the number in its place, where there is room for it; where a
-/// slot's number in `kept` is above 0, what waits stays as it was.
+/// Appends each message as it is to the pending list of the slot with the index at its position, which has room for it; if
+/// a slot's number in `kept` is above 0, its list stays as it was.
 fn push_unsplit<U: Update>(
     slots: &mut [Slot<U>],
     msgs: &mut MsgDrain<U>,
@@ -102,11 +103,11 @@ fn push_unsplit<U: Update>(
         return;
     };
     let Some((home, homes)) = homes.split_first() else {
-        // Each message has the number of its slot.
+        // Each message has the index of its slot.
         unreachable!()
     };
     let i = *home;
-    // The number was noted for one of these slots: said for the checker.
+    // The index was noted for one of these slots: stated for the checker.
     let is_there = i < slots.len();
     prove!(is_there);
     let plain = is_kept(kept, i);
@@ -114,8 +115,8 @@ fn push_unsplit<U: Update>(
     push_unsplit(slots, msgs, homes, kept)
 }
 
-/// Puts the messages behind what waits in the slots, where there is room for them; where a slot's number is above 0, what
-/// waits stays as it was.
+/// Appends the messages to the slots' pending lists, which have room for them; if a slot's number is above 0, its list
+/// stays as it was.
 fn put_batch<U: Update>(slots: &mut [Slot<U>], batch: Batch<U>, kept: &[u32])
     requires { HasRoomFor slots.old batch }
     ensures taken { HaveTaken U.means (seen_slots slots.old) (batch_parts batch (seen_slots slots.old)) (seen_slots slots.new) }
@@ -133,7 +134,7 @@ fn put_batch<U: Update>(slots: &mut [Slot<U>], batch: Batch<U>, kept: &[u32])
     }
 }
 
-/// Puts messages behind what waits in a root's slots; where a slot's number is above 0, what waits stays as it was.
+/// Appends messages to the pending lists of a root's slots; if a slot's number is above 0, its list stays as it was.
 fn append_slots<U: Update>(
     alloc: Global,
     slots: &mut [Slot<U>],
@@ -150,8 +151,8 @@ fn append_slots<U: Update>(
     Ok(())
 }
 
-/// Puts copies of messages behind what waits in slots, each cut to the ranges of the slots that it touches, whole or
-/// not at all. It asks nothing of the slots.
+/// Appends copies of messages to the slots' pending lists, each cut to the ranges of the slots that it touches, atomically.
+/// It requires nothing of the slots.
 pub fn append_copies<U: Update>(
     alloc: Global,
     slots: &mut [Slot<U>],
@@ -166,7 +167,7 @@ pub fn append_copies<U: Update>(
     Ok(())
 }
 
-/// Puts a message behind all others of a list, or leaves the list as it was.
+/// Appends a message to a list, or leaves the list as it was.
 fn push<U: Update>(pending: &mut Pending<U>, msg: Msg<U>) -> Result<(), NoMemory>
     ensures ok { OnOk result (Takes U.means pending.old.0 (msg ∷ []) pending.new.0) }
     ensures err { OnErr result (pending.new.0 ≡ pending.old.0) }
@@ -176,7 +177,7 @@ fn push<U: Update>(pending: &mut Pending<U>, msg: Msg<U>) -> Result<(), NoMemory
     Ok(())
 }
 
-/// Puts one message behind what waits in a root's slots. It makes no list of messages where one slot takes it as it is.
+/// Appends one message to the pending lists of a root's slots. It makes no list of messages if one slot takes it as it is.
 fn append_one<U: Update>(alloc: Global, slots: &mut [Slot<U>], msg: Msg<U>) -> Result<(), NoMemory>
     requires { IsRoot (inner (seen_slots slots.old)) }
     ensures ok { OnOk result (IsAppended U.means (msg ∷ []) (inner (seen_slots slots.old)) (inner (seen_slots slots.new))) }
@@ -191,7 +192,7 @@ fn append_one<U: Update>(alloc: Global, slots: &mut [Slot<U>], msg: Msg<U>) -> R
 }
 
 impl<U: Update> Node<U> {
-    /// Puts one message into the slots of a root.
+    /// Appends one message to the slots of a root.
     pub(crate) fn append_one(&mut self, alloc: Global, msg: Msg<U>) -> Result<(), NoMemory>
         requires { IsRoot self.old }
         ensures ok { OnOk result (IsAppended U.means (msg ∷ []) self.old self.new) }
@@ -204,7 +205,7 @@ impl<U: Update> Node<U> {
         append_one(alloc, slots.as_mut_slice(), msg)
     }
 
-    /// Puts messages into the slots of a root; where a slot's number is above 0, what waits stays as it was.
+    /// Appends messages to the slots of a root; if a slot's number is above 0, its list stays as it was.
     pub fn append_kept(
         &mut self,
         alloc: Global,
@@ -224,7 +225,7 @@ impl<U: Update> Node<U> {
     }
 }
 
-/// Puts messages into the slots of two roots, as `append_kept` does for each: both or neither.
+/// Appends messages to the slots of two roots, as `append_kept` does for each: both or neither.
 pub fn append_both_kept<A: Update, B: Update>(
     alloc: Global,
     first: &mut Node<A>,
@@ -254,7 +255,7 @@ pub fn append_both_kept<A: Update, B: Update>(
     let one = one.as_mut_slice();
     let two = two.as_mut_slice();
     let first_batch = prepare(alloc, one, first_msgs)?;
-    // Where this is refused, the first root has gained room and nothing else.
+    // If this fails, the first root has gained capacity and nothing else.
     let second_batch = prepare(alloc, two, second_msgs)?;
     put_batch(one, first_batch, first_kept);
     put_batch(two, second_batch, second_kept);

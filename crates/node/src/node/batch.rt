@@ -1,9 +1,9 @@
-//! New messages for the slots of a root, cut at the pivots, with room for them.
+//! New messages for the slots of a root, cut at the pivots, with room reserved for them.
 //!
-//! An append has two steps. `prepare` cuts the messages at the pivots and reserves room in every slot that takes
-//! some: it may be refused memory, and the tree looks the same. `put_batch` (in `append`) moves the parts into that room and
-//! cannot fail. So two trees are appended to together: prepare, prepare, put, put. A few messages that have all their keys in
-//! one slot each go to their slots as they are, without a part for each slot.
+//! An append has two steps. `prepare` cuts the messages at the pivots and reserves room in every slot that takes some: an
+//! allocation may fail, and the tree looks the same. `put_batch` (in `append`) moves the parts into that room and cannot
+//! fail. So two trees are appended to together: prepare, prepare, put, put. A few messages that have all their keys in one
+//! slot each go to their slots as they are, without a part for each slot.
 ghost use Rattle.std.specs.Prelude.{◌≡◌, true, OnOk, OnErr, IfOk, map, length, ◌++◌, [], None};
 ghost use Rattle.std.specs.Option.{option_copied, option_to_list};
 ghost use Rattle.node.specs.Appended.{batches_by_slot as parts_of, placed};
@@ -18,7 +18,7 @@ use message::{Msg, Update, UpdateTarget};
 use pathkey::{Key, NoMemory};
 use std::alloc::Global;
 
-/// Puts the piece, if there is one, at the end of a part.
+/// Appends the piece, if there is one, to a part.
 fn push_some<U: Update>(slot_batch: &mut Vec<Msg<U>>, piece: Option<Msg<U>>) -> Result<(), NoMemory>
     ensures { OnOk result (slot_batch.new.items ≡ slot_batch.old.items ++ option_to_list piece) }
 {
@@ -28,7 +28,7 @@ fn push_some<U: Update>(slot_batch: &mut Vec<Msg<U>>, piece: Option<Msg<U>>) -> 
     }
 }
 
-/// Puts the piece of the message that lies in each slot's range at the end of that slot's part.
+/// Appends the piece of the message within each slot's range to that slot's part.
 fn place_in_all<U: Update>(
     alloc: Global,
     slots: &[Slot<U>],
@@ -50,8 +50,7 @@ fn place_in_all<U: Update>(
     place_in_all(alloc, slots, hi, batches_by_slot, msg)
 }
 
-/// Puts the pieces of the message at the end of the parts of the slots that take them; a message for
-/// one key is moved and not cut.
+/// Appends the pieces of the message to the parts of the slots that take them; a message for one key is moved and not cut.
 fn place<U: Update>(
     alloc: Global,
     slots: &[Slot<U>],
@@ -85,7 +84,7 @@ fn empty_batches<U: Update>(alloc: Global, slots: &[Slot<U>]) -> Result<Vec<Vec<
     Ok(batches_by_slot)
 }
 
-/// The messages as each slot takes them, cut at the pivots; `hi` is where the last slot ends, if it does.
+/// The messages as each slot takes them, cut at the pivots; `hi` is the end of the last slot, if it has one.
 pub fn batches_by_slot<U: Update>(
     alloc: Global,
     slots: &[Slot<U>],
@@ -118,7 +117,7 @@ pub(crate) fn copy_batches<U: Update>(
     Ok(batches_by_slot)
 }
 
-/// Reserves room in each slot's list for its part. The slots mean what they meant, whatever it answers.
+/// Reserves room in each slot's list for its part. The slots mean what they meant, whatever the result.
 pub(crate) fn reserve_each<U: Update>(
     slots: &mut [Slot<U>],
     batches_by_slot: &[Vec<Msg<U>>],
@@ -137,21 +136,21 @@ pub(crate) fn reserve_each<U: Update>(
     reserve_each(slots, batches_by_slot)
 }
 
-/// How many messages an append brings to their slots as they are, at most.
+/// The largest number of messages that an append brings to their slots as they are.
 const FEW: usize = 4;
 
 /// The messages of an append as the slots take them.
 #[derive(Drop)]
 pub enum Batch<U: UpdateTarget> {
-    /// A few messages, each of which goes as it is to the slot with the number in its place.
+    /// A few messages, each of which goes as it is to the slot with the index at its position.
     Whole(Vec<Msg<U>>, [usize; FEW]),
     /// The part of each slot.
     Parts(Vec<Vec<Msg<U>>>),
 }
 
-/// Reserves room for `count` messages in the slot that takes each of the messages as it is, and notes its number in the
-/// message's place; says whether each has one. The slots mean what they meant, and have the room that they had, whatever it
-/// answers.
+/// Reserves room for `count` messages in the slot that takes each of the messages as it is, and notes the slot's index at
+/// the message's position; returns whether each has one. The slots mean what they meant, and have the room that they had,
+/// whatever the result.
 fn reserve_targets<U: Update>(
     slots: &mut [Slot<U>],
     count: usize,
@@ -167,7 +166,7 @@ fn reserve_targets<U: Update>(
         return Ok(true);
     };
     let Some((home, homes)) = homes.split_first_mut() else {
-        // Not met: `prepare` has a place for each message.
+        // Unreachable: `prepare` has a position for each message.
         return Ok(false);
     };
     let Some(i) = target_slot(slots, msg) else {

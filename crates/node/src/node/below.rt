@@ -1,4 +1,4 @@
-//! A step in a subtree that stands in no tree.
+//! A step in a subtree that is not part of a tree.
 ghost use Rattle.std.specs.Prelude.{◌≡◌, IsTrue, ℕ, List};
 ghost use Rattle.std.specs.Option.{option_copied};
 ghost use Rattle.node.specs.Lawful.{IsLawfulNode};
@@ -16,11 +16,11 @@ use pathkey::Key;
 use std::alloc::Global;
 use std::sync::Arc;
 
-/// Does a change at the slot with number `slot` of the node at `at`, where the way begins at the top of a subtree that is not
+/// Does a change at the slot with index `slot` of the node at `at`, a path that begins at the top of a subtree that is not
 /// a whole tree and ends at `hi`.
 ///
-/// Whatever it answers, the subtree stays lawful where it was and means what it meant at each key of its range. The nodes
-/// on the way are copied where they are shared, one level each.
+/// Whatever the reply, the subtree stays lawful if it was and means what it meant at each key of its range. The nodes on
+/// the path are copied if they are shared, one level each.
 pub fn step_subtree<U: Update, C: SlotStep<U>>(
     alloc: Global,
     change: &C,
@@ -37,8 +37,7 @@ pub fn step_subtree<U: Update, C: SlotStep<U>>(
     step_below(alloc, change, shape, top, hi, at.numbers(), slot as usize)
 }
 
-/// Does a change at the slot with number `slot` of the node that these slot numbers lead to, in a
-/// subtree that ends at `hi`.
+/// Does a change at the slot with index `slot` of the node that these slot indexes lead to, in a subtree that ends at `hi`.
 fn step_below<U: Update, C: SlotStep<U>>(
     alloc: Global,
     change: &C,

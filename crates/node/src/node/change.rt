@@ -1,4 +1,4 @@
-//! A change of the slots of one node, which a walk down the tree brings to its place.
+//! A change of the slots of one node, which a walk down the tree carries to that node.
 ghost use Rattle.std.specs.Prelude.{◌≡◌, IsTrue, true, false, ℕ, List, Option};
 ghost use Rattle.std.specs.Option.{option_copied};
 ghost use Rattle.node.specs.Pure.{inner};
@@ -16,23 +16,23 @@ use message::Update;
 use pathkey::Key;
 use std::alloc::Global;
 
-/// A step at the slot with number `i` of a node.
+/// A step at the slot with index `i` of a node.
 pub trait SlotStep<U: Update> {
     /// Which step it is.
     ghost kind: { StepKind };
 
-    /// Whether the step can be done there, where the node's range ends at `hi`.
+    /// Whether the step can be done there, given that the node's range ends at `hi`.
     fn applies(&self, slots: &[Slot<U>], i: usize, hi: Option<&Key>) -> bool
         ensures { result ≡ applies kind (option_copied hi.entry) (slots_from i (seen_slots slots.now)) };
 
-    /// Whether there is room for the step where it can be done, as far as reading tells; `root` says whether the node is
-    /// the tree's root.
+    /// Whether there is room for the step if it can be done, as far as reading shows; `root` says whether the node is the
+    /// tree's root.
     fn has_room(&self, shape: Shape, root: bool, slots: &[Slot<U>], i: usize) -> bool
         requires { IsSearchable (inner (seen_slots slots.now)) }
         ensures yes { result ≡ true → (h : ℕ) (lo : List ℕ) (hi : Option (List ℕ)) → LawfulSlots shape root h lo hi (seen_slots slots.now) → applies kind hi (slots_from i (seen_slots slots.now)) ≡ true → MayHaveRoom U.means kind shape root i (seen_slots slots.now) }
         ensures no { result ≡ false → HasNoRoom U.means kind shape root i (seen_slots slots.now) };
 
-    /// Does the step, where it can be done and reading told of no lack of room.
+    /// Does the step, if it can be done and reading showed no lack of room.
     fn change(
         &self,
         alloc: Global,

@@ -15,7 +15,7 @@ use message::range_tests::overlaps_range;
 use message::{Msg, Update};
 use pending::Pending;
 
-/// How many messages wait in the slots.
+/// How many messages are pending in the slots.
 pub fn pending_len<U: Update>(slots: &[Slot<U>]) -> u128
     ensures exact { result ≡ pending_of (seen_slots slots.now) }
     ensures bound { result ≤ 18446744073709551615 * length slots.now }
@@ -24,7 +24,7 @@ pub fn pending_len<U: Update>(slots: &[Slot<U>]) -> u128
         return 0;
     }
     let Some((slot, later)) = slots.split_first() else {
-        // Not met: there is a first slot.
+        // Unreachable: there is a first slot.
         return 0;
     };
     slot.pending.len() as u128 + pending_len(later)
@@ -56,8 +56,9 @@ pub fn pieces_of_oldest<U: Update>(slots: &[Slot<U>], list: &Pending<U>) -> usiz
     if is_met { more + 1 } else { more }
 }
 
-/// Whether one of a node's slots can become two: the node has room for one slot more and, unless it is the root, for the
-/// range-deletes in the slot's list, which would then wait in both, once the `consumed` oldest messages have left.
+/// Whether one of a node's slots can be split in two: the node has room for one more slot and, unless it is the root, for
+/// the range-deletes in the slot's list, which would then be pending in both, once the `consumed` oldest messages have
+/// left.
 pub fn can_split<U: Update>(
     shape: Shape,
     root: bool,
@@ -115,7 +116,7 @@ pub fn height<U: Update>(node: &Node<U>) -> u128
         return 0;
     };
     match slots.first() {
-        // Not met in a lawful tree, whose inner nodes have slots.
+        // Unreachable in a lawful tree, whose inner nodes have slots.
         None => 1,
         Some(slot) => height(&slot.child).saturating_add(1),
     }

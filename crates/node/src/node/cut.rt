@@ -1,4 +1,4 @@
-//! A slot cut in two.
+//! A slot split in two.
 ghost use Rattle.std.specs.Prelude.{◌≡◌, ◌≤◌, length, IfOk, OnErr};
 ghost use Rattle.node.specs.Cutting.{IsCutAt};
 
@@ -8,10 +8,10 @@ use pathkey::{Key, NoMemory};
 use std::alloc::Global;
 use std::sync::Arc;
 
-/// Cuts a slot in two at the pivot, without its `consumed` oldest messages.
+/// Splits a slot in two at the pivot, without its `consumed` oldest messages.
 ///
-/// The slot keeps the keys before the pivot, over `left`; the answer has those from the pivot on, over `right`. Messages
-/// are moved where they can be. On want of memory the slot is as it was.
+/// The slot keeps the keys before the pivot, over `left`; the result has those from the pivot on, over `right`. Messages
+/// are moved if they can be. If an allocation fails, the slot is as it was.
 pub fn split_slot<U: Update>(
     alloc: Global,
     slot: &mut Slot<U>,

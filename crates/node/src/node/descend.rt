@@ -1,5 +1,5 @@
-//! The walks down to the place of a step: the first only reads, and finds whether the step can be done there and has
-//! room; the second does it.
+//! The walks down to the node of a step: the first only reads, and finds whether the step can be done there and has room;
+//! the second does it.
 ghost use Rattle.std.specs.Prelude.{◌≡◌, IsTrue, Some};
 ghost use Rattle.std.specs.Option.{option_copied};
 ghost use Rattle.node.specs.Pure.{inner};
@@ -19,8 +19,8 @@ use pathkey::Key;
 use std::alloc::Global;
 use std::sync::Arc;
 
-/// Why the change is not done at the slot with number `slot` of this node, whose range ends at `hi`, as far as reading
-/// tells.
+/// Why the change is not done at the slot with index `slot` of this node, whose range ends at `hi`, as far as reading
+/// shows.
 fn precheck_here<U: Update, C: SlotStep<U>>(
     change: &C,
     shape: Shape,
@@ -41,8 +41,8 @@ fn precheck_here<U: Update, C: SlotStep<U>>(
     None
 }
 
-/// Why the change is not done at the slot with number `slot` of the node that `place` leads to, below
-/// or at `node`, whose range ends at `hi`, as far as reading tells.
+/// Why the change is not done at the slot with index `slot` of the node that `place` leads to, below or at `node`, whose
+/// range ends at `hi`, as far as reading shows.
 pub fn precheck<U: Update, C: SlotStep<U>>(
     change: &C,
     shape: Shape,
@@ -69,8 +69,8 @@ pub fn precheck<U: Update, C: SlotStep<U>>(
     precheck(change, shape, root, &slots[i].child, rest, slot, end)
 }
 
-/// Does the change at the slot with number `slot` of the node that `place` leads to, below or at `node`. On the way back
-/// up each node on the path is weighed again.
+/// Does the change at the slot with index `slot` of the node that `place` leads to, below or at `node`. On the way back up
+/// the weight of each node on the path is computed again.
 pub fn descend<U: Update, C: SlotStep<U>>(
     alloc: Global,
     change: &C,
@@ -88,7 +88,7 @@ pub fn descend<U: Update, C: SlotStep<U>>(
         return StepReply::NoMemory;
     };
     let Body::Inner(slots) = own.body_mut() else {
-        // Not met: `precheck` has gone the same way before.
+        // Unreachable: `precheck` has gone the same way before.
         return StepReply::NotThere;
     };
     let Some((first, rest)) = place.split_first() else {
@@ -98,7 +98,7 @@ pub fn descend<U: Update, C: SlotStep<U>>(
     };
     let i = *first as usize;
     if i >= slots.len() {
-        // Not met: `precheck` has gone the same way before.
+        // Unreachable: `precheck` has gone the same way before.
         return StepReply::NotThere;
     }
     let reply = descend(alloc, change, shape, root, &mut slots[i].child, rest, slot);

@@ -1,4 +1,4 @@
-//! The entries of a leaf: where a key stands among them, what a message makes of them, and leaves in halves.
+//! The entries of a leaf: the position of a key among them, the effect of a message on them, and leaves split in halves.
 ghost use Rattle.std.specs.Prelude.{◌≡◌, ℕ, ◌<◌, ◌≤◌, List, [], ◌∷◌, None, Some, length, IfOk, OnOk, OnErr};
 ghost use Rattle.pathkey.specs.Keys.{is_in};
 ghost use Rattle.pathkey.specs.Order.{same};
@@ -13,7 +13,7 @@ use message::{Msg, Update};
 use pathkey::{Key, KeyRange, NoMemory};
 use std::alloc::Global;
 
-/// How many entries stand before the key, found by a search in strides.
+/// How many entries are before the key, found by a search in strides.
 pub fn count_before<V>(entries: &[(Key, V)], key: &Key) -> usize
     requires { Rises [] None entries.now }
     ensures { IsCount entries.now (Some key.now) result }
@@ -21,7 +21,7 @@ pub fn count_before<V>(entries: &[(Key, V)], key: &Key) -> usize
     count_passing(entries, |entry| entry.0.cmp(key).is_lt())
 }
 
-/// The number of the entry that has the key, or of the entry before which it would stand.
+/// The index of the entry that has the key, or of the entry before which it would be inserted.
 pub fn position<V>(entries: &[(Key, V)], key: &Key) -> Result<usize, usize>
     requires { Rises [] None entries.now }
     ensures { IsPlace entries.now key.now result }
@@ -33,7 +33,7 @@ pub fn position<V>(entries: &[(Key, V)], key: &Key) -> Result<usize, usize>
     }
 }
 
-/// Gives the entry the value, or takes it away where there is none.
+/// Gives the entry the value, or removes it if there is none.
 fn replace<V: Drop>(entries: &mut Vec<(Key, V)>, i: usize, value: Option<V>)
     requires bound { i < length entries.old.items }
     requires rising { Rises [] None entries.old.items }
@@ -47,7 +47,7 @@ fn replace<V: Drop>(entries: &mut Vec<(Key, V)>, i: usize, value: Option<V>)
     }
 }
 
-/// Puts an entry for the key before entry `i`, if there is a value.
+/// Inserts an entry for the key before entry `i`, if there is a value.
 fn insert<V: Drop>(
     alloc: Global,
     entries: &mut Vec<(Key, V)>,
@@ -85,7 +85,7 @@ fn set<V: Drop>(
     }
 }
 
-/// Changes the value of entry `i` by the update, in its place, or takes the entry away where no value is left.
+/// Changes the value of entry `i` by the update, in place, or removes the entry if no value is left.
 fn edit_entry<U: Update>(
     alloc: Global,
     entries: &mut Vec<(Key, U::Value)>,
@@ -124,7 +124,7 @@ fn edit<U: Update>(
     }
 }
 
-/// How many entries stand below the end; all of them where there is none.
+/// How many entries are below the end; all of them if there is none.
 fn count_below<V>(entries: &[(Key, V)], end: &Option<Key>) -> usize
     requires { Rises [] None entries.now }
     ensures { IsCount entries.now end.now result }
@@ -135,7 +135,7 @@ fn count_below<V>(entries: &[(Key, V)], end: &Option<Key>) -> usize
     }
 }
 
-/// Takes the entries of a range away.
+/// Removes the entries of a range.
 fn clear<V: Drop>(entries: &mut Vec<(Key, V)>, range: &KeyRange)
     requires { Rises [] None entries.old.items }
     ensures { IsChanged (is_in range.now) None entries.old.items entries.new.items }
@@ -146,7 +146,7 @@ fn clear<V: Drop>(entries: &mut Vec<(Key, V)>, range: &KeyRange)
     entries.drain(first..end);
 }
 
-/// Applies one message to a leaf's entries, whole or not at all.
+/// Applies one message to a leaf's entries, atomically.
 pub fn apply<U: Update>(
     alloc: Global,
     entries: &mut Vec<(Key, U::Value)>,
@@ -188,7 +188,7 @@ pub fn applied<U: Update>(
     Ok(new)
 }
 
-/// Splits the second half of the entries off, and answers the pivot, where it begins, with it.
+/// Splits off the second half of the entries, and returns it with the pivot at which it begins.
 pub fn split_half<V: Drop>(
     alloc: Global,
     entries: &mut Vec<(Key, V)>,

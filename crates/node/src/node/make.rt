@@ -12,7 +12,7 @@ use std::alloc::Global;
 use std::sync::Arc;
 
 impl<U: Update> Node<U> {
-    /// A leaf without entries. It takes no memory.
+    /// A leaf without entries. It does not allocate.
     pub fn empty_leaf(alloc: Global) -> Node<U>
         ensures { result ≡ pure_leaf [] }
     {

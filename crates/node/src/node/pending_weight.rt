@@ -1,8 +1,8 @@
-//! What a node keeps of the messages that wait at or below it, so that neither the heaviest slot nor the count of all
-//! that waits takes a walk of the tree.
+//! What a node stores about the messages pending at or below it, so that neither the fullest slot nor the count of all
+//! pending messages requires a walk of the tree.
 //!
-//! A change of a node forgets its weight and those of the nodes above it; each is found again from the node's slots and
-//! what its children keep.
+//! A change of a node clears its weight and those of the nodes above it; each is computed again from the node's slots and
+//! the weights that its children store.
 ghost use Rattle.std.specs.Prelude.{◌≡◌, ◌≤◌, ◌<◌, ◌+◌, ◌^◌, max};
 ghost use Rattle.std.specs.Borrow.{Lends, sem};
 ghost use Rattle.node.specs.See.{see};
@@ -13,7 +13,7 @@ ghost use Rattle.node.specs.contracts.node.Body.{the_row as body_row};
 use super::{Body, Node};
 use message::Update;
 
-/// How much waits in a node's slots and in all below it.
+/// How much is pending in a node's slots and in all below it.
 #[derive(Clone, Copy)]
 pub struct PendingWeight {
     /// The messages in the longest pending list.
@@ -33,7 +33,7 @@ impl PendingWeight {
         }
     }
 
-    /// The weight of these slots and one more, where so many messages wait over a child.
+    /// The weight of these slots and one more, with `count` messages pending for its child.
     fn with_slot(self, count: usize, child: PendingWeight) -> PendingWeight
         ensures longest { result.longest ≡ max (max count child.longest) self.longest }
         ensures at_most { result.pending ≤ self.pending + count + child.pending }
@@ -47,7 +47,7 @@ impl PendingWeight {
     }
 }
 
-/// The weight of a node with this body, from its slots and what the children keep; a child that keeps none is walked.
+/// The weight of a node with this body, from its slots and the weights of the children; a child that stores none is walked.
 fn weight_of<U: Update>(body: &Body<U>) -> PendingWeight
     ensures { IsWeight result (see body.now) }
 {
@@ -57,7 +57,7 @@ fn weight_of<U: Update>(body: &Body<U>) -> PendingWeight
             let child: &Node<U> = &slot.child;
             let below = match child.weight {
                 Some(below) => below,
-                // Rare: a merge that was refused memory half way leaves a child so.
+                // Rare: a merge in which an allocation failed half way leaves such a child.
                 None => weight_of(&child.body),
             };
             weight = weight.with_slot(slot.pending.len(), below);
@@ -67,7 +67,7 @@ fn weight_of<U: Update>(body: &Body<U>) -> PendingWeight
 }
 
 impl<U: Update> Node<U> {
-    /// A node with this body, which keeps its weight.
+    /// A node with this body, which stores its weight.
     pub fn of(body: Body<U>) -> Node<U>
         ensures { result ≡ see body }
     {
@@ -75,25 +75,25 @@ impl<U: Update> Node<U> {
         Node { body, weight }
     }
 
-    /// How much waits at or below the node.
+    /// How much is pending at or below the node.
     pub fn weight(&self) -> PendingWeight
         ensures { IsWeight result self.now }
     {
         match self.weight {
             Some(weight) => weight,
-            // So a root stands after an append, which forgets its weight.
+            // The case of a root after an append, which clears its weight.
             None => weight_of(&self.body),
         }
     }
 
-    /// Keeps the weight again, after a change.
+    /// Stores the weight again, after a change.
     pub fn update_weight(&mut self)
         ensures { self.new ≡ self.old }
     {
         self.weight = Some(weight_of(&self.body));
     }
 
-    /// The entries or slots of the node, to be changed. The node forgets its weight.
+    /// The entries or slots of the node, to be changed. It clears the node's weight.
     pub fn body_mut(&mut self) -> &mut Body<U>
         ensures* writes_back { sem 𝓛 (Lends (node_row U.row U.Value.row) (body_row U.row U.Value.row) self.entry result see) }
         ensures value { see result.now ≡ self.old }

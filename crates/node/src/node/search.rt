@@ -1,4 +1,4 @@
-//! Which slot holds a key, and where a slot ends.
+//! Which slot holds a key, and the end of a slot's range.
 ghost use Rattle.std.specs.Prelude.{◌≡◌, ◌<◌, ◌&&◌, true, length, None, IfSome, MatchOption};
 ghost use Rattle.std.specs.Option.{option_copied};
 ghost use Rattle.pathkey.specs.Keys.{is_below};
@@ -17,7 +17,7 @@ use message::ends::{ends_by, is_before_end};
 use message::{Msg, Update, UpdateTarget};
 use pathkey::{Key, KeyRange};
 
-/// The number of the slot whose range holds the key, found by a search in strides.
+/// The index of the slot whose range holds the key, found by a search in strides.
 pub fn slot_of<U: Update>(slots: &[Slot<U>], key: &Key) -> usize
     requires some { 0 < length slots.now }
     requires rising { AreRising (seen_slots slots.now) }
@@ -25,13 +25,13 @@ pub fn slot_of<U: Update>(slots: &[Slot<U>], key: &Key) -> usize
     ensures number { result ≡ slot_number (seen_slots slots.now) key.now }
 {
     let Some((_, later)) = slots.split_first() else {
-        // Not met: there is a first slot.
+        // Unreachable: there is a first slot.
         return 0;
     };
     count_passing(later, |slot| slot.lo.cmp(key).is_le())
 }
 
-/// The number of the slot whose range holds the key; none where all slots begin behind it.
+/// The index of the slot whose range holds the key; `None` if all slots begin after it.
 pub fn holder<U: Update>(slots: &[Slot<U>], key: &Key) -> Option<usize>
     requires rising { AreRising (seen_slots slots.now) }
     ensures bound { IfSome result (λ i. i < length slots.now) }
@@ -44,7 +44,7 @@ pub fn holder<U: Update>(slots: &[Slot<U>], key: &Key) -> Option<usize>
     Some(slot_of(slots, key))
 }
 
-/// The pivot of the first of these slots, or `hi` where there is none: so the end of the slot before them.
+/// The pivot of the first of these slots, or `hi` if there is none: the end of the slot before them.
 pub fn next_pivot<'a, U: Update>(later: &'a [Slot<U>], hi: Option<&'a Key>) -> Option<&'a Key>
     ensures { option_copied result ≡ next_lo (option_copied hi.entry) (seen_slots later.now) }
 {
@@ -54,7 +54,7 @@ pub fn next_pivot<'a, U: Update>(later: &'a [Slot<U>], hi: Option<&'a Key>) -> O
     }
 }
 
-/// Where the slot with number `i` ends, where the last slot ends at `hi`.
+/// The end of the slot with index `i`, given that the last slot ends at `hi`.
 pub fn end_of<'a, U: Update>(slots: &'a [Slot<U>], i: usize, hi: Option<&'a Key>) -> Option<&'a Key>
     requires { i < length slots.now }
     ensures { option_copied result ≡ end_of (option_copied hi.entry) (seen_slots slots.now) i }
@@ -62,7 +62,7 @@ pub fn end_of<'a, U: Update>(slots: &'a [Slot<U>], i: usize, hi: Option<&'a Key>
     next_pivot(&slots[i + 1..], hi)
 }
 
-/// Whether the range has a key, and ends where the slot with number `i` does or before that; the last slot has no end.
+/// Whether the range has a key, and ends at or before the end of the slot with index `i`; the last slot has no end.
 fn ends_in<U: Update>(slots: &[Slot<U>], i: usize, range: &KeyRange) -> bool
     requires { i < length slots.now }
     ensures { result ≡ (is_below range.now.lo range.now.hi && ends_within range.now.hi (end_of None (seen_slots slots.now) i)) }
@@ -72,8 +72,8 @@ fn ends_in<U: Update>(slots: &[Slot<U>], i: usize, range: &KeyRange) -> bool
     is_before_end(&range.lo, range.hi.as_ref()) && ends_by(range.hi.as_ref(), end)
 }
 
-/// The number of the root's slot that takes the message as it is, since all its keys lie there; none where it has keys of
-/// several slots, or no key.
+/// The index of the root's slot that takes the message as it is, since all its keys are in that slot's range; `None` if it
+/// has keys of several slots, or no key.
 pub(crate) fn target_slot<U: Update>(slots: &[Slot<U>], msg: &Msg<U>) -> Option<usize>
     requires { IsRoot (inner (seen_slots slots.now)) }
     ensures bound { IfSome result (λ i. i < length slots.now) }
@@ -100,7 +100,7 @@ impl<U: UpdateTarget> Node<U> {
         &self.body
     }
 
-    /// The slots of the node; none where it is a leaf.
+    /// The slots of the node; `None` if it is a leaf.
     pub fn slots(&self) -> Option<&[Slot<U>]>
         ensures { MatchOption result (is_leaf self.now ≡ true) (λ slots. self.now ≡ inner (seen_slots slots.now)) }
     {

@@ -11,10 +11,10 @@ use std::alloc::Global;
 use std::sync::Arc;
 
 impl<U: Update> Tree<U> {
-    /// Puts messages, the oldest first, into the root's slots, whole or not at all. The list of the slot with number `i`
-    /// stays as it was if `kept[i]` is above 0, with the new pieces behind it as they are. A number that is missing is 0.
+    /// Appends messages, the oldest first, to the root's slots, atomically. The list of the slot with index `i` stays as it
+    /// was if `kept[i]` is above 0, with the new pieces after it as they are. A missing number is 0.
     ///
-    /// It moves the messages, and copies the root's own level only where another tree shares it.
+    /// It moves the messages, and copies the root's own level only if another tree shares it.
     pub fn append_kept(
         &mut self,
         alloc: Global,
@@ -28,14 +28,14 @@ impl<U: Update> Tree<U> {
     {
         let root = &mut self.root;
         if msgs.is_empty() {
-            // No root is copied for nothing, so this is never refused.
+            // No root is copied for nothing, so this never fails.
             return Ok(());
         }
         Arc::make_mut(root)?.append_kept(alloc, msgs, kept)
     }
 
-    /// Puts one message into the root's slots, or leaves the tree as it was: what `append` does with this message alone, without
-    /// a list of messages.
+    /// Appends one message to the root's slots, or leaves the tree as it was: what `append` does with this message alone,
+    /// without a list of messages.
     pub fn append_one(&mut self, alloc: Global, msg: Msg<U>) -> Result<(), NoMemory>
         ensures ok { OnOk result (Appended U.means (msg ∷ []) self.old self.new) }
         ensures err { OnErr result (self.new ≡ self.old) }
@@ -45,7 +45,7 @@ impl<U: Update> Tree<U> {
     }
 }
 
-/// Puts one batch into two trees, whole or not at all, where lists stay as `append_kept` of each says.
+/// Appends one batch to two trees, atomically; lists stay as `append_kept` of each says.
 pub fn append_both_kept<A: Update, B: Update>(
     alloc: Global,
     first: &mut Tree<A>,
@@ -66,12 +66,12 @@ pub fn append_both_kept<A: Update, B: Update>(
     ensures nothing { first_msgs.items ≡ [] → second_msgs.items ≡ [] → IsOk result }
 {
     if first_msgs.is_empty() || second_msgs.is_empty() {
-        // One of the two calls does nothing and is never refused: so these too are both or neither.
+        // One of the two calls does nothing and never fails: so these too are both or neither.
         first.append_kept(alloc, first_msgs, first_kept)?;
         return second.append_kept(alloc, second_msgs, second_kept);
     }
     let one = Arc::make_mut(&mut first.root)?;
-    // Where this is refused, the first tree may have got a root of its own, and is the same.
+    // If this fails, the first tree may have got a root of its own, and is the same.
     let two = Arc::make_mut(&mut second.root)?;
     append::append_both_kept(
         alloc,

@@ -1,4 +1,4 @@
-//! A subtree in the place of the child of a root's slot.
+//! A subtree that replaces the child of a root's slot.
 ghost use Rattle.std.specs.Prelude.{◌≡◌, ◌≤◌, length, OnOk, OnErr, IfErr, drop, None};
 ghost use Rattle.node.specs.Grafts.{AtSlot, AtRootSlot, CanReplace, Grafted, IsGrafted};
 ghost use Rattle.node.specs.Pure.{inner};
@@ -9,7 +9,7 @@ use crate::node::{Body, Node, Slot};
 use message::Update;
 use std::sync::Arc;
 
-/// Puts the subtree in the place of a slot's child, and takes the slot's oldest `count` messages away. It takes no memory.
+/// Replaces a slot's child by the subtree, and removes the slot's oldest `count` messages. It does not allocate.
 fn replace_child<U: Update>(slot: &mut Slot<U>, count: usize, subtree: Arc<Node<U>>)
     requires { count ≤ length slot.old.pending.0 }
     ensures lo { slot.new.lo ≡ slot.old.lo }
@@ -20,22 +20,20 @@ fn replace_child<U: Update>(slot: &mut Slot<U>, count: usize, subtree: Arc<Node<
     slot.child = subtree;
 }
 
-/// Puts the subtree in the place of the child of the slot with number `i`, and takes that slot's oldest
-/// `count` messages away.
+/// Replaces the child of the slot with index `i` by the subtree, and removes that slot's oldest `count` messages.
 fn install_in_slot<U: Update>(slots: &mut [Slot<U>], i: usize, count: usize, subtree: Arc<Node<U>>)
     requires { AtSlot (λ lo hi msgs child. count ≤ length msgs) i None (seen_slots slots.old) }
     ensures { IsGrafted i count subtree.value (inner (seen_slots slots.old)) (inner (seen_slots slots.new)) }
 {
     if i >= slots.len() {
-        // Not met: there is a slot with this number.
+        // Unreachable: there is a slot with this index.
         return;
     }
     replace_child(&mut slots[i], count, subtree)
 }
 
 impl<U: Update> Node<U> {
-    /// Puts the subtree in the place of the child of a root's slot, and takes that slot's oldest
-    /// `count` messages away.
+    /// Replaces the child of a root's slot by the subtree, and removes that slot's oldest `count` messages.
     fn install_subtree(&mut self, i: usize, count: usize, subtree: Arc<Node<U>>)
         requires { AtRootSlot (λ lo hi msgs child. count ≤ length msgs) i self.old }
         ensures { IsGrafted i count subtree.value self.old self.new }
@@ -49,10 +47,10 @@ impl<U: Update> Node<U> {
 }
 
 impl<U: Update> Tree<U> {
-    /// Puts a subtree in the place of the child of the root's slot with number `i`, and takes the slot's oldest `count`
-    /// messages away, which the subtree has in it.
+    /// Replaces the child of the root's slot with index `i` by a subtree, and removes the slot's oldest `count` messages,
+    /// which the subtree already contains.
     ///
-    /// It copies the root's own level where another tree shares it. Where that is refused it gives the subtree back.
+    /// It copies the root's own level if another tree shares it. If that fails it gives the subtree back.
     pub fn install_subtree(
         &mut self,
         i: usize,

@@ -11,10 +11,10 @@ use message::Update;
 use std::alloc::Global;
 
 impl<U: Update> Tree<U> {
-    /// Does a change at the slot with number `slot` of the node at `at`.
+    /// Does a change at the slot with index `slot` of the node at `at`.
     ///
-    /// That it can be done there and has room is found first, by reading alone. Then the nodes on the way are owned, and
-    /// copied where they are shared, one level each.
+    /// That it can be done there and has room is found first, by reading alone. Then the nodes on the path are owned, and
+    /// copied if they are shared, one level each.
     pub fn step<C: SlotStep<U>>(
         &mut self,
         alloc: Global,
@@ -27,7 +27,7 @@ impl<U: Update> Tree<U> {
         self.step_below(alloc, change, at.numbers(), slot)
     }
 
-    /// Does a change at the slot with number `slot` of the node that these slot numbers lead to.
+    /// Does a change at the slot with index `slot` of the node that these slot indexes lead to.
     fn step_below<C: SlotStep<U>>(
         &mut self,
         alloc: Global,
