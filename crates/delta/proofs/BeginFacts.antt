@@ -1,5 +1,5 @@
 -- A beginning of a delta: whatever was written of one, the rest of it can be had.
-use Rattle.std.proofs.Common.{◌≡◌, inl, inr, ℕ, List, [], ◌∷◌, ◌++◌, map, refl, sym, ap, subst, ◌∙◌, arith, Bool, true, false, Option, Some, option_map}
+use Rattle.std.proofs.Common.{◌≡◌, inl, inr, ℕ, List, [], ◌∷◌, ◌++◌, map, refl, sym, ap, subst, ◌∙◌, append_assoc, arith, Bool, true, false, Option, Some, option_map}
 use Rattle.std.specs.Io.KnownBytes.{Appends}
 use Rattle.std.specs.List.{All}
 use Rattle.std.proofs.KnownBytes.{Appends-nil, Appends-trans}
@@ -164,7 +164,7 @@ delta_none h digest t u sum is = delta_heading h h digest t u sum is (part_befor
 
 -- no line was written
 pub delta_no_line : (h : Option (List ℕ)) (digest : List ℕ) (t u : Tree) → IsDigest digest → digest ≡ sha256 (image Second t) → BeginsLines h h t u
-delta_no_line h digest t u sum is = let (text, difference, part) = delta_none h digest t u sum is in (text, difference, [], text, refl, Appends-nil h, inl refl)
+delta_no_line h digest t u sum is = let (text, difference, part) = delta_none h digest t u sum is in (text, difference, ([], text, refl, Appends-nil h, inl refl))
 
 -- behind the first line
 module _ (h i j : Option (List ℕ)) (digest : List ℕ) (a b : LineCursor) (r s : FsRoot) (t u : Tree) (at_a : IsAtStart r a) (at_b : IsAtStart s b) (m : MeanRooted r t) (n : MeanRooted s u)
@@ -198,14 +198,16 @@ module _ (h i j : Option (List ℕ)) (digest : List ℕ) (a b : LineCursor) (r s
       let more : Text = commands_text g.more in (
         heading digest ++ 10 ∷ (commands_text (g.done ++ g.more) ++ end_text),
         of_images (g.done ++ g.more) g.commands g.all,
-        first_line ++ done,
-        more ++ end_text,
-        sym (heading_cut digest (commands_text (g.done ++ g.more) ++ end_text))
-            ∙ ap (λ l. first_line ++ (l ++ end_text)) (commands_append g.done g.more)
-            ∙ ap (λ l. first_line ++ l) (append_assoc done more end_text)
-            ∙ sym (append_assoc first_line done (more ++ end_text)),
-        Appends-trans h i j first_line done first g.text,
-        ends_after first_line done (lines_end (heading digest ∷ [])) (lines_end (map spelled g.done)),
+        (
+          first_line ++ done,
+          more ++ end_text,
+          sym (heading_cut digest (commands_text (g.done ++ g.more) ++ end_text))
+              ∙ ap (λ l. first_line ++ (l ++ end_text)) (commands_append g.done g.more)
+              ∙ ap (λ l. first_line ++ l) (append_assoc done more end_text)
+              ∙ sym (append_assoc first_line done (more ++ end_text)),
+          Appends-trans h i j first_line done first g.text,
+          ends_after first_line done (lines_end (heading digest ∷ [])) (lines_end (map spelled g.done)),
+        ),
       )
 
   -- its last line was begun
