@@ -20,4 +20,4 @@ returns g c =
     let room = c.shape-room.result.pending in
     let busiest = c.in_ok-busiest.busiest in
     heaviest_in c.args.self.now room busiest.messages busiest.number xs c.args.tree.now was (ap (λ s. s.pending) c.shape-room.ensures) c.in_ok-busiest.ensures.more
-        (subst (λ ms. IsFirstGreatest busiest.number busiest.messages (movable_each ms room (seen_slots xs))) marks c.in_ok-busiest.ensures.first)
+    (subst (λ ms. IsFirstGreatest busiest.number busiest.messages (movable_each ms room (seen_slots xs))) marks c.in_ok-busiest.ensures.first)
