@@ -1,9 +1,11 @@
 -- A beginning of a delta: whatever was written of one, the rest of it can be had.
-use Rattle.std.proofs.Common.{◌≡◌, ℕ, List, [], ◌∷◌, ◌++◌, map, refl, sym, ap, subst, ◌∙◌, arith, Bool, true, false, Option, Some, option_map}
+use Rattle.std.proofs.Common.{◌≡◌, inl, inr, ℕ, List, [], ◌∷◌, ◌++◌, map, refl, sym, ap, subst, ◌∙◌, append_assoc, arith, Bool, true, false, Option, Some, option_map}
 use Rattle.std.specs.Io.KnownBytes.{Appends}
 use Rattle.std.specs.List.{All}
-use Rattle.std.proofs.KnownBytes.{Appends-nil}
+use Rattle.std.proofs.KnownBytes.{Appends-nil, Appends-trans}
 use Rattle.std.proofs.lemmas.List.Elements.{All-nil, All-cons, All-head, All-tail, All-append}
+use Rattle.images.proofs.WholeLines.{ends_after}
+use Rattle.images.specs.Image.{EndsLine}
 use Rattle.reference.specs.Image.{Second, Text, image}
 use Rattle.reference.specs.Tree.{Tree}
 use Rattle.sha2.specs.Sha256.{sha256}
@@ -12,13 +14,13 @@ use Rattle.textio.specs.Parts.{AppendsPart}
 use Rattle.textio.proofs.Known.{all_is_part, part_after, part_before}
 use Rattle.volume.specs.Volumes.{MeanRooted}
 use Rattle.volume.specs.declared.fs_root.FsRoot.{FsRoot}
-use Rattle.delta.specs.Applies.{BeginsDelta, IsDifference}
-use Rattle.delta.specs.Deltas.{Command, Come, Go, IsCommand, IsDigest, IsLine, Line, commands_text, heading, patched, text_of}
+use Rattle.delta.specs.Applies.{BeginsDelta, BeginsLines, IsDifference}
+use Rattle.delta.specs.Deltas.{Command, Come, Go, IsCommand, IsDigest, IsLine, Line, commands_text, heading, patched, spelled, text_of}
 use Rattle.delta.specs.Texts.{end_text}
-use Rattle.delta.specs.Walks.{BeginsAll, IsAtStart, Patches, Puts, PutsAll, left, lines_from}
+use Rattle.delta.specs.Walks.{BeginsAll, IsAtStart, Patches, Puts, PutsAll, PutsSome, left, lines_from}
 use Rattle.delta.specs.declared.line_cursor.LineCursor.{LineCursor}
 use Rattle.delta.proofs.PatchFacts.{come_made, go_made, lines_free}
-use Rattle.delta.proofs.PrintFacts.{difference, heading_cut, mean_at, patches_none}
+use Rattle.delta.proofs.PrintFacts.{difference, heading_cut, mean_at, patches_none, puts_none}
 use Rattle.delta.proofs.TextFacts.{commands_append}
 use Rattle.delta.proofs.WalkFacts.{none_left, some_left}
 
@@ -94,6 +96,55 @@ begun_then cs h i j a b x y f more = λ t u m k.
       all = f.patches.patch t u g.list m k g.all;
     }
 
+-- ---- commands of which the first were written, each whole
+
+pub some_put : (cs : List Command) (h i : Option (List ℕ)) (a b x y : LineCursor) → Puts cs h i a b x y → PutsSome h i a b
+some_put cs h i a b x y f = λ t u m k.
+    let rest : List Command = whole (lines_from t x) (lines_from u y) in
+    record {
+      done = cs;
+      more = rest;
+      commands = All-append IsCommand cs rest f.commands (whole_commands (lines_from t x) (lines_from u y) (from_free u y));
+      text = f.text;
+      all = f.patches.patch t u rest m k (whole_makes (lines_from t x) (lines_from u y));
+    }
+
+-- none was written
+pub some_none : (h : Option (List ℕ)) (a b : LineCursor) → PutsSome h h a b
+some_none h a b = some_put [] h h a b a b (puts_none h a b)
+
+-- the line at which the new walk stands was written
+pub some_come : (h i : Option (List ℕ)) (a b : LineCursor) → b.there ≡ true → Appends h i (commands_text (Come b.line.items ∷ [])) → PutsSome h i a b
+some_come h i a b there text = λ t u m k.
+    let l : Line = b.line.items in
+    let new : List Line = lines_of (left u b) in
+    let rest : List Command = whole (lines_from t a) new in
+    record {
+      done = Come l ∷ [];
+      more = rest;
+      commands = All-cons IsCommand (Come l) rest b.free (whole_commands (lines_from t a) new (lines_free (left u b)));
+      text = text;
+      all = come_made (l ∷ []) (lines_from t a) new rest (whole_makes (lines_from t a) new) ∙ ap Some (sym (some_left u b there));
+    }
+
+-- commands were written, and then the first of others
+pub some_then : (cs : List Command) (h i j : Option (List ℕ)) (a b x y : LineCursor) → Puts cs h i a b x y → PutsSome i j x y → PutsSome h j a b
+some_then cs h i j a b x y f later = λ t u m k.
+    let g = later t u (mean_at a x t f.patches.old_tree m) (mean_at b y u f.patches.new_tree k) in
+    let same : (cs ++ g.done) ++ g.more ≡ cs ++ (g.done ++ g.more) = append_assoc cs g.done g.more in
+    record {
+      done = cs ++ g.done;
+      more = g.more;
+      commands = subst (All IsCommand) (sym same) (All-append IsCommand cs (g.done ++ g.more) f.commands g.commands);
+      text = subst (Appends h j) (sym (commands_append cs g.done)) (Appends-trans h i j (commands_text cs) (commands_text g.done) f.text g.text);
+      all = ap (λ l. patched l (lines_from t a)) same ∙ f.patches.patch t u (g.done ++ g.more) m k g.all;
+    }
+
+-- lines end with a line feed
+lines_end : (ls : List Line) → EndsLine (text_of ls)
+lines_end [] = inl refl
+lines_end (l ∷ ls) = subst EndsLine (append_assoc l (10 ∷ []) (text_of ls)) (ends_after (l ++ 10 ∷ []) (text_of ls) (inr (l, refl)) (lines_end ls))
+
 -- ---- a delta of which a beginning was written
 
 -- its first line was begun, or nothing was written
@@ -110,6 +161,10 @@ delta_heading h i digest t u sum is first =
 
 pub delta_none : (h : Option (List ℕ)) (digest : List ℕ) (t u : Tree) → IsDigest digest → digest ≡ sha256 (image Second t) → BeginsDelta h h t u
 delta_none h digest t u sum is = delta_heading h h digest t u sum is (part_before h h [] (text_of (heading digest ∷ [])) (all_is_part h h [] (Appends-nil h)))
+
+-- no line was written
+pub delta_no_line : (h : Option (List ℕ)) (digest : List ℕ) (t u : Tree) → IsDigest digest → digest ≡ sha256 (image Second t) → BeginsLines h h t u
+delta_no_line h digest t u sum is = let (text, difference, part) = delta_none h digest t u sum is in (text, difference, ([], text, refl, Appends-nil h, inl refl))
 
 -- behind the first line
 module _ (h i j : Option (List ℕ)) (digest : List ℕ) (a b : LineCursor) (r s : FsRoot) (t u : Tree) (at_a : IsAtStart r a) (at_b : IsAtStart s b) (m : MeanRooted r t) (n : MeanRooted s u)
@@ -132,6 +187,27 @@ module _ (h i j : Option (List ℕ)) (digest : List ℕ) (a b : LineCursor) (r s
         heading digest ++ 10 ∷ rest,
         of_images g.list g.commands g.all,
         subst (AppendsPart h j) (heading_cut digest rest) (part_after h i j (text_of (heading digest ∷ [])) rest first (part_before i j (commands_text g.list) end_text g.text)),
+      )
+
+  -- the first of its commands were written, each whole
+  pub delta_some : PutsSome i j a b → BeginsLines h j t u
+  delta_some some =
+      let g = some t u mean_a mean_b in
+      let first_line : Text = text_of (heading digest ∷ []) in
+      let done : Text = commands_text g.done in
+      let more : Text = commands_text g.more in (
+        heading digest ++ 10 ∷ (commands_text (g.done ++ g.more) ++ end_text),
+        of_images (g.done ++ g.more) g.commands g.all,
+        (
+          first_line ++ done,
+          more ++ end_text,
+          sym (heading_cut digest (commands_text (g.done ++ g.more) ++ end_text))
+              ∙ ap (λ l. first_line ++ (l ++ end_text)) (commands_append g.done g.more)
+              ∙ ap (λ l. first_line ++ l) (append_assoc done more end_text)
+              ∙ sym (append_assoc first_line done (more ++ end_text)),
+          Appends-trans h i j first_line done first g.text,
+          ends_after first_line done (lines_end (heading digest ∷ [])) (lines_end (map spelled g.done)),
+        ),
       )
 
   -- its last line was begun

@@ -1,6 +1,7 @@
 -- What is printed of two trees, and what is done by a delta.
 use Rattle.std.specs.Prelude.{◌≡◌, ◌≢◌, ℕ, Bool, true, false, List, [], ◌∷◌, Option, Some}
 use Rattle.std.specs.Io.KnownBytes.{Appends}
+use Rattle.images.specs.Image.{AppendsLines}
 use Rattle.images.specs.Loads.{alone}
 use Rattle.images.specs.Taken.{LoadedIn, Took}
 use Rattle.images.specs.declared.loader.ImageLoader.{ImageLoader}
@@ -27,6 +28,10 @@ AppendsDelta old new t u = (text : Text) × IsDifference text t u × Appends old
 -- a beginning of such a delta was appended
 abbrev pub BeginsDelta : Option (List ℕ) → Option (List ℕ) → Tree → Tree → Type 0
 BeginsDelta old new t u = (text : Text) × IsDifference text t u × AppendsPart old new text
+
+-- a beginning of it was appended that is whole lines
+abbrev pub BeginsLines : Option (List ℕ) → Option (List ℕ) → Tree → Tree → Type 0
+BeginsLines old new t u = (text : Text) × IsDifference text t u × AppendsLines old new text
 
 -- the volume means the one tree whose image has the lines that the delta makes of those of a tree's image, without snapshots and
 -- marks, in trees of the shape

@@ -92,3 +92,15 @@ pub record Begins (had has : Option (List ℕ)) (old new : LineCursor) (t u : Tr
 -- whichever trees the walks go through
 abbrev pub BeginsAll : Option (List ℕ) → Option (List ℕ) → LineCursor → LineCursor → Type 0
 BeginsAll had has old new = (t u : Tree) → MeanRooted old.printing.tree t → MeanRooted new.printing.tree u → Begins had has old new t u
+
+-- the first of such commands were written, each whole
+pub record PutsFirst (had has : Option (List ℕ)) (old new : LineCursor) (t u : Tree) : Type 0 where
+  pub done : List Command
+  pub more : List Command
+  pub commands : All IsCommand (done ++ more)
+  pub text : Appends had has (commands_text done)
+  pub all : patched (done ++ more) (lines_from t old) ≡ Some (lines_from u new)
+
+-- whichever trees the walks go through
+abbrev pub PutsSome : Option (List ℕ) → Option (List ℕ) → LineCursor → LineCursor → Type 0
+PutsSome had has old new = (t u : Tree) → MeanRooted old.printing.tree t → MeanRooted new.printing.tree u → PutsFirst had has old new t u

@@ -1,5 +1,5 @@
 //! Executes the commands of a delta on the lines of an image.
-ghost use Rattle.std.specs.Prelude.{◌≡◌, ◌≢◌, ◌⊎◌, ◌<◌, ◌++◌, ◌∷◌, [], ℕ, List, Err, IfErr, IfOk, OnOk, length};
+ghost use Rattle.std.specs.Prelude.{◌≡◌, ◌≢◌, ◌⊎◌, ◌↔◌, ◌<◌, ◌++◌, ◌∷◌, [], ℕ, List, Err, IfErr, IfOk, OnOk, length};
 ghost use Rattle.images.specs.Taken.{IsFresh, Took};
 ghost use Rattle.node.specs.declared.shape.Shape.{Shape};
 ghost use Rattle.reference.specs.Image.{Text};
@@ -97,7 +97,7 @@ fn patch_into(
 
 // The error for an image that was not loaded: it is not an image, or an allocation failed.
 fn fault_of(fault: LoadFault) -> DeltaFault
-    ensures bad { result ≡ DeltaFault.NoImage → (n : ℕ) × (fault ≡ LoadFault.Bad n) }
+    ensures bad { (result ≡ DeltaFault.NoImage) ↔ ((n : ℕ) × (fault ≡ LoadFault.Bad n)) }
     ensures kind { (result ≡ DeltaFault.Memory) ⊎ (result ≡ DeltaFault.NoImage) }
 {
     match fault {

@@ -1,14 +1,14 @@
 //! Prints the difference of two frozen trees as a delta. Both images are printed side by side, and neither has to fit into
 //! memory.
-ghost use Rattle.std.specs.Prelude.{◌≡◌, ◌<◌, ◌^◌, List, IfOk, OnErr, OnOk};
+ghost use Rattle.std.specs.Prelude.{◌≡◌, ◌<◌, ◌^◌, List, Err, IfOk, OnErr, OnOk};
 ghost use Rattle.reference.specs.Image.{Second, image};
 ghost use Rattle.reference.specs.Tree.{Tree};
 ghost use Rattle.sha2.specs.Sha256.{sha256};
 ghost use Rattle.volume.specs.Volumes.{MeanRooted};
 ghost use Rattle.volume.specs.declared.fs_root.FsRoot.{FsRoot};
-ghost use Rattle.delta.specs.Applies.{AppendsDelta, BeginsDelta};
+ghost use Rattle.delta.specs.Applies.{AppendsDelta, BeginsDelta, BeginsLines};
 ghost use Rattle.delta.specs.Deltas.{Command, Go, Stay, run};
-ghost use Rattle.delta.specs.Walks.{BeginsAll, IsAtStart, Patches, Puts, PutsAll};
+ghost use Rattle.delta.specs.Walks.{BeginsAll, IsAtStart, Patches, Puts, PutsAll, PutsSome};
 
 use crate::command::{print_copy, print_delete, print_insert};
 use crate::fault::PrintFault;
@@ -22,7 +22,8 @@ use textio::output::put;
 use volume::Frozen;
 
 /// Prints the delta that makes the image of the new tree from that of the old one, whose digest is given (`image_digest`). If
-/// it fails, a prefix of a delta was written.
+/// it fails, a prefix of a delta was written. If an allocation failed, this prefix is whole lines: a line that was begun can
+/// only fail because the writer does.
 pub fn print_delta<W: Write>(
     alloc: Global,
     digest: &[u8; 32],
@@ -32,6 +33,7 @@ pub fn print_delta<W: Write>(
 ) -> Result<(), PrintFault>
     ensures ok { (t u : Tree) → MeanRooted old t → MeanRooted new u → digest.now ≡ sha256 (image Second t) → OnOk result (AppendsDelta (W.contents writer.old) (W.contents writer.new) t u) }
     ensures err { (t u : Tree) → MeanRooted old t → MeanRooted new u → digest.now ≡ sha256 (image Second t) → OnErr result (BeginsDelta (W.contents writer.old) (W.contents writer.new) t u) }
+    ensures memory { (t u : Tree) → MeanRooted old t → MeanRooted new u → digest.now ≡ sha256 (image Second t) → result ≡ Err PrintFault.Memory → BeginsLines (W.contents writer.old) (W.contents writer.new) t u }
 {
     let Ok(mut old) = LineCursor::new(alloc, old) else {
         drop(new);
@@ -57,6 +59,7 @@ fn put_delta<W: Write>(
 ) -> Result<(), PrintFault>
     ensures ok { (a b : FsRoot) (t u : Tree) → IsAtStart a old.old → IsAtStart b new.old → MeanRooted a t → MeanRooted b u → digest.now ≡ sha256 (image Second t) → OnOk result (AppendsDelta (W.contents writer.old) (W.contents writer.new) t u) }
     ensures err { (a b : FsRoot) (t u : Tree) → IsAtStart a old.old → IsAtStart b new.old → MeanRooted a t → MeanRooted b u → digest.now ≡ sha256 (image Second t) → OnErr result (BeginsDelta (W.contents writer.old) (W.contents writer.new) t u) }
+    ensures memory { (a b : FsRoot) (t u : Tree) → IsAtStart a old.old → IsAtStart b new.old → MeanRooted a t → MeanRooted b u → digest.now ≡ sha256 (image Second t) → result ≡ Err PrintFault.Memory → BeginsLines (W.contents writer.old) (W.contents writer.new) t u }
 {
     put_heading(writer, digest)?;
     put_commands(alloc, old, new, writer)?;
@@ -73,6 +76,7 @@ fn put_commands<W: Write>(
 ) -> Result<(), PrintFault>
     ensures ok { OnOk result ((cs : List Command) × PutsAll cs (W.contents writer.old) (W.contents writer.new) old.old new.old) }
     ensures err { OnErr result (BeginsAll (W.contents writer.old) (W.contents writer.new) old.old new.old) }
+    ensures memory { result ≡ Err PrintFault.Memory → PutsSome (W.contents writer.old) (W.contents writer.new) old.old new.old }
 {
     // No image has more lines than this.
     for _ in 0..u64::MAX {
@@ -93,6 +97,7 @@ fn put_round<W: Write>(
 ) -> Result<(), PrintFault>
     ensures ok { OnOk result ((cs : List Command) × Puts cs (W.contents writer.old) (W.contents writer.new) old.old new.old old.new new.new) }
     ensures err { OnErr result (BeginsAll (W.contents writer.old) (W.contents writer.new) old.old new.old) }
+    ensures memory { result ≡ Err PrintFault.Memory → PutsSome (W.contents writer.old) (W.contents writer.new) old.old new.old }
 {
     let staying = pass_same(alloc, old, new)?;
     print_copy(writer, staying)?;
@@ -139,6 +144,7 @@ fn put_coming<W: Write>(
 ) -> Result<(), PrintFault>
     ensures ok { OnOk result ((cs : List Command) × Puts cs (W.contents writer.old) (W.contents writer.new) old.now new.old old.now new.new) }
     ensures err { OnErr result (BeginsAll (W.contents writer.old) (W.contents writer.new) old.now new.old) }
+    ensures memory { result ≡ Err PrintFault.Memory → PutsSome (W.contents writer.old) (W.contents writer.new) old.now new.old }
 {
     // No image has more lines than this.
     for _ in 0..u64::MAX {

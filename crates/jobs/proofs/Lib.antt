@@ -7,3 +7,4 @@ pub mod Taking
 pub mod Stepping
 pub mod Fitting
 pub mod Installing
+pub mod Choosing

@@ -5,4 +5,5 @@ pub mod Codes
 pub mod Survive
 pub mod Taking
 pub mod Replies
+pub mod Heaviest
 pub mod Laws

@@ -1,4 +1,4 @@
-//! What is printed of a volume's answers.
+//! What is printed for a volume's answers.
 use crate::print::{put, put_fault, put_number, put_ok, put_settled, put_step};
 use jobs::Backlog;
 use node::StepReply;
@@ -14,13 +14,13 @@ fn word_of(kind: Kind) -> &'static str {
     }
 }
 
-/// Adds a line with what stands at a path.
+/// Adds a line with the metadata of the entry at a path.
 fn put_stat(out: &mut Vec<u8>, kind: Kind, len: u64, modified: u64) {
     let word = word_of(kind);
     let _ = writeln!(out, "{word} {len} {modified}");
 }
 
-/// Adds the line of a reply. Whether it is want of memory.
+/// Adds the line of a reply; returns whether it reports an allocation failure.
 pub fn put_reply(out: &mut Vec<u8>, reply: &Reply) -> bool {
     match reply {
         Reply::Done => put_ok(out),
@@ -36,7 +36,7 @@ pub fn put_reply(out: &mut Vec<u8>, reply: &Reply) -> bool {
     }
 }
 
-/// The reply of the step that relief tried.
+/// The reply of the step that compaction tried.
 pub fn reply_of(relief: Option<CompactStep>) -> Option<StepReply> {
     match relief {
         Some(relief) => Some(relief.reply),
@@ -44,7 +44,7 @@ pub fn reply_of(relief: Option<CompactStep>) -> Option<StepReply> {
     }
 }
 
-/// Adds what a taking answers. Whether it is want of memory.
+/// Adds the answer to taking a job; returns whether it reports an allocation failure.
 pub fn put_taking(out: &mut Vec<u8>, answer: TakeAnswer) -> bool {
     match answer {
         TakeAnswer::Taken(ticket) => put_number(out, "taken", u128::from(ticket.number)),
@@ -55,7 +55,7 @@ pub fn put_taking(out: &mut Vec<u8>, answer: TakeAnswer) -> bool {
     answer == TakeAnswer::NoMemory
 }
 
-/// Adds what a finishing answers. Whether it is want of memory.
+/// Adds the answer to finishing a job; returns whether it reports an allocation failure.
 pub fn put_finishing(out: &mut Vec<u8>, answer: FinishAnswer) -> bool {
     put(
         out,
@@ -69,7 +69,7 @@ pub fn put_finishing(out: &mut Vec<u8>, answer: FinishAnswer) -> bool {
     answer == FinishAnswer::NoMemory
 }
 
-/// Adds what a volume answers to an event. Whether it is want of memory.
+/// Adds a volume's answer to an event; returns whether it reports an allocation failure.
 pub fn put_answer(out: &mut Vec<u8>, answer: &Answer) -> bool {
     match answer {
         Answer::Call(reply) => put_reply(out, reply),

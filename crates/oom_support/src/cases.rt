@@ -1,5 +1,5 @@
-//! Pending lists that are cut, joined, sunk or copied, or of which some messages are taken, each between the two lines. Each key is so long that
-//! a copy of it takes memory, so a copy of a message shows among the requests.
+//! Pending lists that are split, merged, flushed or copied, or of which some messages are removed, each between the two lines.
+//! Each key is so long that a copy of it is an allocation, so a copy of a message shows among the requests.
 use crate::lists::{List, apart, eight, middle_of_apart, middle_of_nested, nested, puts, updates};
 use crate::window;
 use crate::words::word_at;
@@ -7,8 +7,8 @@ use pathkey::{Key, NoMemory};
 use std::alloc::Global;
 use std::io::Write;
 
-/// Does the deed that the first word names, on lists of as many messages of a kind as the second one says. Prints how many messages each
-/// list then has, and how many of them are range-deletes. None where there is no such deed.
+/// Runs the case that the first word names, on lists of as many messages of a kind as the second one says. Prints how many
+/// messages each list then has, and how many of them are range-deletes. `None` if there is no such case.
 pub fn scene<R: Print>(rt: &R, alloc: Global, words: &[&str], out: &mut Vec<u8>) -> Option<bool> {
     let count = word_at(words, 1)?.parse::<u32>().ok()?;
     match word_at(words, 0)? {
@@ -28,7 +28,7 @@ fn print_outcome(out: &mut Vec<u8>, word: &str, list: &List) {
     let _ = writeln!(out, "{word} {} {}", list.len(), list.range_deletes(0));
 }
 
-/// Cuts a list at a key.
+/// Splits a list at a key.
 fn cut<R: Print>(
     rt: &R,
     alloc: Global,
@@ -46,7 +46,7 @@ fn cut<R: Print>(
     Ok(())
 }
 
-/// Cuts a list whose messages lie apart, in its middle.
+/// Splits a list whose messages are apart, in its middle.
 fn cut_apart<R: Print>(
     rt: &R,
     alloc: Global,
@@ -57,7 +57,7 @@ fn cut_apart<R: Print>(
     cut(rt, alloc, apart(alloc, count)?, &pivot, out)
 }
 
-/// Cuts a list whose messages wait as they came, in its middle.
+/// Splits a list whose messages are not condensed, in its middle.
 fn cut_nested<R: Print>(
     rt: &R,
     alloc: Global,
@@ -68,7 +68,7 @@ fn cut_nested<R: Print>(
     cut(rt, alloc, nested(alloc, count)?, &pivot, out)
 }
 
-/// Joins the parts of a list before a key and from it on.
+/// Merges the parts of a list before a key and from it on.
 fn join<R: Print>(
     rt: &R,
     alloc: Global,
@@ -85,7 +85,7 @@ fn join<R: Print>(
     Ok(())
 }
 
-/// Joins the halves of a list whose messages lie apart.
+/// Merges the halves of a list whose messages are apart.
 fn join_apart<R: Print>(
     rt: &R,
     alloc: Global,
@@ -96,7 +96,7 @@ fn join_apart<R: Print>(
     join(rt, alloc, apart(alloc, count)?, &pivot, out)
 }
 
-/// Joins the halves of a list whose messages wait as they came.
+/// Merges the halves of a list whose messages are not condensed.
 fn join_nested<R: Print>(
     rt: &R,
     alloc: Global,
@@ -107,7 +107,7 @@ fn join_nested<R: Print>(
     join(rt, alloc, nested(alloc, count)?, &pivot, out)
 }
 
-/// Lets all messages of a list sink into another.
+/// Flushes all messages of a list into another.
 fn sink<R: Print>(rt: &R, list: List, to: List, out: &mut Vec<u8>) -> Result<(), NoMemory> {
     let mut list = list;
     let mut to = to;
@@ -119,7 +119,7 @@ fn sink<R: Print>(rt: &R, list: List, to: List, out: &mut Vec<u8>) -> Result<(),
     sunk
 }
 
-/// Lets all messages of a list, which lie apart, sink into one that they meet.
+/// Flushes all messages of a list, which are apart, into one that they overlap.
 fn sink_apart<R: Print>(
     rt: &R,
     alloc: Global,
@@ -130,10 +130,10 @@ fn sink_apart<R: Print>(
     sink(rt, apart(alloc, count)?, to, out)
 }
 
-/// How many messages are copied out of the front of a list.
+/// How many messages are copied from the front of a list.
 const COPIED: usize = 7;
 
-/// Copies the oldest messages of a list, and lets one of them sink into another list.
+/// Copies the oldest messages of a list, and flushes one of them into another list.
 fn take<R: Print>(
     rt: &R,
     alloc: Global,
@@ -154,7 +154,7 @@ fn take<R: Print>(
     Ok(())
 }
 
-/// Copies the oldest of so many updates in a list, and lets one of them sink into another such list.
+/// Copies the oldest of `count` updates in a list, and flushes one of them into another such list.
 fn take_updates<R: Print>(
     rt: &R,
     alloc: Global,

@@ -15,10 +15,10 @@ use std::alloc::Global;
 use std::sync::Wait;
 use volume::{Answer, Frozen};
 
-/// A client, and what lets it wait for the lock.
+/// A client, and the runtime with which it waits for the lock.
 #[derive(Drop)]
 pub struct Served<'a, J: EngineId, R: Wait> {
-    /// That.
+    /// The runtime.
     pub rt: &'a R,
     /// The client.
     pub client: Client<J>,
@@ -45,7 +45,7 @@ fn put_counts(tree: &Result<Frozen, NoMemory>, out: &mut Vec<u8>) {
     }
 }
 
-/// Prints what stands, and how many calls of the client were recorded.
+/// Prints the trees, and how many calls of the client were recorded.
 fn show<J: EngineId, R: Wait>(alloc: Global, served: &mut Served<'_, J, R>, out: &mut Vec<u8>) {
     put_number(out, "made", u128::from(served.client.made()));
     let live = served.client.freeze(served.rt);
@@ -62,7 +62,7 @@ impl<'a, J: EngineId, R: Wait> Subject for Served<'a, J, R> {
     }
 }
 
-/// What a client is answered to a call that it records.
+/// The answer to a client's call, which the client records.
 fn answer_to<J: EngineId, R: Wait>(
     alloc: Global,
     served: &mut Served<'_, J, R>,
@@ -134,7 +134,7 @@ impl<'a, J: EngineId, R: Wait> OomCase<Served<'a, J, R>> for Past {
     }
 }
 
-/// The number of the calls of a client is asked for.
+/// The number of a client's calls is read.
 #[derive(Drop)]
 pub struct Made;
 
@@ -211,7 +211,7 @@ impl<'a, J: EngineId, R: Wait + Print> OomCase<Crew<'a, J, R>> for Turn {
     }
 }
 
-/// Prints what a turn replies. Whether it is want of memory.
+/// Prints the reply of a turn; returns whether it reports an allocation failure.
 fn put_turn(out: &mut Vec<u8>, reply: TurnReply) -> bool {
     match reply {
         TurnReply::Idle => put(out, "idle\n"),
@@ -223,12 +223,12 @@ fn put_turn(out: &mut Vec<u8>, reply: TurnReply) -> bool {
     false
 }
 
-/// Makes turns until nothing waits, or so many.
+/// Makes turns until nothing is pending, at most `turns`.
 fn settle<J: EngineId, R: Wait>(rt: &R, alloc: Global, flusher: &mut Flusher<J>, turns: u32) {
     flusher.run_flusher(rt, alloc, turns);
 }
 
-/// A turn of a flusher, behind so many turns.
+/// A turn of a flusher, after `turns` turns.
 pub fn make_turn<J: EngineId, R: Wait + Print>(
     rt: &R,
     alloc: Global,

@@ -33,7 +33,7 @@ pub enum Scene<'a> {
     Made,
     /// A flusher is made between the two lines.
     Flusher,
-    /// A turn of a flusher, behind so many turns.
+    /// A turn of a flusher, after the given number of turns.
     Turn(u32),
     /// A turn between whose two holds of the lock a snapshot is restored.
     Stale(&'a str),
@@ -41,7 +41,7 @@ pub enum Scene<'a> {
     Close,
 }
 
-/// What a scene's first word asks for.
+/// What the first word of a scene names.
 #[derive(Clone, Copy)]
 enum Verb {
     Room,
@@ -68,7 +68,7 @@ const VERBS: &[(&str, Verb)] = &[
     ("close", Verb::Close),
 ];
 
-/// What a word asks for.
+/// What a word names.
 fn verb_of(name: &str) -> Option<Verb> {
     for (word, verb) in VERBS {
         if name == *word {
@@ -78,7 +78,7 @@ fn verb_of(name: &str) -> Option<Verb> {
     None
 }
 
-/// The scene that words name, but for that of a call.
+/// The scene that the words name, except that of a call.
 fn scene_of<'a>(words: &'a [&'a str]) -> Option<Scene<'a>> {
     let (name, others) = words.split_first()?;
     Some(match verb_of(name)? {
@@ -125,7 +125,7 @@ fn call<J: EngineId, R: Wait + Print>(
     }
 }
 
-/// What a client that is given away does alone.
+/// What a client that is passed by value does alone.
 fn by_client<J: EngineId, R: Wait + Print>(
     rt: &R,
     alloc: Global,
@@ -158,7 +158,7 @@ fn by_flusher<J: EngineId, R: Wait + Print>(
     }
 }
 
-/// A turn of a flusher, where a snapshot is restored between its two holds of the lock.
+/// A turn of a flusher, with a snapshot restored between its two holds of the lock.
 fn by_stale_flusher<J: EngineId, R: Wait + Print>(
     rt: &R,
     alloc: Global,
@@ -208,7 +208,7 @@ fn put_report(alloc: Global, report: &Report, out: &mut Vec<u8>) {
     put_image(alloc, &report.tree, out);
 }
 
-/// Prints how the second closing of an engine ended.
+/// Prints how closing an engine for the second time ended.
 fn put_second<J: EngineId>(alloc: Global, ended: Result<Report, CloseFault<J>>, out: &mut Vec<u8>) {
     put(out, "== answer again\n");
     match ended {
@@ -242,7 +242,7 @@ fn close_asked<J: EngineId, R: Wait + Print>(
     ended
 }
 
-/// Why an engine was not closed: memory was refused, and then it is closed again.
+/// Prints why an engine was not closed; if an allocation failed, closes it again.
 fn close_refused<J: EngineId, R: Wait>(
     rt: &R,
     alloc: Global,
@@ -255,7 +255,7 @@ fn close_refused<J: EngineId, R: Wait>(
     }
 }
 
-/// Closes an engine, and again where it is refused memory.
+/// Closes an engine, and again if an allocation fails.
 fn close<J: EngineId, R: Wait + Print>(
     rt: &R,
     alloc: Global,
@@ -302,7 +302,7 @@ fn with<J: EngineId, R: Wait + Print>(
     play_first(rt, alloc, &mut engine, &mut clients, scene, out)
 }
 
-/// Prints that memory was refused, and what stands.
+/// Prints that an allocation failed, and the volume.
 fn put_back(alloc: Global, volume: &Volume, out: &mut Vec<u8>) {
     put_no_memory(out);
     put(out, "== after\n");
@@ -312,7 +312,7 @@ fn put_back(alloc: Global, volume: &Volume, out: &mut Vec<u8>) {
 /// An engine and its clients, or the volume.
 type Opened<J> = Result<(Engine<J>, Clients<J>), Volume>;
 
-/// Prints how the opening of an engine ended.
+/// Prints how opening an engine ended.
 fn put_opened<J: EngineId>(alloc: Global, opened: Opened<J>, out: &mut Vec<u8>) {
     put(out, "== answer\n");
     match opened {
@@ -324,7 +324,7 @@ fn put_opened<J: EngineId>(alloc: Global, opened: Opened<J>, out: &mut Vec<u8>) 
     }
 }
 
-/// Opens an engine over the volume of a room between the two lines, and prints what stands.
+/// Opens an engine over the volume of a room between the two lines, and prints the result.
 fn open_in<J: EngineId, R: Wait + Print>(
     rt: &R,
     alloc: Global,
@@ -378,7 +378,7 @@ fn room_asked<R: Print>(rt: &R, alloc: Global, volume: Volume) -> Result<EngineB
     made
 }
 
-/// Prints how the making of a room ended.
+/// Prints how making a room ended.
 fn put_room(alloc: Global, made: Result<EngineBuilder, Volume>, out: &mut Vec<u8>) {
     put(out, "== answer\n");
     match made {
@@ -412,7 +412,7 @@ pub fn over<R: Wait + Print>(
     }
 }
 
-/// What is done with a volume that may be given away; none where the words name nothing.
+/// What is done with a volume that is passed by value; `None` if the words name nothing.
 pub fn on_volume<R: Wait + Print>(
     rt: &R,
     alloc: Global,

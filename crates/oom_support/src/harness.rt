@@ -1,4 +1,4 @@
-//! The frame of a scene: what stands before a call, the call between the two lines, its answer, and what stands behind it.
+//! The harness of a scene: the state before a call, the call between the two lines, its answer, and the state after it.
 use crate::print::put;
 use crate::window;
 use std::alloc::Global;
@@ -11,26 +11,26 @@ pub trait Subject {
 
 /// A call on it.
 pub trait OomCase<S> {
-    /// What it answers.
+    /// Its answer.
     type Outcome: Drop;
 
-    /// Makes what the call takes; whether that was done.
+    /// Makes the arguments of the call; returns whether that succeeded.
     fn prepare(&mut self, alloc: Global, subject: &mut S) -> bool;
 
     /// Makes the call.
     fn call(&mut self, alloc: Global, subject: &mut S) -> Self::Outcome;
 
-    /// Prints the answer; whether it is want of memory.
+    /// Prints the answer; returns whether it reports an allocation failure.
     fn print_outcome(&mut self, alloc: Global, told: &Self::Outcome, out: &mut Vec<u8>) -> bool;
 }
 
-/// Prints what stands, under a title.
+/// Prints the state, under a title.
 fn show<S: Subject>(alloc: Global, subject: &mut S, title: &str, out: &mut Vec<u8>) {
     put(out, title);
     subject.show(alloc, out);
 }
 
-/// Makes a call between the two lines, and prints its answer; whether it is want of memory.
+/// Makes a call between the two lines, and prints its answer; returns whether it reports an allocation failure.
 fn ask_once<R: Print, S: Subject, D: OomCase<S>>(
     rt: &R,
     alloc: Global,
@@ -47,7 +47,7 @@ fn ask_once<R: Print, S: Subject, D: OomCase<S>>(
     refused
 }
 
-/// Makes a call that was refused again, and prints its answer and what then stands.
+/// Repeats a call for which an allocation failed, and prints its answer and the state after it.
 fn ask_again<S: Subject, D: OomCase<S>>(
     alloc: Global,
     subject: &mut S,
@@ -65,7 +65,7 @@ fn ask_again<S: Subject, D: OomCase<S>>(
     true
 }
 
-/// Makes a call between the two lines, and again without them where it is refused memory. Prints what stands before and after.
+/// Makes a call between the two lines, and again without them if an allocation fails. Prints the state before and after.
 pub fn ask<R: Print, S: Subject, D: OomCase<S>>(
     rt: &R,
     alloc: Global,

@@ -1,4 +1,4 @@
-//! Jobs: a call on a volume from which jobs were taken, and the building and installing of one.
+//! Jobs: a call on a volume from which jobs were taken, and building and installing one.
 ghost use Rattle.std.specs.Prelude.{◌≡◌, IfErr, IfOk, IfSome};
 ghost use Rattle.volume.specs.RunJob.{AreHeld, IsHeld};
 ghost use Rattle.volume.specs.Jobs.{Builds, IfGivenBack};
@@ -96,7 +96,7 @@ fn finish_last(alloc: Global, volume: &mut Volume, held: &mut Vec<RunJob>, out: 
 /// How many jobs are held at most: one of each slot of both roots.
 const MOST: usize = 8;
 
-/// Builds and installs all jobs that are held, and prints what stands then.
+/// Builds and installs all jobs that are held, and then prints the volume.
 fn finish_all(alloc: Global, volume: &mut Volume, mut held: Vec<RunJob>, out: &mut Vec<u8>)
     requires { AreHeld (live_of volume.old) held.items }
 {
@@ -108,7 +108,7 @@ fn finish_all(alloc: Global, volume: &mut Volume, mut held: Vec<RunJob>, out: &m
     show_volume(alloc, volume, out);
 }
 
-/// Prints what stands, under a title.
+/// Prints the volume, under a title.
 fn show(alloc: Global, volume: &Volume, title: &str, out: &mut Vec<u8>) {
     put(out, title);
     show_volume(alloc, volume, out);
@@ -124,7 +124,7 @@ fn act_asked<R: Print>(rt: &R, alloc: Global, volume: &mut Volume, act: Act<'_>)
     answer
 }
 
-/// Makes a call between the two lines, and prints what stands before and after.
+/// Makes a call between the two lines, and prints the volume before and after.
 fn ask_beside<R: Print>(rt: &R, alloc: Global, volume: &mut Volume, act: Act<'_>, out: &mut Vec<u8>)
     ensures { KeepsMarks (live_of volume.old) (live_of volume.new) }
 {
@@ -161,7 +161,7 @@ fn build_asked<R: Print>(rt: &R, alloc: Global, job: Job) -> Result<Done, Job>
     built
 }
 
-/// Prints that a job was built, and what stands; then it is installed.
+/// Prints that a job was built, and the volume; then installs the job.
 fn install_built(alloc: Global, volume: &mut Volume, done: Done, out: &mut Vec<u8>)
     requires { IsHeld (live_of volume.old) (Built done) }
 {
@@ -171,7 +171,7 @@ fn install_built(alloc: Global, volume: &mut Volume, done: Done, out: &mut Vec<u
     install(volume, done, out);
 }
 
-/// Prints that memory was refused, and what stands; then the job is built again and installed.
+/// Prints that an allocation failed, and the volume; then builds the job again and installs it.
 fn build_again(alloc: Global, volume: &mut Volume, job: Job, out: &mut Vec<u8>)
     requires { IsHeld (live_of volume.old) (Taken job) }
 {
@@ -181,7 +181,7 @@ fn build_again(alloc: Global, volume: &mut Volume, job: Job, out: &mut Vec<u8>)
     finish_job(alloc, volume, job, out);
 }
 
-/// Prints how the building of a job ended, and goes on with it.
+/// Prints how building a job ended, and continues with it.
 fn tell_built(alloc: Global, volume: &mut Volume, built: Result<Done, Job>, out: &mut Vec<u8>)
     requires ok { IfOk built (λ d. IsHeld (live_of volume.old) (Built d)) }
     requires err { IfErr built (λ j. IsHeld (live_of volume.old) (Taken j)) }
@@ -193,7 +193,7 @@ fn tell_built(alloc: Global, volume: &mut Volume, built: Result<Done, Job>, out:
     }
 }
 
-/// Builds a job that was taken between the two lines, again where that is refused memory, and installs it.
+/// Builds a taken job between the two lines, again if an allocation fails, and installs it.
 fn build_job<R: Print>(rt: &R, alloc: Global, volume: &mut Volume, job: Job, out: &mut Vec<u8>)
     requires { IsHeld (live_of volume.old) (Taken job) }
 {
@@ -255,13 +255,13 @@ fn install_asked<R: Print>(rt: &R, volume: &mut Volume, done: Done) -> InstallRe
     reply
 }
 
-/// Prints how an installing ended, and what stands.
+/// Prints how installing ended, and the volume.
 fn tell_ended(alloc: Global, volume: &Volume, answer: &str, out: &mut Vec<u8>) {
     put(out, answer);
     show(alloc, volume, "== after\n", out);
 }
 
-/// Prints that memory was refused, and what stands; then what was built is installed again.
+/// Prints that an allocation failed, and the volume; then installs what was built again.
 fn install_again(alloc: Global, volume: &mut Volume, done: Done, out: &mut Vec<u8>)
     requires { IsHeld (live_of volume.old) (Built done) }
 {
@@ -272,7 +272,7 @@ fn install_again(alloc: Global, volume: &mut Volume, done: Done, out: &mut Vec<u
     show(alloc, volume, "== after jobs\n", out);
 }
 
-/// Prints how an installing ended, and does it again where it was refused memory.
+/// Prints how installing ended, and does it again if an allocation failed.
 fn tell_installed(alloc: Global, volume: &mut Volume, reply: InstallReply, out: &mut Vec<u8>)
     requires { IfGivenBack reply (λ d. IsHeld (live_of volume.old) (Built d)) }
 {
@@ -284,7 +284,7 @@ fn tell_installed(alloc: Global, volume: &mut Volume, reply: InstallReply, out: 
     }
 }
 
-/// Installs what was built between the two lines, and again where that is refused memory.
+/// Installs what was built between the two lines, and again if an allocation fails.
 fn install_done<R: Print>(rt: &R, alloc: Global, volume: &mut Volume, done: Done, out: &mut Vec<u8>)
     requires { IsHeld (live_of volume.old) (Built done) }
 {
@@ -322,7 +322,7 @@ pub fn install_one<R: Print>(
     }
 }
 
-/// The ticket of a job is asked between the two lines.
+/// Reads the ticket of a job between the two lines.
 fn ticket_of_job<R: Print>(rt: &R, job: &Job) -> Ticket {
     window::open(rt);
     let ticket = job.ticket();
@@ -330,7 +330,7 @@ fn ticket_of_job<R: Print>(rt: &R, job: &Job) -> Ticket {
     ticket
 }
 
-/// The ticket of what was built is asked between the two lines.
+/// Reads the ticket of what was built between the two lines.
 fn ticket_of_done<R: Print>(rt: &R, done: &Done) -> Ticket {
     window::open(rt);
     let ticket = done.ticket();
@@ -349,7 +349,7 @@ fn put_built_ticket<R: Print>(rt: &R, alloc: Global, job: Job, out: &mut Vec<u8>
     }
 }
 
-/// The tickets of a job and of what is built of it are asked between the two lines.
+/// Reads the tickets of a job and of what is built of it between the two lines.
 pub fn tickets<R: Print>(
     rt: &R,
     alloc: Global,

@@ -1,5 +1,5 @@
-//! Requests for memory that are refused in trees, pending lists, volumes and engines: the frame that makes a call between two lines, the
-//! words of a scene, the scenes of each layer, and what is told of a call (`tests/oom/run` at the top).
+//! Allocation failures in trees, pending lists, volumes and engines: the harness that makes a call between two lines, the words
+//! of a scene, the scenes of each layer, and what is printed of a call (`tests/oom/run` at the top).
 #![tactic(auto)]
 
 pub mod answers;

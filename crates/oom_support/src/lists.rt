@@ -1,4 +1,4 @@
-//! The lists on which the deeds are done.
+//! The lists on which the cases run.
 ghost use Rattle.std.specs.Prelude.{◌≡◌, ◌++◌, [], ◌∷◌, OnOk};
 
 use message::Msg;
@@ -7,10 +7,10 @@ use pending::Pending;
 use std::alloc::Global;
 use test_support::Digit;
 
-/// A list of messages for numbers.
+/// A list of messages whose keys are numbers.
 pub type List = Pending<Digit>;
 
-/// How often the eight bytes of its number stand in a key: a key of 48 bytes does not lie in its value.
+/// How often a key repeats the eight bytes of its number: a key of 48 bytes is not stored inline.
 const TIMES: usize = 6;
 
 /// The key of a number. Keys rise with their numbers.
@@ -22,26 +22,26 @@ pub fn key(alloc: Global, number: u64) -> Result<Key, NoMemory> {
     Key::from_bytes(alloc, bytes.as_slice())
 }
 
-/// A message that gives the key of a number a value.
+/// A message that puts a value at the key of a number.
 fn put(alloc: Global, number: u64) -> Result<Msg<Digit>, NoMemory> {
     Ok(Msg::Put(key(alloc, number)?, number))
 }
 
-/// A range-delete from the key of a number up to and without that of another.
+/// A range-delete from the key of a number up to that of another, exclusive.
 fn range_delete(alloc: Global, from: u64, to: u64) -> Result<Msg<Digit>, NoMemory> {
     let lo = key(alloc, from)?;
     let hi = key(alloc, to)?;
     Ok(Msg::DelRange(KeyRange { lo, hi: Some(hi) }))
 }
 
-/// Adds a message, which condenses with the others where it can.
+/// Adds a message, which condenses with the others if it can.
 fn add(list: &mut List, msg: Msg<Digit>) -> Result<(), NoMemory> {
     list.reserve(1)?;
     list.push_reserved(msg);
     Ok(())
 }
 
-/// Adds a message, which waits as it came.
+/// Adds a message, which is not condensed.
 fn add_kept(list: &mut List, msg: Msg<Digit>) -> Result<(), NoMemory>
     ensures { OnOk result (list.new.0 ≡ list.old.0 ++ msg ∷ []) }
 {
@@ -50,7 +50,7 @@ fn add_kept(list: &mut List, msg: Msg<Digit>) -> Result<(), NoMemory>
     Ok(())
 }
 
-/// A list with so many range-deletes that lie apart, and a put behind each: of each four numbers the first two are deleted, and
+/// A list with `count` range-deletes that are apart, and a put after each: of each four numbers the first two are deleted, and
 /// the last one is put.
 pub fn apart(alloc: Global, count: u32) -> Result<List, NoMemory> {
     let mut list = Pending::new(alloc);
@@ -66,7 +66,7 @@ pub fn middle_of_apart(alloc: Global, count: u32) -> Result<Key, NoMemory> {
     key(alloc, 4 * u64::from(count / 2) + 1)
 }
 
-/// A list whose messages wait as they came: so many range-deletes inside one another, and a put behind each, half of them before
+/// A list whose messages are not condensed: `count` range-deletes inside one another, and a put after each, half of them before
 /// the middle and half from it on.
 pub fn nested(alloc: Global, count: u32) -> Result<List, NoMemory> {
     let end = 4 * u64::from(count);
@@ -83,7 +83,7 @@ pub fn middle_of_nested(alloc: Global, count: u32) -> Result<Key, NoMemory> {
     key(alloc, 2 * u64::from(count))
 }
 
-/// A list of eight messages that those of [`apart`] meet: two range-deletes, over each of whose ends one of those reaches, and
+/// A list of eight messages that those of [`apart`] overlap: two range-deletes, over each of whose ends one of those reaches, and
 /// puts at three numbers that those put and at three that they delete.
 pub fn eight(alloc: Global) -> Result<List, NoMemory> {
     let mut list = Pending::new(alloc);
@@ -97,7 +97,7 @@ pub fn eight(alloc: Global) -> Result<List, NoMemory> {
     Ok(list)
 }
 
-/// A list with so many updates of one number, which do not join, and a put of the next number.
+/// A list with `count` updates of one number, which do not join, and a put of the next number.
 pub fn updates(alloc: Global, count: u32) -> Result<List, NoMemory> {
     let mut list = Pending::new(alloc);
     for i in 0..u64::from(count) {
@@ -107,7 +107,7 @@ pub fn updates(alloc: Global, count: u32) -> Result<List, NoMemory> {
     Ok(list)
 }
 
-/// A list with so many puts, of rising numbers.
+/// A list with `count` puts, of ascending numbers.
 pub fn puts(alloc: Global, count: u32) -> Result<List, NoMemory> {
     let mut list = Pending::new(alloc);
     for i in 0..u64::from(count) {

@@ -19,22 +19,22 @@ use volume::{Answer, CompactStep, Index, Step, TakeAnswer, TakeReply, Volume};
 pub enum Act<'a> {
     /// A file call.
     Live(&'a Call),
-    /// The live tree is to be kept under the name.
+    /// Takes a snapshot of the live tree under the name.
     Keep(&'a SnapName),
-    /// The snapshot of that name is to go.
+    /// Removes the snapshot of that name.
     Drop(&'a SnapName),
-    /// The live tree is to become that of the snapshot.
+    /// Restores the snapshot of that name.
     Restore(&'a SnapName),
 }
 
-/// It is done.
+/// The call is made.
 #[derive(Drop)]
 pub struct Line<'a> {
-    /// That.
+    /// The call.
     pub act: Act<'a>,
 }
 
-/// What a volume answers to it.
+/// The answer of a volume to it.
 pub fn answer_to(alloc: Global, volume: &mut Volume, act: Act<'_>) -> Answer
     ensures { KeepsMarks (live_of volume.old) (live_of volume.new) }
 {
@@ -65,9 +65,9 @@ impl<'a> OomCase<Site> for Line<'a> {
 /// An entry is planted.
 #[derive(Drop)]
 pub struct Plant {
-    /// Where.
+    /// Its path.
     pub path: Path,
-    /// What it is.
+    /// Its metadata.
     pub meta: Meta,
 }
 
@@ -112,7 +112,7 @@ impl OomCase<Site> for Try {
     }
 }
 
-/// The volume is relieved.
+/// A step of compaction is tried.
 #[derive(Drop)]
 pub struct Relieve;
 
@@ -137,7 +137,7 @@ impl OomCase<Site> for Relieve {
     }
 }
 
-/// A job of a slot of an index's root is taken, and let go.
+/// A job of a slot of an index's root is taken, and dropped.
 #[derive(Drop)]
 pub struct Take(pub Index, pub u8);
 
@@ -162,12 +162,12 @@ impl OomCase<Site> for Take {
     }
 }
 
-/// Marks go.
+/// Marks are removed.
 #[derive(Drop)]
 pub enum Cancel {
-    /// That of the ticket.
+    /// The one with the ticket.
     One(Ticket),
-    /// All.
+    /// All of them.
     All,
 }
 

@@ -15,7 +15,7 @@ const BAD: Shape = Shape {
     leaf: 4,
 };
 
-/// Prints what was loaded, or why nothing was. Whether it is want of memory.
+/// Prints what was loaded, or why nothing was; returns whether it reports an allocation failure.
 fn print_outcome(alloc: Global, loaded: &Result<Volume, LoadFault>, out: &mut Vec<u8>) -> bool {
     match loaded {
         Ok(volume) => {

@@ -1,4 +1,4 @@
-//! Trees that stand still, and looks into them.
+//! Frozen trees, and reads from them.
 use crate::answers::put_reply;
 use crate::harness::OomCase;
 use crate::print::{put, put_fault, put_no_memory, put_ok};
@@ -9,7 +9,7 @@ use reference::Reply;
 use std::alloc::Global;
 use volume::Frozen;
 
-/// The live tree is to stand still.
+/// The live tree is frozen.
 #[derive(Drop)]
 pub struct Freeze;
 
@@ -34,7 +34,7 @@ impl OomCase<Site> for Freeze {
     }
 }
 
-/// Prints a tree. Whether it is want of memory.
+/// Prints a tree; returns whether it reports an allocation failure.
 pub fn put_frozen(alloc: Global, told: &Result<Frozen, NoMemory>, out: &mut Vec<u8>) -> bool {
     match told {
         Ok(frozen) => {
@@ -45,7 +45,7 @@ pub fn put_frozen(alloc: Global, told: &Result<Frozen, NoMemory>, out: &mut Vec<
     }
 }
 
-/// The tree of a snapshot is to stand still.
+/// The tree of a snapshot is frozen.
 #[derive(Drop)]
 pub struct Past {
     /// Its name.
@@ -73,7 +73,7 @@ impl OomCase<Site> for Past {
     }
 }
 
-/// Prints the tree of a snapshot, or why there is none. Whether it is want of memory.
+/// Prints the tree of a snapshot, or why there is none; returns whether it reports an allocation failure.
 pub fn put_found(alloc: Global, told: &Result<Frozen, Errno>, out: &mut Vec<u8>) -> bool {
     match told {
         Ok(frozen) => {
@@ -84,27 +84,27 @@ pub fn put_found(alloc: Global, told: &Result<Frozen, Errno>, out: &mut Vec<u8>)
     }
 }
 
-/// What is asked of a tree that stands still.
+/// What is read from a frozen tree.
 #[derive(Clone, Copy)]
 pub enum Look<'a> {
-    /// So many bytes of a file at most, from an offset on.
+    /// At most the given number of bytes of a file, from an offset on.
     Read(&'a Path, u64, u64),
-    /// What stands at a path.
+    /// The entry at a path.
     Stat(&'a Path),
     /// The entries of a directory.
     Readdir(&'a Path),
 }
 
-/// A look into a tree that stands still.
+/// A read from a frozen tree.
 #[derive(Drop)]
 pub struct Glance<'a> {
     /// The tree.
     pub frozen: Frozen,
-    /// What is asked of it.
+    /// What is read from it.
     pub look: Look<'a>,
 }
 
-/// What a tree answers to a look.
+/// The reply of a tree to a read.
 fn answer_to(alloc: Global, frozen: &Frozen, look: Look<'_>) -> Reply {
     match look {
         Look::Read(path, offset, count) => frozen.read(alloc, path, offset, count),
@@ -164,7 +164,7 @@ impl OomCase<Site> for Image {
     }
 }
 
-/// Prints how an image ended. Whether it is want of memory.
+/// Prints how printing an image ended; returns whether it reports an allocation failure.
 fn put_printed(out: &mut Vec<u8>, told: &Result<(), ImageFault>) -> bool {
     match told {
         Ok(()) => put_ok(out),

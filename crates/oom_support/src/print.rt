@@ -1,4 +1,4 @@
-//! What is printed: titles, answers and numbers, gathered until the scene has ended.
+//! What is printed: titles, answers and numbers, collected until the scene has ended.
 use node::{ShapeReport, StepKind, StepReply, TreeStep};
 use pathkey::Errno;
 use std::io::Write;
@@ -13,19 +13,19 @@ pub fn put_number(out: &mut Vec<u8>, word: &str, number: u128) {
     let _ = writeln!(out, "{word} {number}");
 }
 
-/// Adds a line for want of memory. Answers that it was that.
+/// Adds the line for an allocation failure; returns true.
 pub fn put_no_memory(out: &mut Vec<u8>) -> bool {
     put(out, "no memory\n");
     true
 }
 
-/// Adds a line for a call that is done. Answers that it is no want of memory.
+/// Adds the line for a call that succeeded; returns false.
 pub fn put_ok(out: &mut Vec<u8>) -> bool {
     put(out, "ok\n");
     false
 }
 
-/// Adds the line of a fault. Whether it is want of memory.
+/// Adds the line of a fault; returns whether it is ENOMEM.
 pub fn put_fault(out: &mut Vec<u8>, fault: Errno) -> bool {
     put(out, "fault ");
     put(out, fault.name());
@@ -33,7 +33,7 @@ pub fn put_fault(out: &mut Vec<u8>, fault: Errno) -> bool {
     fault == Errno::ENOMEM
 }
 
-/// Adds what a call answers that has nothing to tell. Whether it is want of memory.
+/// Adds the answer of a call that returns no data; returns whether it reports an allocation failure.
 pub fn put_settled(out: &mut Vec<u8>, settled: Result<(), Errno>) -> bool {
     match settled {
         Ok(()) => put_ok(out),
@@ -41,7 +41,7 @@ pub fn put_settled(out: &mut Vec<u8>, settled: Result<(), Errno>) -> bool {
     }
 }
 
-/// Adds what a step replies. Whether it is want of memory.
+/// Adds the reply of a step; returns whether it reports an allocation failure.
 pub fn put_step(out: &mut Vec<u8>, reply: StepReply) -> bool {
     match reply {
         StepReply::Did(count) => put_number(out, "did", u128::from(count)),
@@ -52,7 +52,7 @@ pub fn put_step(out: &mut Vec<u8>, reply: StepReply) -> bool {
     reply == StepReply::NoMemory
 }
 
-/// Adds what relief did. Whether it is want of memory.
+/// Adds what compaction did; returns whether it reports an allocation failure.
 pub fn put_relief(out: &mut Vec<u8>, relief: Option<StepReply>) -> bool {
     match relief {
         Some(reply) => put_step(out, reply),
@@ -88,7 +88,7 @@ pub fn word_of(kind: StepKind) -> &'static str {
     }
 }
 
-/// Adds a line with a step that is to be tried.
+/// Adds a line with the next step to try.
 pub fn put_choice(out: &mut Vec<u8>, step: Option<TreeStep>) {
     match step {
         Some(step) => {

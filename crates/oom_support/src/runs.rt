@@ -72,7 +72,7 @@ fn event_of(alloc: Global, act: Act) -> Option<Event> {
     }
 }
 
-/// Adds the event of an act; whether that was done.
+/// Adds the event of an act; returns whether that succeeded.
 fn add(alloc: Global, events: &mut Vec<Event>, act: Act) -> bool {
     match event_of(alloc, act) {
         Some(event) => events.push(event).is_ok(),
@@ -80,7 +80,7 @@ fn add(alloc: Global, events: &mut Vec<Event>, act: Act) -> bool {
     }
 }
 
-/// The events of the run but the one with this number.
+/// The events of the run except the one with this number.
 pub fn events_without(alloc: Global, left_out: Option<usize>) -> Vec<Event> {
     let mut events = Vec::new(alloc);
     for (number, act) in ACTS.iter().enumerate() {
@@ -98,7 +98,7 @@ pub struct Run {
     pub events: Vec<Event>,
 }
 
-/// Prints what events were answered.
+/// Prints the answers to events.
 fn put_answers(out: &mut Vec<u8>, answers: &[Answer]) {
     for answer in answers {
         put_answer(out, answer);

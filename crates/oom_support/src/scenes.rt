@@ -57,7 +57,7 @@ fn shared(tree: &Entries) -> Option<Entries> {
     tree.share().ok()
 }
 
-/// The tree of a snapshot or, where there is none of that name, the live one.
+/// The tree of a snapshot or, if there is none of that name, the live one.
 fn tree_of(volume: &Volume, name: &SnapName) -> Option<Frozen> {
     match snapshot_tree(volume, name) {
         Some(frozen) => Some(frozen),
@@ -65,7 +65,7 @@ fn tree_of(volume: &Volume, name: &SnapName) -> Option<Frozen> {
     }
 }
 
-/// Looks into a tree of a volume.
+/// Reads from a tree of a volume.
 fn glance_at<R: Print>(
     rt: &R,
     alloc: Global,
@@ -77,7 +77,7 @@ fn glance_at<R: Print>(
     ask(rt, alloc, site, &mut Glance { frozen, look }, out)
 }
 
-/// Looks into the tree of a snapshot or, where there is none of that name, into the live one.
+/// Reads from the tree of a snapshot or, if there is none of that name, from the live one.
 pub fn glance<R: Print>(
     rt: &R,
     alloc: Global,
@@ -124,7 +124,7 @@ fn image<R: Print>(rt: &R, alloc: Global, site: &mut Site, out: &mut Vec<u8>) ->
     }
 }
 
-/// Runs the ten events, or all but one.
+/// Runs the ten events, or all except one.
 fn run<R: Print>(
     rt: &R,
     alloc: Global,
@@ -303,7 +303,7 @@ fn measure<R: Print>(
     Some(ask(rt, alloc, site, &mut Measure(index), out))
 }
 
-/// Runs all events but that of the number that a word is.
+/// Runs all events except that of the number that a word is.
 fn run_without<R: Print>(
     rt: &R,
     alloc: Global,
@@ -315,7 +315,7 @@ fn run_without<R: Print>(
     Some(run(rt, alloc, site, left_out, out))
 }
 
-/// What is done at a site; none where the words name nothing.
+/// What is done at a site; `None` if the words name nothing.
 fn at_site<R: Print>(
     rt: &R,
     alloc: Global,
@@ -341,7 +341,7 @@ fn at_site<R: Print>(
     }
 }
 
-/// What is done with a volume; none where the words name nothing.
+/// What is done with a volume; `None` if the words name nothing.
 pub fn scene<R: Print>(
     rt: &R,
     alloc: Global,

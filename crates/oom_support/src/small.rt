@@ -1,4 +1,4 @@
-//! Calls that take no memory.
+//! Calls that allocate nothing.
 use crate::print::{put, put_number};
 use crate::trees::SMALL;
 use crate::window;
@@ -34,7 +34,7 @@ fn places<R: Print>(rt: &R, out: &mut Vec<u8>) {
     put_number(out, "ticket", u128::from(ticket.number));
 }
 
-/// What a path tells of another.
+/// Prints what the calls of a path return about another.
 fn paths<R: Print>(rt: &R, path: &Path, other: &Path, out: &mut Vec<u8>) {
     window::open(rt);
     let is_under = path.is_under(other);
@@ -45,7 +45,7 @@ fn paths<R: Print>(rt: &R, path: &Path, other: &Path, out: &mut Vec<u8>) {
     put(out, "\n");
 }
 
-/// What a path tells of the long one above it; whether that was found.
+/// Prints what the calls of a path return about the long one above it; returns whether that was found.
 fn long_paths<R: Print>(rt: &R, alloc: Global, path: &Path, out: &mut Vec<u8>) -> bool {
     match path.parent(alloc) {
         Ok(Some(parent)) => {
@@ -80,10 +80,10 @@ fn words<R: Print>(rt: &R, out: &mut Vec<u8>) {
     put(out, "\n");
 }
 
-/// A path of more than forty bytes, which do not lie in its key.
+/// A path of more than forty bytes, which are not stored inline in its key.
 const LONG: &str = "/a-name-of-more-than-forty-bytes-in-all-its-parts/b";
 
-/// All of them.
+/// All of these calls.
 pub fn scene<R: Print>(rt: &R, alloc: Global, out: &mut Vec<u8>) -> bool {
     put(out, "== answer\n");
     root(rt, alloc, out);

@@ -1,4 +1,4 @@
-//! What stands in a volume: how large its trees are, and the images of the live tree and of its snapshots.
+//! The state of a volume: how large its trees are, and the images of the live tree and of its snapshots.
 use crate::answers::put_load;
 use crate::harness::Subject;
 use crate::print::{put, put_choice, put_fault, put_number, put_report};
@@ -12,7 +12,7 @@ use volume::{Frozen, Index, Volume};
 /// The names that snapshots have here.
 pub const NAMES: [&str; 3] = ["s", "t", "u"];
 
-/// What is told of a live index without memory.
+/// What is reported of a live index without an allocation.
 #[derive(Clone, Copy)]
 pub struct Measures {
     report: ShapeReport,
@@ -75,7 +75,7 @@ fn past_of(alloc: Global, volume: &Volume, text: &str) -> Result<Frozen, Errno> 
     }
 }
 
-/// Prints what stands in a volume.
+/// Prints the state of a volume.
 pub fn show_volume(alloc: Global, volume: &Volume, out: &mut Vec<u8>) {
     put_measures(out, "meta", measures_of(volume, Index::Meta));
     put_measures(out, "block", measures_of(volume, Index::Block));
@@ -88,7 +88,7 @@ pub fn show_volume(alloc: Global, volume: &Volume, out: &mut Vec<u8>) {
 /// A volume on which calls are made.
 #[derive(Drop)]
 pub struct Site {
-    /// That.
+    /// The volume.
     pub volume: Volume,
 }
 

@@ -36,7 +36,7 @@ fn put_pair(out: &mut Vec<u8>, key: &Key, meta: Meta) {
     let _ = writeln!(out, " {meta:?}");
 }
 
-/// Prints a pair, and moves the range behind it; whether that was done.
+/// Prints a pair, and moves the start of the range after it; returns whether that succeeded.
 fn put_and_pass(
     alloc: Global,
     rest: &mut KeyRange,
@@ -54,7 +54,7 @@ fn put_and_pass(
     }
 }
 
-/// Prints the first pair of a range, which then begins behind it; whether there was one.
+/// Prints the first pair of a range, which then begins after it; returns whether there was one.
 fn put_first(alloc: Global, tree: &Entries, rest: &mut KeyRange, out: &mut Vec<u8>) -> bool {
     match first_in(alloc, tree, rest) {
         Ok(Some((key, meta))) => put_and_pass(alloc, rest, key, meta, out),
@@ -76,12 +76,12 @@ fn put_pairs(alloc: Global, tree: &Entries, out: &mut Vec<u8>) {
     }
 }
 
-/// A tree, and another owner of all that it had at first.
+/// A tree, and another reference to all that it had at first.
 #[derive(Drop)]
 pub struct Pair {
     /// The tree.
     pub tree: Entries,
-    /// The other.
+    /// The other reference.
     pub other: Entries,
 }
 
@@ -129,7 +129,7 @@ fn message(alloc: Global, number: u8) -> Option<Msg<MetaUpdate>> {
     }
 }
 
-/// Adds a message; whether that was done.
+/// Adds a message; returns whether that succeeded.
 fn add(alloc: Global, msgs: &mut Vec<Msg<MetaUpdate>>, number: u8) -> bool {
     match message(alloc, number) {
         Some(msg) => msgs.push(msg).is_ok(),
@@ -166,7 +166,7 @@ impl OomCase<Pair> for Append {
     }
 }
 
-/// One more owner of a tree is made.
+/// Another reference to a tree is made.
 #[derive(Drop)]
 pub struct Share;
 
@@ -217,7 +217,7 @@ impl OomCase<Pair> for Try {
     }
 }
 
-/// The tree is relieved.
+/// A step of compaction is tried.
 #[derive(Drop)]
 pub struct Relieve;
 
@@ -245,7 +245,7 @@ impl OomCase<Pair> for Relieve {
     }
 }
 
-/// What is done with a tree; none where the words name nothing.
+/// What is done with a tree; `None` if the words name nothing.
 pub fn scene<R: Print>(
     rt: &R,
     alloc: Global,

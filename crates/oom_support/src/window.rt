@@ -1,11 +1,11 @@
-//! The two lines on standard output between which the requests for memory of a call lie.
+//! The two lines on standard output between which a call makes its allocations.
 
-/// Prints the line behind which the call begins.
+/// Prints the line after which the call begins.
 pub fn open<R: Print>(rt: &R) {
     let _ = print!(rt; "asked\n");
 }
 
-/// Prints the line before which it has ended.
+/// Prints the line before which the call has ended.
 pub fn close<R: Print>(rt: &R) {
     let _ = print!(rt; "told\n");
 }

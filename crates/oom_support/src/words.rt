@@ -5,7 +5,7 @@ use reference::Meta;
 use std::alloc::Global;
 use volume::{Index, Step};
 
-/// The word at this place.
+/// The word at this index.
 pub fn word_at<'a>(words: &'a [&'a str], at: usize) -> Option<&'a str> {
     words.get(at).copied()
 }
@@ -30,12 +30,12 @@ fn kind_of(word: &str) -> Option<StepKind> {
     }
 }
 
-/// The number of a digit.
+/// The value of a digit.
 fn digit_of(byte: u8) -> Option<u8> {
     byte.checked_sub(b'0')
 }
 
-/// The place to which slot numbers lead, one digit each; `-` is the root.
+/// The place that slot numbers lead to, one digit each; `-` is the root.
 fn place_of(word: &str) -> Option<Place> {
     let mut at = Place::root();
     if word == "-" {
@@ -61,7 +61,7 @@ pub fn path_of(alloc: Global, word: &str) -> Option<Path> {
     Path::parse(alloc, word.as_bytes()).ok()
 }
 
-/// The moment at which calls are done, and entries planted, behind an opening at moment 0.
+/// The timestamp of calls and of planted entries, after opening at timestamp 0.
 pub const AT: u64 = 7;
 
 /// The index that a word names.
@@ -82,7 +82,7 @@ pub fn step_of(words: &[&str]) -> Option<Step> {
     })
 }
 
-/// What an entry is that a word plants: a directory for `d`, or a file of that length.
+/// The metadata of an entry that a word plants: a directory for `d`, or a file of that length.
 pub fn meta_of(word: &str) -> Option<Meta> {
     if word == "d" {
         return Some(Meta::Dir { modified: AT });

@@ -1,11 +1,12 @@
 -- Jobs of a volume: which they are, what is built of them, and what taking and installing make of the live indexes.
-use Rattle.std.specs.Prelude.{◌≡◌, ◌↔◌, ℕ, ◌+◌, Bool, false, List, Option, None, length, ⊤}
+use Rattle.std.specs.Prelude.{◌≡◌, ◌↔◌, ℕ, ◌+◌, Bool, false, List, Option, None, MatchOption, length, ⊤}
 use Rattle.block_index.specs.Updates.{means as block_means}
 use Rattle.call_compiler.specs.declared.indexes.Indexes.{Indexes}
 use Rattle.jobs.specs.Content.{job_content}
+use Rattle.jobs.specs.Heaviest.{IsHeaviest, MovesNone}
 use Rattle.jobs.specs.Job.{IsJob}
 use Rattle.jobs.specs.Marks.{position}
-use Rattle.jobs.specs.Replies.{IsBacklog, IsBuilt, IsTaken, IsInstalled, Fits, FitsMark, can_take_at, LacksRoom}
+use Rattle.jobs.specs.Replies.{IsBuilt, IsTaken, IsInstalled, Fits, FitsMark, can_take_at, LacksRoom}
 use Rattle.jobs.specs.declared.mark.Mark.{Mark}
 use Rattle.jobs.specs.declared.marks.backlog.Backlog.{Backlog}
 use Rattle.meta_index.specs.Updates.{means as meta_means}
@@ -77,10 +78,11 @@ abbrev pub can_take : Index → ℕ → PLive → Bool
 can_take Meta i l = can_take_at i l.marks.meta l.indexes.meta.tree.root
 can_take Block i l = can_take_at i l.marks.block l.indexes.block.tree.root
 
--- a job can be taken of the slot, how many messages it would move at most, and how many a node may hold
-abbrev pub BacklogIn : Index → Backlog → PLive → Type 0
-BacklogIn Meta b l = IsBacklog b.slot b.messages b.room l.marks.meta l.indexes.meta.tree.root × (b.room ≡ l.indexes.meta.tree.shape.pending)
-BacklogIn Block b l = IsBacklog b.slot b.messages b.room l.marks.block l.indexes.block.tree.root × (b.room ≡ l.indexes.block.tree.shape.pending)
+-- the root's slot of which a job would move the most messages, how many, and how many a node may hold; none only if no job
+-- would move any
+abbrev pub BacklogIn : Index → Option Backlog → PLive → Type 0
+BacklogIn Meta o l = MatchOption o (MovesNone l.marks.meta l.indexes.meta.tree) (λ b. IsHeaviest b.slot b.messages b.room l.marks.meta l.indexes.meta.tree)
+BacklogIn Block o l = MatchOption o (MovesNone l.marks.block l.indexes.block.tree) (λ b. IsHeaviest b.slot b.messages b.room l.marks.block l.indexes.block.tree)
 
 -- how many marks stand
 abbrev pub mark_count : PMarks → ℕ

@@ -164,7 +164,7 @@ impl Volume {
         names(self.look(compiled))
     }
 
-    /// The reply of a call that only looks, which was compiled.
+    /// The reply of a compiled call that only reads.
     fn look(&self, compiled: Result<(Reply, Batch), NoMemory>) -> Reply
         ensures called { (c : FileCall) (at : ℕ) → Looks c → Compiles self.now.live.indexes c at compiled → Called c at result self.now self.now }
         ensures kind { (c : FileCall) (at : ℕ) → Compiles self.now.live.indexes c at compiled → IsOfKind c result }
@@ -178,7 +178,7 @@ impl Volume {
 }
 
 impl Frozen {
-    /// What `read` replies, as the bytes or the refusal.
+    /// The reply of `read`, as the bytes or the error.
     pub fn try_read(
         &self,
         alloc: Global,
@@ -192,7 +192,7 @@ impl Frozen {
         data(self.read(alloc, path, offset, count))
     }
 
-    /// What `stat` replies, as what stands there or the refusal.
+    /// The reply of `stat`, as the metadata of the entry or the error.
     pub fn try_stat(&self, alloc: Global, path: &Path) -> Result<(Kind, u64, u64), Errno>
         ensures { Tells (Call.Stat path.now) (replied (λ s. Reply.Stat s.0 s.1 s.2) result) self.now }
     {
@@ -200,7 +200,7 @@ impl Frozen {
         status(self.stat(alloc, path))
     }
 
-    /// What `readdir` replies, as the entries or the refusal.
+    /// The reply of `readdir`, as the entries or the error.
     pub fn try_readdir(&self, alloc: Global, path: &Path) -> Result<Vec<(Kind, Vec<u8>)>, Errno>
         ensures { Tells (Call.Readdir path.now) (replied (λ es. Reply.Names (pairs_of es.items)) result) self.now }
     {
@@ -209,19 +209,19 @@ impl Frozen {
     }
 }
 
-// The answer that tells a reply of which only a refusal counts.
+// The result for a reply that is `Done` or an error.
 pub(crate) fn done_or_errno(reply: Reply) -> Result<(), Errno>
     requires { IsSettled reply }
     ensures { replied (λ _. Reply.Done) result ≡ reply }
 {
     match reply {
         Reply::Fault(fault) => Err(fault),
-        // `Done`: no other reply comes here.
+        // `Done`: no other reply is possible here.
         _ => Ok(()),
     }
 }
 
-// The answer that tells the reply to a write.
+// The result for the reply to a write.
 pub(crate) fn counted(reply: Reply) -> Result<u64, Errno>
     requires { IsCount reply }
     ensures { replied (λ n. Reply.Count n) result ≡ reply }
@@ -233,7 +233,7 @@ pub(crate) fn counted(reply: Reply) -> Result<u64, Errno>
     }
 }
 
-// The answer that tells the reply to a read.
+// The result for the reply to a read.
 fn data(reply: Reply) -> Result<Vec<u8>, Errno>
     requires { IsData reply }
     ensures { replied (λ bytes. Reply.Data bytes.items) result ≡ reply }
@@ -245,7 +245,7 @@ fn data(reply: Reply) -> Result<Vec<u8>, Errno>
     }
 }
 
-// The answer that tells the reply to a stat.
+// The result for the reply to a stat.
 fn status(reply: Reply) -> Result<(Kind, u64, u64), Errno>
     requires { IsStat reply }
     ensures { replied (λ s. Reply.Stat s.0 s.1 s.2) result ≡ reply }
@@ -257,7 +257,7 @@ fn status(reply: Reply) -> Result<(Kind, u64, u64), Errno>
     }
 }
 
-// The answer that tells the reply to a listing.
+// The result for the reply to a listing.
 fn names(reply: Reply) -> Result<Vec<(Kind, Vec<u8>)>, Errno>
     requires { IsNames reply }
     ensures { replied (λ es. Reply.Names (pairs_of es.items)) result ≡ reply }

@@ -1,4 +1,4 @@
-//! A place among the keys of a tree that stands still, from which its pairs are taken piece by piece.
+//! A position among the keys of a tree that does not change, from which its pairs are read in pieces.
 ghost use Rattle.std.specs.Prelude.{◌≡◌, List, ℕ, None, Option, OnOk};
 ghost use Rattle.node.specs.Meaning.{value as value_at};
 ghost use Rattle.scan.specs.Pairs.{IsFirst};
@@ -11,21 +11,21 @@ use scan::readahead::Readahead;
 use std::alloc::Global;
 use std::collections::VecDeque;
 
-/// A key, and the pairs that were taken from there on.
+/// A key, and the pairs that were read from there on.
 ///
-/// While the keys that are asked for rise, each piece goes on behind the one before, so that all pairs are taken in one walk.
+/// While the requested keys increase, each piece continues after the one before, so that all pairs are read in one walk.
 #[derive(Drop)]
 pub(crate) struct Cursor<U: Update> {
-    /// The keys from the one that was asked for last on.
+    /// The keys from the one requested last on.
     pub(crate) range: KeyRange,
-    /// The first pair of the range, if it was taken.
+    /// The first pair of the range, if it was read.
     pub(crate) first: Option<(Key, U::Value)>,
-    /// Those behind it.
+    /// The pairs after it.
     pub(crate) pieces: Readahead<U>,
 }
 
 impl<U: Update> Cursor<U> {
-    /// At the least key, where no pair was taken. It takes no memory.
+    /// At the least key, with no pair read. It allocates nothing.
     pub(crate) fn new(alloc: Global) -> Cursor<U>
         ensures stands { (f : List ℕ → Option U.Value) → StandsAt f result.range result.first result.pieces.all result.pieces.pairs.items }
         ensures all_keys { result.range.hi ≡ None }
@@ -40,9 +40,9 @@ impl<U: Update> Cursor<U> {
         }
     }
 
-    /// Goes to a key, and takes the first pair from there on into `first`; none where the tree has none there.
+    /// Moves to a key, and reads the first pair from there on into `first`; `None` if the tree has none there.
     ///
-    /// It fails only for want of memory, and stands at the key then, with no pair taken.
+    /// It fails only if an allocation fails, and is then at the key, with no pair read.
     pub(crate) fn seek(&mut self, alloc: Global, tree: &Tree<U>, key: Key) -> Result<(), NoMemory>
         requires { StandsAt (value_at U.means tree.now.root) self.old.range self.old.first self.old.pieces.all self.old.pieces.pairs.items }
         ensures first { OnOk result (IsFirst (value_at U.means tree.now.root) key self.old.range.hi self.new.first) }
@@ -53,8 +53,8 @@ impl<U: Update> Cursor<U> {
         self.take_first(alloc, tree)
     }
 
-    /// Goes to a key. What was taken stays where it lies at the key or behind it, and goes where it lies before. Behind a key that
-    /// was passed nothing is known, so that all goes.
+    /// Moves to a key. Pairs that were read stay if they are at the key or after it, and are dropped if they are before it. If
+    /// the key is before the last one requested, nothing is known of the pairs after it, so all are dropped.
     fn seek_key(&mut self, alloc: Global, key: Key)
         ensures stands { (f : List ℕ → Option U.Value) → StandsAt f self.old.range self.old.first self.old.pieces.all self.old.pieces.pairs.items → StandsAt f self.new.range self.new.first self.new.pieces.all self.new.pieces.pairs.items }
         ensures range { self.new.range ≡ record { lo = key; hi = self.old.range.hi } }
@@ -68,7 +68,7 @@ impl<U: Update> Cursor<U> {
         self.range.lo = key;
     }
 
-    /// Whether the first pair was taken and lies before the key.
+    /// Whether the first pair was read and is before the key.
     fn is_passed(&self, key: &Key) -> bool
         ensures { result ≡ is_passed self.now.first key.now }
     {
@@ -78,7 +78,7 @@ impl<U: Update> Cursor<U> {
         }
     }
 
-    /// Takes the first pair, if it was not taken yet. On want of memory no pair is taken.
+    /// Reads the first pair, if it was not read yet. If an allocation fails, no pair is read.
     fn take_first(&mut self, alloc: Global, tree: &Tree<U>) -> Result<(), NoMemory>
         requires { StandsAt (value_at U.means tree.now.root) self.old.range self.old.first self.old.pieces.all self.old.pieces.pairs.items }
         ensures first { OnOk result (IsFirst (value_at U.means tree.now.root) self.old.range.lo self.old.range.hi self.new.first) }

@@ -14,7 +14,7 @@ pub enum Index {
     Block,
 }
 
-/// Does the same with the tree of the index that is named, to look at it.
+/// Does the same with the tree of the named index, to read it.
 macro_rules! in_tree {
     ($indexes:expr, $index:expr, $tree:ident => $what:expr) => {
         match $index {
@@ -46,7 +46,7 @@ pub struct Step {
 pub struct CompactStep {
     /// The step.
     pub step: Step,
-    /// What it answered.
+    /// Its reply.
     pub reply: StepReply,
 }
 
@@ -78,13 +78,13 @@ pub enum Answer {
     Snap(Result<(), Errno>),
     /// To a tree step.
     Step(StepReply),
-    /// To a taking.
+    /// To taking a job.
     Take(TakeAnswer),
-    /// To a finishing.
+    /// To finishing a job.
     Finish(FinishAnswer),
 }
 
-/// What a run answers to a taking.
+/// The answer of a run to taking a job.
 #[derive(Clone, Copy, Debug, PartialEq, Eq)]
 pub enum TakeAnswer {
     /// The job with this ticket was taken, and the run holds it.
@@ -97,7 +97,7 @@ pub enum TakeAnswer {
     NoMemory,
 }
 
-/// What a run answers to a finishing.
+/// The answer of a run to finishing a job.
 #[derive(Clone, Copy, Debug, PartialEq, Eq)]
 pub enum FinishAnswer {
     /// What was built of the job is installed in the volume.

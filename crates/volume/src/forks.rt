@@ -1,4 +1,4 @@
-//! Volumes of their own that are made of a frozen tree.
+//! Independent volumes that are made of a frozen tree.
 ghost use Rattle.std.specs.Prelude.{IfOk};
 ghost use Rattle.volume.specs.Forks.{IsForkOf};
 

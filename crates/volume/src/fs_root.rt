@@ -29,7 +29,7 @@ impl FsRoot {
     }
 }
 
-/// These indexes, as one more owner of both trees, with the moment of the root.
+/// These indexes, as another reference to both trees, with the mtime of the root.
 pub(crate) fn share(indexes: &Indexes, modified: u64) -> Result<FsRoot, NoMemory>
     ensures { IfOk result (λ r. r ≡ record { indexes = indexes.now; modified = modified }) }
 {
@@ -37,8 +37,8 @@ pub(crate) fn share(indexes: &Indexes, modified: u64) -> Result<FsRoot, NoMemory
     Ok(FsRoot { indexes, modified })
 }
 
-/// The moment of the root after a call at a moment, which puts an entry into the root or takes one out, or does not. It takes no
-/// memory.
+/// The mtime of the root after a call with the timestamp `at`; `in_root` says whether it adds an entry to the root or removes
+/// one. It allocates nothing.
 pub(crate) fn after_call(reply: &Reply, in_root: bool, at: u64, modified: u64) -> u64
     ensures { result ≡ after_call in_root reply.now at modified }
 {
@@ -49,14 +49,14 @@ pub(crate) fn after_call(reply: &Reply, in_root: bool, at: u64, modified: u64) -
     }
 }
 
-/// Whether the reply is that of a call that was done and has nothing to tell.
+/// Whether the reply is that of a call that succeeded and returns nothing.
 fn is_done(reply: &Reply) -> bool
     ensures { result ≡ is_done reply.now }
 {
     matches!(reply, Reply::Done)
 }
 
-/// The moment of the root after an entry was to be planted. It takes no memory.
+/// The mtime of the root after an attempt to plant an entry. It allocates nothing.
 pub(crate) fn after_planting(
     answer: &Result<(), Errno>,
     path: &Path,
@@ -72,7 +72,7 @@ pub(crate) fn after_planting(
     }
 }
 
-/// The moment of metadata.
+/// The mtime in metadata.
 pub(crate) fn mtime_of(meta: Meta) -> u64
     ensures value { result ≡ modified_of meta }
     ensures early { IsMoment (modified_of meta) }

@@ -33,8 +33,8 @@ impl Volume {
 }
 
 impl Volume {
-    /// Sets `count` bytes of a file from the offset on to zero, up to the file's end, and returns how many they are. The tree
-    /// is the same as after a `write` of as many zeros. Blocks that lie whole in the range are no longer stored, and none is
+    /// Sets `count` bytes of a file from the offset on to zero, up to the file's end, and returns how many they are. The tree is
+    /// the same as after a `write` of as many zeros. Blocks that are entirely in the range are no longer stored, and none is
     /// allocated for them. If no byte is within the file, nothing changes; no size is too large.
     ///
     /// ENOENT, ENOTDIR and EISDIR as `write`; ENOMEM if an allocation fails. It sends at most four messages, however many bytes
@@ -65,7 +65,7 @@ impl Frozen {
     }
 }
 
-/// The next run of stored bytes of the file of so many bytes at the path.
+/// The next run of stored bytes of the file of `size` bytes at the path.
 fn find_extent(
     alloc: Global,
     walk: &mut BlockWalk,
@@ -77,7 +77,7 @@ fn find_extent(
     requires short { size ≤ 2 ^ 40 }
     ensures { IfOk result (λ r. (t : Tree) (date : ℕ) (b : List ℕ) → MeanTree walk.old.indexes t → entry_at t path.now ≡ Found (File date b) → length b ≡ size → IsRun (blocks walk.old.indexes.block) path.now b offset r.0 r.1) }
 {
-    // What `key` promises says that the path is one.
+    // The contract of `key` says that the path is valid.
     let _key = path.key();
     if offset >= size {
         return Ok((size, size));
@@ -95,7 +95,7 @@ fn find_extent(
     Ok((from, size.min(end as u64 * BLOCK)))
 }
 
-/// The first block of the file at the path that is not stored, from a number on; `bound` where all before that one are.
+/// The first block of the file at the path that is not stored, from a number on; `bound` if all before that one are stored.
 fn extent_end(
     alloc: Global,
     walk: &mut BlockWalk,

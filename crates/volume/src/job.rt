@@ -29,7 +29,7 @@ macro_rules! built_in {
     };
 }
 
-/// One more owner of the child of a job.
+/// Another reference to the child of a job.
 pub enum Subtree {
     /// Of the metadata.
     Meta(Arc<Node<MetaUpdate>>),

@@ -18,9 +18,9 @@ use std::alloc::Global;
 use std::marker::Model;
 use steps::{CompactTarget, compact_in, make_room, preemptive_split};
 
-// The updates of the two indexes differ in type, so that no function can be given either's tree. What is done alike in both is
-// written once, as a macro. Where a tree is only looked at, `in_tree` makes a tree of an index; `step`, `backlog` and `take_job`
-// choose it with its marks.
+// The updates of the two indexes differ in type, so no function can take the tree of either. What is the same for both is written
+// once, as a macro. If a tree is only read, `in_tree` selects the tree of an index; `step`, `backlog` and `take_job` select it
+// with its marks.
 
 /// Takes a job of the slot of an index's root, and counts it.
 macro_rules! take_in {
@@ -37,7 +37,7 @@ macro_rules! take_in {
     };
 }
 
-/// Puts what was built of a job into an index's tree.
+/// Installs what was built of a job in an index's tree.
 macro_rules! install_in {
     ($live:expr, $built:expr, $index:ident, $marks:ident, $done:path) => {
         match $live.$marks.install(&mut $live.indexes.$index.tree, $built) {
@@ -48,7 +48,7 @@ macro_rules! install_in {
     };
 }
 
-/// Indexes, and the marks of the jobs taken from them: they stand beside the trees, so that no share of a tree has any.
+/// Indexes, and the marks of the jobs taken from them: these are stored beside the trees, so that no share of a tree has any.
 pub struct LiveIndexes {
     indexes: Indexes,
     meta_marks: Marks,
@@ -82,7 +82,7 @@ impl Model for LiveIndexes {
 }
 
 impl LiveIndexes {
-    /// These indexes without marks. It takes no memory.
+    /// These indexes without marks. It allocates nothing.
     pub fn new(alloc: Global, indexes: Indexes) -> LiveIndexes
         ensures indexes { result.indexes ≡ indexes }
         ensures marks { result.marks ≡ no_marks 0 }
@@ -102,8 +102,8 @@ impl LiveIndexes {
         &self.indexes
     }
 
-    /// What its type keeps: both trees are lawful, each mark has a slot of its own, at most 64 stand, and no ticket was given
-    /// twice. It does nothing.
+    /// The invariant of the type: both trees are lawful, each mark has a slot of its own, there are at most 64 marks, and no
+    /// ticket was given twice. The call does nothing.
     pub fn assert_invariant(&self)
         ensures { Stands self.now }
     {
@@ -111,7 +111,7 @@ impl LiveIndexes {
         let _ = self.indexes.block.tree.root();
     }
 
-    /// Other indexes in the place of these. All marks go; no ticket is given again.
+    /// Replaces these indexes by others. All marks are removed; no ticket is given again.
     pub fn replace(&mut self, indexes: Indexes)
         ensures indexes { self.new.indexes ≡ indexes }
         ensures marks { self.new.marks ≡ no_marks self.old.marks.given }
@@ -122,8 +122,8 @@ impl LiveIndexes {
         self.block_marks.cancel_all();
     }
 
-    /// Puts the messages of a batch into both trees, whole or not at all. The list of a marked slot stays as it was, with the new
-    /// pieces behind it.
+    /// Appends the messages of a batch to both trees, all or none. The list of a marked slot stays as it was, with the new pieces
+    /// after it.
     pub fn append(&mut self, alloc: Global, batch: Batch) -> Result<(), NoMemory>
         ensures done { OnOk result (HaveTaken (messages batch) self.old.indexes self.new.indexes) }
         ensures lists { OnOk result (KeepMarkedLists (messages batch) self.old self.new) }
@@ -135,7 +135,7 @@ impl LiveIndexes {
     {
         let Batch { meta, block } = batch;
         if meta.is_empty() && block.is_empty() {
-            // A lawful tree has taken no messages as it stands: said for the checker.
+            // A lawful tree that stays as it is has taken no messages: stated for the checker.
             self.assert_invariant();
             return Ok(());
         }
@@ -165,7 +165,7 @@ impl LiveIndexes {
         )
     }
 
-    /// Does a tree step in the index that it names. Where it is done, the marks that do not outlive it go.
+    /// Does a tree step in the index that it names. If it is done, the marks that do not outlive it are removed.
     pub fn step(&mut self, alloc: Global, step: Step) -> StepReply
         ensures { StepsLive step result self.old self.new }
     {
@@ -179,16 +179,17 @@ impl LiveIndexes {
         }
     }
 
-    /// The flush of the slot of an index than which none has more pending messages; none where nothing is pending.
+    /// The flush of the slot of an index than which none has more pending messages; `None` if nothing is pending.
     pub fn heaviest(&self, index: Index) -> Option<TreeStep>
         ensures { HeaviestIn index result self.now.indexes }
     {
         in_tree!(self.indexes, index, tree => heaviest(tree))
     }
 
-    /// The slot of an index's root of which a job would move the most messages; none where no job would move any.
+    /// The slot of an index's root of which a job would move the most messages, the first of equals; `None` if no job would move
+    /// any.
     pub fn backlog(&self, index: Index) -> Option<Backlog>
-        ensures { IfSome result (λ b. BacklogIn index b self.now) }
+        ensures { BacklogIn index result self.now }
     {
         match index {
             Index::Meta => self.meta_marks.heaviest(&self.indexes.meta.tree),
@@ -196,7 +197,7 @@ impl LiveIndexes {
         }
     }
 
-    /// A step of the same index to try where this one has no room; none where none is known.
+    /// A step of the same index to try if this one has no room; `None` if none is known.
     pub fn make_room(&self, step: Step) -> Option<Step>
         ensures { IfSome result (λ other. other.index ≡ step.index) }
     {
@@ -205,9 +206,8 @@ impl LiveIndexes {
         Some(Step { index, step })
     }
 
-    /// Flushes the heaviest slot of an index or, where its flush has no room, does what makes room for it; `None` where nothing
-    /// is pending there. Where a full leaf could not be cut, since its node has all slots that it may have, the node is parted
-    /// first.
+    /// Flushes the fullest slot of an index or, if its flush has no room, does what makes room for it; `None` if nothing is
+    /// pending there. If a full leaf could not be split, since its node has all slots that it may have, the node is split first.
     pub fn compact_step(&mut self, alloc: Global, index: Index) -> Option<CompactStep>
         ensures nothing { (result ≡ None) ↔ (pending_in index self.old.indexes ≡ 0) }
         ensures unchanged { IfNone result (self.new ≡ self.old) }
@@ -225,7 +225,7 @@ impl LiveIndexes {
         })
     }
 
-    /// How many marks stand. It takes no memory.
+    /// The number of marks. It allocates nothing.
     fn mark_count(&self) -> usize
         ensures { result ≡ mark_count self.now.marks }
     {
@@ -243,7 +243,7 @@ impl LiveIndexes {
         }
     }
 
-    /// Puts what was built of a job in the place of the child of the mark's slot.
+    /// Replaces the child of the mark's slot by what was built of a job.
     pub fn install(&mut self, done: Done) -> InstallReply
         requires { DoneFits done self.old }
         ensures { AnswersInstalling done result self.old self.new }
@@ -254,7 +254,7 @@ impl LiveIndexes {
         }
     }
 
-    /// Takes away the mark with the ticket, if it stands. It takes no memory.
+    /// Removes the mark with the ticket, if there is one. It allocates nothing.
     pub fn cancel(&mut self, ticket: Ticket)
         ensures indexes { self.new.indexes ≡ self.old.indexes }
         ensures marks { self.new.marks ≡ without_mark ticket.number self.old.marks }
@@ -264,7 +264,7 @@ impl LiveIndexes {
         self.block_marks.cancel(ticket);
     }
 
-    /// Takes all marks away. It takes no memory.
+    /// Removes all marks. It allocates nothing.
     pub fn cancel_all(&mut self)
         ensures indexes { self.new.indexes ≡ self.old.indexes }
         ensures marks { self.new.marks ≡ no_marks self.old.marks.given }
@@ -275,7 +275,7 @@ impl LiveIndexes {
     }
 }
 
-/// The live tree of an index, with the marks of its jobs, as relief sees it.
+/// The live tree of an index, with the marks of its jobs, as compaction sees it.
 #[derive(Clone, Copy)]
 struct LiveTarget(Index);
 

@@ -1,4 +1,5 @@
-//! Entries that are planted whole, as an image tells them: an empty directory, or a file of so many zeros; and the root's moment.
+//! Entries that are planted whole, as an image lists them: an empty directory, or a file of the given number of zeros; and the
+//! root's mtime.
 ghost use Rattle.std.specs.Prelude.{◌≡◌, ◌++◌, ◌∷◌, [], IfOk};
 ghost use Rattle.call_compiler.specs.Compiled.{messages};
 ghost use Rattle.meta_index.specs.Means.{IsMeantBy};
@@ -20,7 +21,7 @@ use pathkey::{Errno, NoMemory, Path};
 use reference::{GREATEST_FILE, Meta};
 use std::alloc::Global;
 
-/// Plants an entry, by one message. A refusal changes nothing.
+/// Plants an entry, by one message. If it fails, nothing changes.
 pub(crate) fn plant(
     alloc: Global,
     live: &mut LiveIndexes,
@@ -35,14 +36,14 @@ pub(crate) fn plant(
     if let Some(fault) = fault_of_plant(alloc, &live.indexes().meta, path, meta)? {
         return Err(fault);
     }
-    // What `mtime_of` promises says that it is a moment.
+    // The contract of `mtime_of` says that this is a timestamp.
     let _early = mtime_of(meta);
     let batch = one_put(alloc, path, meta)?;
     live.append(alloc, batch)?;
     Ok(())
 }
 
-/// Why an entry is not planted at the path; none where it is. It fails only for want of memory.
+/// The error of planting an entry at the path; `None` if there is none. It fails only if an allocation fails.
 fn fault_of_plant(
     alloc: Global,
     index: &MetaIndex,
@@ -57,7 +58,7 @@ fn fault_of_plant(
     fault_of_entry(alloc, index, path, meta)
 }
 
-/// Why a new entry is not planted at the path; none where it is. It fails only for want of memory.
+/// The error of planting a new entry at the path; `None` if there is none. It fails only if an allocation fails.
 fn fault_of_entry(
     alloc: Global,
     index: &MetaIndex,

@@ -13,7 +13,7 @@ use jobs::Ticket;
 use pathkey::NoMemory;
 use std::alloc::Global;
 
-/// 1 for a taking, and 0 for any other event. It takes no memory.
+/// 1 for an event that takes a job, and 0 for any other. It allocates nothing.
 fn taking(event: &Event) -> usize
     ensures { result ≡ takings (event.now ∷ []) }
 {
@@ -28,7 +28,7 @@ fn taking(event: &Event) -> usize
     }
 }
 
-/// How many of the events are takings. It takes no memory.
+/// How many of the events take a job. It allocates nothing.
 fn takings(events: &[Event]) -> usize
     ensures count { result ≡ takings events.now }
     ensures bound { result ≤ length events.now }
@@ -67,7 +67,7 @@ impl Volume {
         }
     }
 
-    /// Builds and installs a held job. Where memory is refused it comes back, as it was or built.
+    /// Builds and installs a held job. If an allocation fails, the job is returned, as it was or built.
     fn finish(&mut self, alloc: Global, job: RunJob) -> Result<FinishAnswer, RunJob>
         requires { IsHeld (live_of self.old) job }
         ensures ends { Ends job result self.old self.new }
@@ -94,7 +94,7 @@ impl Volume {
         match self.finish(alloc, job) {
             Ok(answer) => answer,
             Err(job) => {
-                // It was just taken out, so there is a place for it.
+                // It was just removed, so there is space for it.
                 held.push_reserved(job);
                 FinishAnswer::NoMemory
             }
@@ -122,7 +122,7 @@ impl Volume {
         }
     }
 
-    /// Cancels the jobs. It takes no memory.
+    /// Cancels the jobs. It allocates nothing.
     fn cancel_held(&mut self, held: &[RunJob])
         ensures { self.new ≡ record (self.old) { marks = without_held held.now self.old.marks } }
     {
@@ -131,8 +131,8 @@ impl Volume {
         }
     }
 
-    /// Does the events in their order. It fails only if there is no memory for the answers and the jobs, and has then done
-    /// none. A job that is taken is held until it is finished; the jobs that are left at the end are cancelled.
+    /// Does the events in their order. It fails only if an allocation for the answers and the jobs fails, and has then done none.
+    /// A job that is taken is held until it is finished; the jobs that are left at the end are cancelled.
     ///
     /// Whatever steps and jobs come between the calls, the answers are those that the calls alone, in their order, have from
     /// the world that the volume meant, and the volume means the world that they leave.

@@ -11,12 +11,12 @@ use std::alloc::Global;
 pub enum RunJob {
     /// As it was taken.
     Taken(Job),
-    /// What was built of it, where memory was refused when it was to be installed.
+    /// What was built of it, if an allocation failed when it was to be installed.
     Built(Done),
 }
 
 impl RunJob {
-    /// The job's ticket. It takes no memory.
+    /// The job's ticket. It allocates nothing.
     pub(crate) fn ticket(&self) -> Ticket
         ensures { result.number ≡ held_ticket self.now }
     {
@@ -26,7 +26,7 @@ impl RunJob {
         }
     }
 
-    /// What is to be installed. Where memory is refused the job comes back as it was.
+    /// What is to be installed. If an allocation fails, the job is returned as it was.
     pub(crate) fn built(self, alloc: Global) -> Result<Done, RunJob>
         ensures ok { IfOk result (λ d. MayInstall self d) }
         ensures err { IfErr result (λ held. held ≡ self) }
@@ -42,7 +42,7 @@ impl RunJob {
     }
 }
 
-/// The number of the first job with the ticket. It takes no memory.
+/// The index of the first job with the ticket. It allocates nothing.
 fn position(held: &[RunJob], ticket: Ticket) -> Option<usize>
     ensures place { result ≡ position ticket.number held.now }
     ensures bound { IfSome result (λ i. i < length held.now) }
@@ -57,7 +57,7 @@ fn position(held: &[RunJob], ticket: Ticket) -> Option<usize>
     None
 }
 
-/// Takes the first job with the ticket out. It takes no memory.
+/// Removes and returns the first job with the ticket. It allocates nothing.
 pub(crate) fn take_out(held: &mut Vec<RunJob>, ticket: Ticket) -> Option<RunJob>
     ensures job { result ≡ with_ticket ticket.number held.old.items }
     ensures others { held.new.items ≡ others ticket.number held.old.items }

@@ -1,4 +1,4 @@
-//! The named snapshots of a volume: names with the indexes that stood when they were taken, and the moments of their roots.
+//! The named snapshots of a volume: names with the indexes at the time when they were taken, and the mtimes of their roots.
 ghost use Rattle.std.specs.Prelude.{◌≡◌, ◌≤◌, ◌<◌, true, false, OnOk, OnErr, IfOk, IfErr, Some, None, is_some, IfSome, slice_get};
 ghost use Rattle.std.specs.FinMap as finite;
 ghost use Rattle.std.specs.Option.{option_copied};
@@ -37,7 +37,7 @@ impl Model for Snapshots {
 }
 
 impl Snapshots {
-    /// No snapshots. It takes no memory.
+    /// No snapshots. It allocates nothing.
     pub fn new(alloc: Global) -> Snapshots
         ensures { result ≡ finite.empty }
     {
@@ -46,14 +46,15 @@ impl Snapshots {
         }
     }
 
-    /// The indexes under a name. It takes no memory.
+    /// The indexes under a name. It allocates nothing.
     pub fn get(&self, name: &SnapName) -> Option<&FsRoot>
         ensures { option_copied result ≡ finite.get self.now name.now }
     {
         self.named.get(name)
     }
 
-    /// The snapshots' name with this number, in the rising order of names, counted from 0; none past the last. It takes no memory.
+    /// The name of a snapshot by its number, which counts from 0 in ascending order of names; `None` past the last. It allocates
+    /// nothing.
     pub fn name(&self, number: usize) -> Option<&SnapName>
         ensures number { option_copied result ≡ slice_get (names_in self.now) number }
         ensures names { AreNames self.now (names_in self.now) }
@@ -61,14 +62,14 @@ impl Snapshots {
         self.named.keys().nth(number)
     }
 
-    /// Whether there is a snapshot of that name. It takes no memory.
+    /// Whether there is a snapshot of that name. It allocates nothing.
     pub fn has(&self, name: &SnapName) -> bool
         ensures { result ≡ finite.contains_key self.now name.now }
     {
         self.get(name).is_some()
     }
 
-    /// Whether there are as many snapshots as there may be. It takes no memory.
+    /// Whether there are as many snapshots as there may be. It allocates nothing.
     pub fn is_full(&self) -> bool
         ensures full { result ≡ true → most_snapshots ≤ finite.len self.now }
         ensures room { result ≡ false → finite.len self.now < most_snapshots }
@@ -76,7 +77,7 @@ impl Snapshots {
         self.named.len() >= MOST
     }
 
-    /// Puts indexes under a name.
+    /// Inserts indexes under a name.
     pub fn add(&mut self, alloc: Global, name: &SnapName, rooted: FsRoot) -> Result<(), NoMemory>
         ensures kept { OnOk result (self.new ≡ finite.insert self.old name.now rooted) }
         ensures err { OnErr result (self.new ≡ self.old) }
@@ -86,7 +87,7 @@ impl Snapshots {
         Ok(())
     }
 
-    /// Takes a name out. It takes no memory.
+    /// Removes a name. It allocates nothing.
     pub fn remove(&mut self, name: &SnapName)
         ensures { self.new ≡ finite.remove self.old name.now }
     {

@@ -107,8 +107,8 @@ impl Volume {
         self.send(alloc, compiled, at, touches_root(call))
     }
 
-    /// Does a file call at a moment that was compiled, and gives the root the moment where the call is done and puts an entry into
-    /// the root or takes one out.
+    /// Does a compiled file call with a timestamp. If the call succeeds and adds an entry to the root or removes one, the
+    /// timestamp becomes the mtime of the root.
     pub(crate) fn send(
         &mut self,
         alloc: Global,
@@ -130,7 +130,7 @@ impl Volume {
         reply
     }
 
-    /// Makes zeros of a part of a file, as was compiled.
+    /// Sets a part of a file to zero, as compiled.
     pub(crate) fn send_zeros(
         &mut self,
         alloc: Global,
@@ -148,7 +148,7 @@ impl Volume {
         reply_to(punched, reply)
     }
 
-    /// Sets an mtime, as was compiled; it is also the root's if the path is the root.
+    /// Sets an mtime, as compiled; it is also the root's if the path is the root.
     pub(crate) fn send_mtime(
         &mut self,
         alloc: Global,
@@ -288,7 +288,7 @@ impl Volume {
         Ok(Volume::from_root(alloc, root))
     }
 
-    /// A volume with this live tree alone. It takes no memory.
+    /// A volume with this live tree alone. It allocates nothing.
     pub(crate) fn from_root(alloc: Global, root: FsRoot) -> Volume
         requires { MeanSome root }
         ensures { IsForkOf root result }
@@ -378,18 +378,18 @@ impl Volume {
         }
     }
 
-    /// A step of the same index to try where this one has no room; none where none is known. It takes no memory, and no
-    /// claim rests on its choice.
+    /// A step of the same index to try if this one has no room; `None` if none is known. It allocates nothing, and no claim
+    /// depends on its choice.
     pub fn make_room(&self, step: Step) -> Option<Step>
         ensures { IfSome result (λ other. other.index ≡ step.index) }
     {
         self.live.make_room(step)
     }
 
-    /// The slot of an index's root of which a job would move the most messages; none where no job would move any. A job can be
-    /// taken of it, and as many messages as are told are pending there. It takes no memory, and no claim rests on its choice.
+    /// The slot of an index's root of which a job would move the most messages, the first of equals, and how many it would move
+    /// at most. A job can be taken of it. `None` means that no job of the index would move a message. It allocates nothing.
     pub fn backlog(&self, index: Index) -> Option<Backlog>
-        ensures { IfSome result (λ b. BacklogIn index b (live_of self.now)) }
+        ensures { BacklogIn index result (live_of self.now) }
     {
         self.live.backlog(index)
     }

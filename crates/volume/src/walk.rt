@@ -1,7 +1,7 @@
 //! Iteration over a frozen tree: its entries, or the blocks of a file, a number of them at a time, or the blocks of one file after
 //! the other.
 //!
-//! What is asked for at once is one walk of an index from its root, without a search for each entry.
+//! Each request is one walk of an index from its root, without a search for each entry.
 ghost use Rattle.std.specs.Prelude.{◌≡◌, ◌≢◌, ◌<◌, ◌≤◌, ◌^◌, ◌↔◌, ◌++◌, [], ◌∷◌, ℕ, List, All, IfOk, IfSome, true};
 ghost use Rattle.std.specs.Option.{option_to_list};
 ghost use Rattle.block_index.specs.Means.{blocks};
@@ -55,7 +55,7 @@ impl Frozen {
         ensures blocks { IfOk result (λ v. (t : Tree) → MeanRooted self.now t → AreBlocksAt (entry_at t path.now) from limit v.items) }
         ensures few { IfOk result (λ v. All (λ x. x.0 < most_blocks) v.items) }
     {
-        // What `key` promises says that the path is one.
+        // The contract of `key` says that the path is valid.
         let _key = path.key();
         if path.is_root() {
             return Ok(Vec::new(alloc));
@@ -120,7 +120,7 @@ impl<'a> BlockWalk<'a> {
         ensures stored { IfOk result (λ r. path.now ≢ [] → IsNextStored (blocks self.old.indexes.block) path.now from r) }
         ensures tree { self.new ≡ self.old }
     {
-        // What `key` promises says that the path is one.
+        // The contract of `key` says that the path is valid.
         let _key = path.key();
         if path.is_root() {
             return Ok(None);
@@ -147,7 +147,7 @@ fn own_block(pair: &Option<(Key, Block)>, path: &Path) -> Result<Option<(u32, Bl
     }
 }
 
-/// Whether a key is the path's with a byte 0 behind it, and more or nothing.
+/// Whether a key is the path's followed by a byte 0, and more or nothing.
 fn is_of(key: &Key, path: &Path) -> bool
     ensures { result ≡ true ↔ ((z : List ℕ) × (key.now ≡ enc path.now ++ 0 ∷ z)) }
 {
@@ -191,7 +191,7 @@ pub fn block_number(key: &Key) -> u32
 {
     match key.as_bytes() {
         [.., a, b, c, d] => u32::from_be_bytes([*a, *b, *c, *d]),
-        // Not met for a block's key, which ends with the four bytes of its number.
+        // Unreachable for a block's key, which ends with the four bytes of its number.
         _ => 0,
     }
 }

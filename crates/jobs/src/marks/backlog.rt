@@ -1,14 +1,8 @@
-//! How much a job would move.
-//!
-//! What is said of a slot is that a job can be taken of it, and how many of its messages have room below it. That it is the slot of
-//! which a job would move the most is no claim: it is a choice.
-ghost use Rattle.std.specs.Prelude.{◌≡◌, IfSome, length, min};
-ghost use Rattle.flush.specs.Sunk.{free_pieces};
-ghost use Rattle.jobs.specs.Replies.{IsBacklog};
-ghost use Rattle.node.specs.Pure.{inner};
+//! The slot of which a job would move the most messages.
+ghost use Rattle.std.specs.Prelude.{◌≡◌, ◌<◌, ◌≤◌, IfSome, MatchOption, length};
+ghost use Rattle.jobs.specs.Heaviest.{AreAtMost, IsFirstGreatest, IsHeaviest, MovesNone, movable, movable_each};
 ghost use Rattle.node.specs.See.{seen_slots};
 
-use super::take::is_free;
 use super::{Marks, kept_at};
 use crate::mark::Mark;
 use flush::inner::free_pieces;
@@ -26,62 +20,63 @@ pub struct Backlog {
     pub room: u16,
 }
 
-/// How many messages a job of the slot would move at most, where a node may hold `room`.
-fn movable<U: Update>(slot: &Slot<U>, room: u16) -> usize
-    ensures { result ≡ min (length slot.now.pending.0) (free_pieces room slot.now.child.value) }
-{
-    slot.pending
-        .len()
-        .min(free_pieces(&slot.child, room) as usize)
+/// The number of a slot, and how many messages a job of it would move at most.
+#[derive(Clone, Copy)]
+struct Busiest {
+    number: usize,
+    messages: usize,
 }
 
-/// The number of the slot of which a job would move the most messages, the first of equals; none where no job would move
-/// any. It looks below those slots alone that hold more than the best one before them.
-fn busiest_slot<U: Update>(marks: &[Mark], slots: &[Slot<U>], room: u16) -> Option<usize> {
-    let mut best = None;
-    let mut most = 0;
-    for (i, slot) in slots.iter().enumerate() {
-        if slot.pending.len() <= most || kept_at(marks, &slot.lo) != 0 {
-            continue;
-        }
-        let messages = movable(slot, room);
-        if messages > most {
-            most = messages;
-            best = Some(i);
-        }
+/// How many messages a job of the slot would move at most, where a node may hold `room`, if these are more than `most`, and else
+/// a number that is no greater. It looks below the slot only if more than `most` messages are pending there.
+fn movable_above<U: Update>(marks: &[Mark], slot: &Slot<U>, room: u16, most: usize) -> usize
+    ensures more { most < movable marks.now room slot.now.lo slot.now.pending.0 slot.now.child.value → result ≡ movable marks.now room slot.now.lo slot.now.pending.0 slot.now.child.value }
+    ensures within { result ≤ movable marks.now room slot.now.lo slot.now.pending.0 slot.now.child.value }
+{
+    let waiting = slot.pending.len();
+    if waiting <= most || kept_at(marks, &slot.lo) != 0 {
+        return 0;
     }
-    best
+    waiting.min(free_pieces(&slot.child, room) as usize)
 }
 
-/// What a job of the slot with this number would move; none where no job can be taken of it, or its child has no room.
-fn backlog_at<U: Update>(marks: &[Mark], slots: &[Slot<U>], room: u16, slot: u8) -> Option<Backlog>
-    ensures slot { IfSome result (λ b. IsBacklog b.slot b.messages room marks.now (inner (seen_slots slots.now))) }
-    ensures room { IfSome result (λ b. b.room ≡ room) }
+/// The slot of which a job would move the most messages, the first of equals, if these are more than `most`; none if a job of
+/// no slot would move more than `most`.
+fn busiest_slot<U: Update>(
+    marks: &[Mark],
+    slots: &[Slot<U>],
+    room: u16,
+    most: usize,
+) -> Option<Busiest>
+    ensures bound { IfSome result (λ b. b.number < length slots.now) }
+    ensures more { IfSome result (λ b. most < b.messages) }
+    ensures first { MatchOption result (AreAtMost most (movable_each marks.now room (seen_slots slots.now))) (λ b. IsFirstGreatest b.number b.messages (movable_each marks.now room (seen_slots slots.now))) }
 {
-    let i = slot as usize;
-    if i >= slots.len() {
+    let Some((slot, later)) = slots.split_first() else {
+        return None;
+    };
+    let messages = movable_above(marks, slot, room, most);
+    if let Some(behind) = busiest_slot(marks, later, room, most.max(messages)) {
+        return Some(Busiest {
+            number: behind.number + 1,
+            messages: behind.messages,
+        });
+    }
+    if messages <= most {
         return None;
     }
-    if !is_free(marks, slots, i) {
-        return None;
-    }
-    let messages = movable(&slots[i], room);
-    if messages == 0 {
-        return None;
-    }
-    Some(Backlog {
-        slot,
+    Some(Busiest {
+        number: 0,
         messages,
-        room,
     })
 }
 
 impl Marks {
-    /// The slot of the tree's root of which a job would move the most messages, the first of equals; none where no job would
-    /// move any. A job can be taken of it. It takes no memory.
+    /// The slot of the tree's root of which a job would move the most messages, the first of equals. A job can be taken of it.
+    /// `None` means that no job that can be taken of the tree would move a message: each slot has a mark, has nothing pending, is
+    /// over a leaf, or is over a node that has no room. It takes no memory.
     pub fn heaviest<U: Update>(&self, tree: &Tree<U>) -> Option<Backlog>
-        ensures slot { IfSome result (λ b. IsBacklog b.slot b.messages b.room self.now tree.now.root) }
-        ensures room { IfSome result (λ b. b.room ≡ tree.now.shape.pending) }
+        ensures { MatchOption result (MovesNone self.now tree.now) (λ b. IsHeaviest b.slot b.messages b.room self.now tree.now) }
     {
         let room = tree.shape().pending;
         let root = tree.root();
@@ -89,10 +84,11 @@ impl Marks {
             // Not met: a root is an inner node.
             return None;
         };
-        let slots = slots.as_slice();
-        let marks = self.list.as_slice();
-        // Always a number: a root has at most 64 slots.
-        let slot = u8::try_from(busiest_slot(marks, slots, room)?).ok()?;
-        backlog_at(marks, slots, room, slot)
+        let busiest = busiest_slot(self.list.as_slice(), slots.as_slice(), room, 0)?;
+        Some(Backlog {
+            slot: busiest.number as u8,
+            messages: busiest.messages,
+            room,
+        })
     }
 }

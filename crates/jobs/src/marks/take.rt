@@ -27,7 +27,7 @@ use std::alloc::Global;
 use std::sync::Arc;
 
 /// Whether the slot with number `i` has a message, an inner node below it and no mark. It takes no memory.
-pub(super) fn is_free<U: Update>(marks: &[Mark], slots: &[Slot<U>], i: usize) -> bool
+fn is_free<U: Update>(marks: &[Mark], slots: &[Slot<U>], i: usize) -> bool
     ensures { result ≡ can_take_first marks.now (slots_from i (seen_slots slots.now)) }
 {
     if i >= slots.len() {

@@ -17,7 +17,7 @@ returns-in-Ok-clause-ok c = λ a t s at m fresh.
 pub returns-in-Err-end-clause-no_image : goal.returns-in-Err-end-clause-no_image
 returns-in-Err-end-clause-no_image c = λ a t s at m fresh e.
     let none : c.fault_of.result ≡ NoImage = cc in
-    let bad = c.fault_of.ensures.bad none in
+    let bad = c.fault_of.ensures.bad.0 none in
     into_bad c.args.commands.now a t s c.args.walk c.do_commands-done.new.loader bad.0 at m
     (λ cs tells. rw c.in_default.is at c.do_commands-done.ensures.ok s t cs (mean_start a c.args.walk t at m) tells fresh.1)
     (λ text took. c.end.ensures.bad s text bad.0 took (c.in-Err-end.is ∙ ap Err bad.1))

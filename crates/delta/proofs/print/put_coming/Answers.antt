@@ -3,7 +3,7 @@ use Rattle.std.specs.Io.KnownBytes.{Appends}
 use Rattle.textio.specs.Parts.{AppendsPart}
 use Rattle.textio.proofs.Known.{all_is_part, on_err}
 use Rattle.delta.specs.Deltas.{Come, commands_text}
-use Rattle.delta.proofs.BeginFacts.{begun_come, begun_none, begun_then}
+use Rattle.delta.proofs.BeginFacts.{begun_come, begun_none, begun_then, some_come, some_put, some_then}
 use Rattle.delta.proofs.PrintFacts.{puts_come, puts_none, puts_then}
 use Rattle.delta.proofs.print.put_coming.Goals as goal
 
@@ -35,3 +35,15 @@ pub returns-clause-err : goal.returns-clause-err
 returns-clause-err g c =
     let (cs, puts) = c.loop.invariant in
     begun_then cs _ _ _ _ _ _ _ puts (begun_none _ c.args.old.now c.loop.new)
+
+pub returns-in_err-step-clause-memory : goal.returns-in_err-step-clause-memory
+returns-in_err-step-clause-memory g c = λ e.
+    let (cs, puts) = c.loop.invariant in
+    let there = c.is_inserted.ensures c.if-not-is_inserted.false in
+    let text = subst (λ l. Appends (g.W.Write.contents c.loop.writer) (g.W.Write.contents c.print_insert.new.writer) (commands_text (Come l ∷ []))) c.as_slice.ensures.value c.in_ok-print_insert.ensures.ok in
+    some_then cs _ _ _ _ _ _ _ puts (some_come _ _ c.args.old.now c.loop.new there text)
+
+pub returns-clause-memory : goal.returns-clause-memory
+returns-clause-memory g c = λ e.
+    let (cs, puts) = c.loop.invariant in
+    some_put cs _ _ _ _ _ _ puts

@@ -1,6 +1,6 @@
 use Rattle.std.proofs.Common.{[], ◌++◌}
 use Rattle.textio.proofs.Known.{on_err}
-use Rattle.delta.proofs.BeginFacts.{begun_none, begun_then}
+use Rattle.delta.proofs.BeginFacts.{begun_none, begun_then, some_put, some_then}
 use Rattle.delta.proofs.PrintFacts.{puts_all, puts_none, puts_then}
 use Rattle.delta.proofs.WalkFacts.{none_left}
 use Rattle.delta.proofs.print.put_commands.Goals as goal
@@ -19,6 +19,11 @@ returns-in_err-put_round-clause-err g c =
     let (cs, puts) = c.loop.invariant in
     on_err _ _ (begun_then cs _ _ _ _ _ _ _ puts c.in_err-put_round.ensures.err)
 
+pub returns-in_err-put_round-clause-memory : goal.returns-in_err-put_round-clause-memory
+returns-in_err-put_round-clause-memory g c = λ e.
+    let (cs, puts) = c.loop.invariant in
+    some_then cs _ _ _ _ _ _ _ puts (c.in_err-put_round.ensures.memory e)
+
 pub loop-preserved : goal.loop-preserved
 loop-preserved g c =
     let (cs, puts) = c.loop.invariant in
@@ -29,3 +34,8 @@ pub returns-clause-err : goal.returns-clause-err
 returns-clause-err g c =
     let (cs, puts) = c.loop.invariant in
     begun_then cs _ _ _ _ _ _ _ puts (begun_none _ c.loop.old c.loop.new)
+
+pub returns-clause-memory : goal.returns-clause-memory
+returns-clause-memory g c = λ e.
+    let (cs, puts) = c.loop.invariant in
+    some_put cs _ _ _ _ _ _ puts

@@ -1,5 +1,5 @@
 use Rattle.textio.proofs.Known.{on_err}
-use Rattle.delta.proofs.BeginFacts.{delta_commands, delta_end, delta_heading}
+use Rattle.delta.proofs.BeginFacts.{delta_commands, delta_end, delta_heading, delta_some}
 use Rattle.delta.proofs.PrintFacts.{delta_put}
 use Rattle.delta.proofs.print.put_delta.Goals as goal
 
@@ -10,6 +10,10 @@ returns-in_err-put_heading-clause-err g c = λ a b t u at_a at_b m n is.
 pub returns-in_err-put_commands-clause-err : goal.returns-in_err-put_commands-clause-err
 returns-in_err-put_commands-clause-err g c = λ a b t u at_a at_b m n is.
     on_err _ _ (delta_commands _ _ _ c.args.digest.now _ _ a b t u at_a at_b m n (record { size = c.told-digest; bytes = c.fits-digest }) is c.in_ok-put_heading.ensures.ok c.in_err-put_commands.ensures.err)
+
+pub returns-in_err-put_commands-clause-memory : goal.returns-in_err-put_commands-clause-memory
+returns-in_err-put_commands-clause-memory g c = λ a b t u at_a at_b m n is e.
+    delta_some _ _ _ c.args.digest.now _ _ a b t u at_a at_b m n (record { size = c.told-digest; bytes = c.fits-digest }) is c.in_ok-put_heading.ensures.ok (c.in_err-put_commands.ensures.memory e)
 
 pub returns-in_err-put-clause-err : goal.returns-in_err-put-clause-err
 returns-in_err-put-clause-err g c = λ a b t u at_a at_b m n is.
