@@ -26,11 +26,15 @@ class Function:
     exact: str
     # what a check of it alone names: it, or its module where it is of a trait; '' is the crate
     alone: str
+    # the folder of the one proof of the functions that call one another with it, where it calls itself
+    cycle: str
 
     def has_line(self, path: str, line: int) -> bool:
         return path == self.path and self.first_line <= line <= self.last_line
 
 
+# The name of a cycle of calls, at each of its functions.
+CYCLE = re.compile(r"#\[cycle\((\w+)\)\]")
 # The module that defines a type, by the type's name.
 Homes = dict[str, str]
 
@@ -73,7 +77,9 @@ def functions_among(
             alone = (module if is_of_trait else exact).replace("/", "::")
             # from its attributes on: the prover tells of an export at these
             lines = source.line(item.span.start), source.line(item.span.end - 1)
-            yield Function(source.path, item.name, item.body, *lines, folder, exact, alone)
+            cycle = CYCLE.search(source.code, item.span.start, item.body.start)
+            of_cycle = "/".join(filter(None, (exact.rpartition("/")[0] if not cycle else module, f"+{cycle[1] if cycle else item.name}")))
+            yield Function(source.path, item.name, item.body, *lines, folder, exact, alone, of_cycle)
         elif item.kind == "mod":
             yield from functions_among(source, item.parts, "/".join(filter(None, (module, item.name))), homes)
         elif item.kind in ("impl", "trait"):
@@ -117,6 +123,10 @@ class Bodies:
         longest = max((len(it.exact) for it in found), default=0)
         return exact if len(exact) == 1 else [it for it in found if len(it.exact) == longest]
 
+    def of_cycle(self, folder: str) -> list[Function]:
+        """The functions that call one another, or the one that calls itself, whose one proof lies in the folder."""
+        return [it for it in self.all if it.cycle == folder]
+
     def in_group(self, folder: str) -> list[Function]:
         """Where the folder holds the one proof of functions that call one another, the functions that may be among them."""
         module, _, name = folder.rpartition("/")
@@ -135,5 +145,5 @@ class Bodies:
         """A checksum of the bodies and proofs of the functions that the edit changes: with others it may be refused at other goals."""
         functions = [it for it in self.all if it in (self.touched(edit) or ())]
         bodies = [" ".join(it.body.of(self.sources[it.path].said).split()) for it in functions]
-        proofs = [self.proofs[folder] for folder in self.proofs if any(it.folder.fullmatch(folder) for it in functions)]
+        proofs = [self.proofs[at] for at in self.proofs if any(it.folder.fullmatch(at) or it.cycle == at for it in functions)]
         return checksum([*bodies, *map(repr, proofs)])[:8]

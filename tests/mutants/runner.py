@@ -75,6 +75,8 @@ def verdict_of(said: str, bodies: Bodies, touched: frozenset[Function]) -> Verdi
             at, goal = bodies.at_line(note[1], int(note[2])), note[3]
         elif answer and not WEAK.search(line):
             at, goal = bodies.of_proof(answer[1]), answer[2]
+            # of a cycle's proof: where an edit touched one function of it, no other's goals changed
+            at = at or [it for it in bodies.of_cycle(answer[1]) if it in touched]
             # Without a goal's name it tells nothing of a function whose proof it may be.
             if not touched.isdisjoint(at or bodies.in_group(answer[1])) and (len(at) != 1 or not goal):
                 continue

@@ -279,6 +279,9 @@ SAID = [
     Said(f"{ANSWERS}expected type `a`", {"double", "hidden"}),
     Said(f"{ANSWERS}expected type `a`", {"hidden"}, is_clean=False),
     Said("proofs/+both/Answers.antt:1:1: error: expected type `a`", {"double"}),
+    # the proof of a function that calls itself
+    Said("proofs/+double/Answers.antt:1:1: error: `returns`: expected type `a`", {"double"}, {"double": {"returns"}}),
+    Said("proofs/+double/Answers.antt:1:1: error: `returns`: expected type `a`", {"hidden"}),
     Said("proofs/other/+both/Answers.antt:1:1: error: expected type `a`", {"double"}, is_clean=False),
     # a lost name tells nothing at all, and a lemma of another file is of no function
     Said(f"{ANSWERS}`returns`: `c` has no field `a`", {"double"}),
