@@ -54,12 +54,21 @@ class File(io.RawIOBase):
             tree._empty(self._path)
         elif action == "x":
             tree.create(self._path)
-        elif action == "a" and not tree.exists(self._path):
-            tree.create(self._path)
-        elif tree.stat(self._path).is_dir:
+        elif action == "a":
+            # (no other thread creates or unlinks the file in between)
+            with tree._lock:
+                if not tree.exists(self._path):
+                    tree.create(self._path)
+                self._at = self._size_of_file()
+        else:
+            self._size_of_file()
+
+    def _size_of_file(self) -> int:
+        """How many bytes the file has. A directory is an error."""
+        stat = self._tree.stat(self._path)
+        if stat.is_dir:
             raise os_error(errno.EISDIR, self._path)
-        if action == "a":
-            self._at = tree.stat(self._path).size
+        return stat.size
 
     def readable(self) -> bool:
         """Whether it can be read."""

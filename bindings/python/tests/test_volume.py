@@ -8,6 +8,7 @@ import pickle
 import re
 import signal
 import stat
+import sys
 import threading
 import time
 import unittest
@@ -721,6 +722,20 @@ class Threads(unittest.TestCase):
         for thread in crew:
             thread.join()
         self.assertEqual(volume.read("/log"), b"line\n" * 2_000)
+
+    def test_threads_begin_to_append_to_the_same_new_file(self):
+        interval = sys.getswitchinterval()
+        self.addCleanup(sys.setswitchinterval, interval)
+        sys.setswitchinterval(1e-6)
+        volume, start = Volume(), threading.Barrier(4, timeout=20)
+
+        def work():
+            for number in range(500):
+                start.wait()
+                volume.open(f"/log{number}", "ab", buffering=0).write(b"x")
+
+        self.run_all(work, work, work, work)
+        self.assertEqual({volume.read(f"/log{number}") for number in range(500)}, {b"xxxx"})
 
 
 @unittest.skipUnless(HEADER, "the header is not beside these sources")
