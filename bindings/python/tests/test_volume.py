@@ -723,6 +723,19 @@ class Threads(unittest.TestCase):
             thread.join()
         self.assertEqual(volume.read("/log"), b"line\n" * 2_000)
 
+    def test_threads_share_a_file_without_a_buffer(self):
+        pieces, volume = 64, Volume()
+        volume.write_bytes("/f", b"".join(b"%08d" % number * (1 << 17) for number in range(pieces)))
+        for _ in range(5):
+            file, read = volume.open("/f", "rb", buffering=0), []
+
+            def work():
+                for piece in iter(lambda: file.read(1 << 20), b""):
+                    read.append(int(piece[:8]))
+
+            self.run_all(work, work, work, work)
+            self.assertEqual(sorted(read), list(range(pieces)))
+
     def test_threads_begin_to_append_to_the_same_new_file(self):
         interval = sys.getswitchinterval()
         self.addCleanup(sys.setswitchinterval, interval)
