@@ -87,6 +87,7 @@ class Refusals(unittest.TestCase):
             ("a snapshot's name has 1 to 64 letters, digits, '.', '_' and '-'", errno.EINVAL, volume.snapshot, "/d"),
             ("no such snapshot", errno.ENOENT, volume.restore, "none"),
             ("no such snapshot", errno.ENOENT, volume.open_snapshot, "none"),
+            ("no such snapshot", errno.ENOENT, volume.delta, "none"),
         ]:
             with self.subTest(text=text), self.assertRaises(OSError) as caught:
                 call(*words)
@@ -123,6 +124,9 @@ class Refusals(unittest.TestCase):
         self.assertEqual(refused(self, FileNotFoundError, errno.ENOENT, self.volume.stat, b"/x").filename, b"/x")
         path = pathlib.PurePosixPath("/x")
         self.assertEqual(refused(self, FileNotFoundError, errno.ENOENT, self.volume.stat, path).filename, "/x")
+        self.volume.snapshot("s")
+        error = refused(self, FileNotFoundError, errno.ENOENT, self.volume.delta, "s", b"none")
+        self.assertEqual((error.filename, error.filename2), ("s", b"none"))
 
     def test_numbers_that_C_cannot_take(self):
         for call, *words in [
