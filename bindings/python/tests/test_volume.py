@@ -526,6 +526,9 @@ class Words(unittest.TestCase):
         for clock, fault in [(lambda: -1, ValueError), (lambda: "noon", TypeError), (lambda: 1 // 0, ZeroDivisionError)]:
             with self.assertRaises(fault):
                 Volume(clock=clock).create("/x")
+        for call in [lambda: Volume(clock=lambda: 1.5).create("/x"), lambda: Volume().create("/x", at=1.5)]:
+            with self.assertRaisesRegex(TypeError, "a timestamp is a whole number, as time.time_ns.* and not 1.5"):
+                call()
 
     def test_a_volume_begins_once(self):
         with self.assertRaises(RuntimeError):
