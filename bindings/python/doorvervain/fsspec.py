@@ -102,15 +102,17 @@ class DoorvervainFileSystem(AbstractFileSystem):
     def ls(self, path: str, detail: bool = True, **kwargs: Any) -> List[Any]:
         """The entries of a directory, or a file by itself."""
         path = self._strip_protocol(path)
-        if self.volume.is_file(path):
-            return [self._info(path)] if detail else [path]
-        try:
-            entries: List[Entry] = self.volume.scandir(path)
-        except NotADirectoryError:
-            raise FileNotFoundError(path) from None
-        before = "/" if path == "/" else path + "/"
-        names = [before + entry.name for entry in entries]
-        return [self._info(name) for name in names] if detail else names
+        # (no other thread removes an entry before it is asked for)
+        with self.volume._lock:
+            if self.volume.is_file(path):
+                return [self._info(path)] if detail else [path]
+            try:
+                entries: List[Entry] = self.volume.scandir(path)
+            except NotADirectoryError:
+                raise FileNotFoundError(path) from None
+            before = "/" if path == "/" else path + "/"
+            names = [before + entry.name for entry in entries]
+            return [self._info(name) for name in names] if detail else names
 
     def mkdir(self, path: str, create_parents: bool = True, **kwargs: Any) -> None:
         """Makes a directory."""
