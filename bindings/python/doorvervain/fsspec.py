@@ -215,6 +215,8 @@ class DoorvervainFileSystem(AbstractFileSystem):
             return
         if self.volume.is_dir(path2):
             path2 = f"{path2.rstrip('/')}/{path1.rsplit('/', 1)[-1]}"
+        # (no directory is made for what does not exist)
+        self.info(path1)
         self._made(path2, lambda to: self.volume.rename(path1, to))
 
     def touch(self, path: str, truncate: bool = True, **kwargs: Any) -> None:
@@ -253,7 +255,7 @@ class DoorvervainFileSystem(AbstractFileSystem):
             return _Reader(File(self.volume, path))
         if not autocommit:
             return _Pending(self, path, plain)
-        raw = self._made(path, lambda to: File(self.volume, to, plain))
+        raw = File(self.volume, path, plain) if plain == "r+" else self._made(path, lambda to: File(self.volume, to, plain))
         return io.BufferedRandom(raw) if "+" in plain else io.BufferedWriter(raw)
 
 

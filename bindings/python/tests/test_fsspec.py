@@ -134,6 +134,10 @@ class Calls(unittest.TestCase):
         files.copy("/m", "/l", recursive=True)
         self.assertEqual(files.find("/"), ["/k/x", "/l/b/x", "/m/b/x", "/n/z"])
         self.assertEqual(files.cat("/l/b/x"), b"/a/b/x")
+        for call, *words in [(files.mv, "/none", "/new/x"), (files.mv, "/l/b/x/y", "/new/x"), (files.open, "/new/x", "r+b")]:
+            with self.assertRaises(FileNotFoundError):
+                call(*words)
+            self.assertFalse(files.exists("/new"))
 
     def test_files(self):
         files = self.files
