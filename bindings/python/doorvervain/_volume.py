@@ -96,7 +96,8 @@ class Tree(_core.Tree):
         """Copies what is in the directory `path` into a directory of the system, which is created, or is there and empty:
         else an `OSError` with ENOTEMPTY. Entries keep their mtime, as far as the system's files have it, and get the
         permissions of new ones; holes stay holes. What was copied before an error stays."""
-        _host.export_tree(self, host_path, path)
+        with _host.paths_as(host_path):
+            _host.export_tree(self, host_path, path)
 
     def walk(self, top: StrPath = "/") -> Iterator[Tuple[str, List[str], List[str]]]:
         """Each directory from `top` on with the names of its directories and files, as `os.walk` yields them from the top
@@ -308,7 +309,8 @@ class Volume(Tree, _core.Volume):
         followed out of the directory; only `host_path` itself may be one. A name or path that is too long for a volume is an
         `OSError` with ENAMETOOLONG, and then what was copied before it stays.
         """
-        return _host.import_tree(self, host_path, path, skip_special)
+        with _host.paths_as(host_path):
+            return _host.import_tree(self, host_path, path, skip_special)
 
     def export_tree(self, host_path: HostPath, path: StrPath = "/") -> None:
         """As of a frozen tree: later changes of the volume are not copied."""
