@@ -3,6 +3,7 @@ from __future__ import annotations
 
 import errno
 import io
+import operator
 import os
 from typing import IO, TYPE_CHECKING, Any, Optional, Union, cast
 
@@ -144,10 +145,11 @@ class File(io.RawIOBase):
                 base = self._tree.stat(self._path).size
             else:
                 raise ValueError(f"invalid whence: {whence}")
-            if base + offset < 0:
+            at = base + operator.index(offset)
+            if at < 0:
                 raise os_error(errno.EINVAL, self._path, "an offset is not negative")
-            self._at = base + offset
-            return self._at
+            self._at = at
+            return at
 
     def tell(self) -> int:
         """Its place."""
