@@ -37,6 +37,7 @@ LARGE = Shape(64, 1024, 1024)
 """The shape for a volume of many entries that is kept for long."""
 
 T = TypeVar("T", bound="Tree")
+V = TypeVar("V", bound="Volume")
 
 
 class Tree(_core.Tree):
@@ -193,8 +194,8 @@ class Volume(Tree, _core.Volume):
 
     @classmethod
     def load(
-        cls, text: Union[bytes, str], *, shape: Tuple[int, int, int] = USUAL, clock: Callable[[], int] = time.time_ns
-    ) -> "Volume":
+        cls: Type[V], text: Union[bytes, str], *, shape: Tuple[int, int, int] = USUAL, clock: Callable[[], int] = time.time_ns
+    ) -> V:
         """Loads a volume from an image, without snapshots. A text that is not an image is a `BadImage`.
 
         >>> Volume.load("D / 5\\nF /x 3 7\\nb 0 616263\\n").read("/x")
