@@ -160,9 +160,14 @@ int words_of(const struct signature *it, PyObject *const *words, Py_ssize_t coun
     return 0;
 }
 
-// A timestamp as the library has it. -1 with a ValueError if the number is out of range.
+// A timestamp as the library has it. -1 with a TypeError if it is no whole number, as of the clock `time.time`, and with a
+// ValueError if the number is out of range.
 static int timestamp_of_number(PyObject *given, uint64_t *timestamp) {
     PyObject *number = PyNumber_Index(given);
+    if (!number && PyErr_ExceptionMatches(PyExc_TypeError)) {
+        PyErr_Clear();
+        PyErr_Format(PyExc_TypeError, "a timestamp is a whole number, as time.time_ns() returns it, and not %R", given);
+    }
     if (!number) return -1;
     *timestamp = PyLong_AsUnsignedLongLong(number);
     Py_DECREF(number);

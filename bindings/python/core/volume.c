@@ -413,8 +413,8 @@ static uint8_t look_delta(Tree *tree, const struct text *names, uint8_t *out, si
         &tree->volume, names[0].at, names[0].length, names[1].at, names[1].length, out, capacity, size);
 }
 
-// The delta between two names, as bytes.
-static PyObject *delta_of(Tree *tree, const struct text *names) {
+// The delta between two names, as bytes. `given` has them as the caller gave them, for errors.
+static PyObject *delta_of(Tree *tree, const struct text *names, PyObject *const *given) {
     struct listing it;
     uint8_t number;
     PyObject *text = NULL;
@@ -424,7 +424,7 @@ static PyObject *delta_of(Tree *tree, const struct text *names) {
     number = filled(tree, names, look_delta, &it);
     Py_END_ALLOW_THREADS
     leave(tree);
-    if (number) refuse_name(number, names[0].owner, names[1].owner);
+    if (number) refuse_name(number, given[0], given[1]);
     else text = PyBytes_FromStringAndSize((const char *)it.at, (Py_ssize_t)it.size);
     listing_free(&it);
     return text;
@@ -436,7 +436,7 @@ static PyObject *volume_delta(PyObject *self, PyObject *const *words, Py_ssize_t
     PyObject *args[4], *text = NULL;
     struct text names[2] = {{NULL, NULL, 0}, {NULL, NULL, 0}};
     if (words_of(&delta_signature, words, count, named, args) || text_of(args[0], &names[0])) return NULL;
-    if (!args[1] || !text_of(args[1], &names[1])) text = delta_of((Tree *)self, names);
+    if (!args[1] || !text_of(args[1], &names[1])) text = delta_of((Tree *)self, names, args);
     Py_DECREF(names[0].owner);
     Py_XDECREF(names[1].owner);
     return text;

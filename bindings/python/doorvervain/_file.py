@@ -3,9 +3,11 @@ from __future__ import annotations
 
 import errno
 import io
+import operator
 import os
 from typing import IO, TYPE_CHECKING, Any, Optional, Union, cast
 
+from ._core import Lock
 from ._path import StrPath, os_error, plain
 
 if TYPE_CHECKING:
@@ -18,7 +20,7 @@ _BUFFER = 1 << 16
 class File(io.RawIOBase):
     """A file that is open, without a buffer. It names its path, and has a place of its own.
 
-    Threads may share it: each call holds the volume's lock throughout.
+    Threads may share it: a call that reads, writes or seeks has the place alone, and an append holds the volume's lock throughout.
     """
 
     def __init__(self, tree: "Tree", path: StrPath, mode: str = "r") -> None:
@@ -30,6 +32,7 @@ class File(io.RawIOBase):
         self._writes = action != "r" or updating
         self._appends = action == "a"
         self._at = 0
+        self._place_lock = Lock()
         if self._writes and not hasattr(tree, "write"):
             raise os_error(errno.EROFS, path)
         self._begin(action)
@@ -54,12 +57,21 @@ class File(io.RawIOBase):
             tree._empty(self._path)
         elif action == "x":
             tree.create(self._path)
-        elif action == "a" and not tree.exists(self._path):
-            tree.create(self._path)
-        elif tree.stat(self._path).is_dir:
+        elif action == "a":
+            # (no other thread creates or unlinks the file in between)
+            with tree._lock:
+                if not tree.exists(self._path):
+                    tree.create(self._path)
+                self._at = self._size_of_file()
+        else:
+            self._size_of_file()
+
+    def _size_of_file(self) -> int:
+        """How many bytes the file has. A directory is an error."""
+        stat = self._tree.stat(self._path)
+        if stat.is_dir:
             raise os_error(errno.EISDIR, self._path)
-        if action == "a":
-            self._at = tree.stat(self._path).size
+        return stat.size
 
     def readable(self) -> bool:
         """Whether it can be read."""
@@ -95,43 +107,49 @@ class File(io.RawIOBase):
         """Reads into a buffer as many bytes as it holds and the file has."""
         self._check_reads()
         view = memoryview(buffer).cast("B")
-        data = self._tree.read(self._path, len(view), self._at)
+        data = self._read_on(len(view))
         view[: len(data)] = data
-        self._at += len(data)
         return len(data)
 
     def readall(self) -> bytes:
         """Reads all bytes from its place on."""
         self._check_reads()
-        data = self._tree.read(self._path, -1, self._at)
-        self._at += len(data)
+        return self._read_on(-1)
+
+    def _read_on(self, size: int) -> bytes:
+        """Reads at most so many bytes from its place on, or all, and moves the place behind them."""
+        with self._place_lock:
+            data = self._tree.read(self._path, size, self._at)
+            self._at += len(data)
         return data
 
     def write(self, data: Any) -> int:
         """Writes all bytes at its position, or at the file's end if it appends."""
         volume = self._check_writes()
-        with volume._lock:
+        with self._place_lock, volume._lock:
             if self._appends:
                 self._at = volume.stat(self._path).size
             count = volume.write(self._path, data, self._at)
-        self._at += count
+            self._at += count
         return count
 
     def seek(self, offset: int, whence: int = os.SEEK_SET) -> int:
         """Moves its place, from the front, from the place itself or from the file's end."""
         self._check()
-        if whence == os.SEEK_SET:
-            base = 0
-        elif whence == os.SEEK_CUR:
-            base = self._at
-        elif whence == os.SEEK_END:
-            base = self._tree.stat(self._path).size
-        else:
-            raise ValueError(f"invalid whence: {whence}")
-        if base + offset < 0:
-            raise os_error(errno.EINVAL, self._path, "an offset is not negative")
-        self._at = base + offset
-        return self._at
+        with self._place_lock:
+            if whence == os.SEEK_SET:
+                base = 0
+            elif whence == os.SEEK_CUR:
+                base = self._at
+            elif whence == os.SEEK_END:
+                base = self._tree.stat(self._path).size
+            else:
+                raise ValueError(f"invalid whence: {whence}")
+            at = base + operator.index(offset)
+            if at < 0:
+                raise os_error(errno.EINVAL, self._path, "an offset is not negative")
+            self._at = at
+            return at
 
     def tell(self) -> int:
         """Its place."""

@@ -7,6 +7,7 @@ from __future__ import annotations
 import errno
 import os
 import stat
+from contextlib import contextmanager
 from typing import TYPE_CHECKING, Iterator, List, NamedTuple, NoReturn, Tuple
 
 from ._path import HostPath, StrPath, below, os_error, text_of
@@ -34,6 +35,17 @@ def pieces(tree: "Tree", path: StrPath) -> Iterator[Tuple[int, bytes]]:
         for offset in range(start, end, _PIECE):
             yield offset, tree.read(path, min(_PIECE, end - offset), offset)
         offset = end
+
+
+@contextmanager
+def paths_as(host_path: HostPath) -> Iterator[None]:
+    """An error of the system names its path as `str`, unless the directory was given as bytes."""
+    try:
+        yield
+    except OSError as error:
+        if isinstance(error.filename, bytes) and not isinstance(os.fspath(host_path), bytes):
+            error.filename = os.fsdecode(error.filename)
+        raise
 
 
 # ---- into a volume

@@ -13,7 +13,9 @@ from typing import (
 )
 
 if TYPE_CHECKING:
-    from _typeshed import OpenBinaryMode, OpenBinaryModeReading, OpenBinaryModeUpdating, OpenBinaryModeWriting, OpenTextMode
+    from _typeshed import (
+        OpenBinaryMode, OpenBinaryModeReading, OpenBinaryModeUpdating, OpenBinaryModeWriting, OpenTextMode, ReadableBuffer,
+    )
 
     from ._file import File
     from ._types import Stat
@@ -346,7 +348,7 @@ class Path:
             raise os_error(errno.EROFS, self)
         return cast("Volume", self._tree)
 
-    def write_bytes(self, data: Union[bytes, bytearray, memoryview]) -> int:
+    def write_bytes(self, data: "ReadableBuffer") -> int:
         """Replaces the content of the file, which is created if it does not exist. Returns how many bytes."""
         return self._volume().write_bytes(self, data)
 

@@ -37,6 +37,7 @@ LARGE = Shape(64, 1024, 1024)
 """The shape for a volume of many entries that is kept for long."""
 
 T = TypeVar("T", bound="Tree")
+V = TypeVar("V", bound="Volume")
 
 
 class Tree(_core.Tree):
@@ -96,7 +97,8 @@ class Tree(_core.Tree):
         """Copies what is in the directory `path` into a directory of the system, which is created, or is there and empty:
         else an `OSError` with ENOTEMPTY. Entries keep their mtime, as far as the system's files have it, and get the
         permissions of new ones; holes stay holes. What was copied before an error stays."""
-        _host.export_tree(self, host_path, path)
+        with _host.paths_as(host_path):
+            _host.export_tree(self, host_path, path)
 
     def walk(self, top: StrPath = "/") -> Iterator[Tuple[str, List[str], List[str]]]:
         """Each directory from `top` on with the names of its directories and files, as `os.walk` yields them from the top
@@ -192,8 +194,8 @@ class Volume(Tree, _core.Volume):
 
     @classmethod
     def load(
-        cls, text: Union[bytes, str], *, shape: Tuple[int, int, int] = USUAL, clock: Callable[[], int] = time.time_ns
-    ) -> "Volume":
+        cls: Type[V], text: Union[bytes, str], *, shape: Tuple[int, int, int] = USUAL, clock: Callable[[], int] = time.time_ns
+    ) -> V:
         """Loads a volume from an image, without snapshots. A text that is not an image is a `BadImage`.
 
         >>> Volume.load("D / 5\\nF /x 3 7\\nb 0 616263\\n").read("/x")
@@ -308,7 +310,8 @@ class Volume(Tree, _core.Volume):
         followed out of the directory; only `host_path` itself may be one. A name or path that is too long for a volume is an
         `OSError` with ENAMETOOLONG, and then what was copied before it stays.
         """
-        return _host.import_tree(self, host_path, path, skip_special)
+        with _host.paths_as(host_path):
+            return _host.import_tree(self, host_path, path, skip_special)
 
     def export_tree(self, host_path: HostPath, path: StrPath = "/") -> None:
         """As of a frozen tree: later changes of the volume are not copied."""

@@ -102,15 +102,17 @@ class DoorvervainFileSystem(AbstractFileSystem):
     def ls(self, path: str, detail: bool = True, **kwargs: Any) -> List[Any]:
         """The entries of a directory, or a file by itself."""
         path = self._strip_protocol(path)
-        if self.volume.is_file(path):
-            return [self._info(path)] if detail else [path]
-        try:
-            entries: List[Entry] = self.volume.scandir(path)
-        except NotADirectoryError:
-            raise FileNotFoundError(path) from None
-        before = "/" if path == "/" else path + "/"
-        names = [before + entry.name for entry in entries]
-        return [self._info(name) for name in names] if detail else names
+        # (no other thread removes an entry before it is asked for)
+        with self.volume._lock:
+            if self.volume.is_file(path):
+                return [self._info(path)] if detail else [path]
+            try:
+                entries: List[Entry] = self.volume.scandir(path)
+            except NotADirectoryError:
+                raise FileNotFoundError(path) from None
+            before = "/" if path == "/" else path + "/"
+            names = [before + entry.name for entry in entries]
+            return [self._info(name) for name in names] if detail else names
 
     def mkdir(self, path: str, create_parents: bool = True, **kwargs: Any) -> None:
         """Makes a directory."""
@@ -213,6 +215,8 @@ class DoorvervainFileSystem(AbstractFileSystem):
             return
         if self.volume.is_dir(path2):
             path2 = f"{path2.rstrip('/')}/{path1.rsplit('/', 1)[-1]}"
+        # (no directory is made for what does not exist)
+        self.info(path1)
         self._made(path2, lambda to: self.volume.rename(path1, to))
 
     def touch(self, path: str, truncate: bool = True, **kwargs: Any) -> None:
@@ -251,7 +255,7 @@ class DoorvervainFileSystem(AbstractFileSystem):
             return _Reader(File(self.volume, path))
         if not autocommit:
             return _Pending(self, path, plain)
-        raw = self._made(path, lambda to: File(self.volume, to, plain))
+        raw = File(self.volume, path, plain) if plain == "r+" else self._made(path, lambda to: File(self.volume, to, plain))
         return io.BufferedRandom(raw) if "+" in plain else io.BufferedWriter(raw)
 
 

@@ -13,7 +13,7 @@ from __future__ import annotations
 
 import errno
 from datetime import datetime
-from typing import Any, BinaryIO, Collection, Dict, Iterator, List, Mapping, Optional, Tuple, Union, cast
+from typing import Any, BinaryIO, Callable, Collection, Dict, Iterator, List, Mapping, Optional, Tuple, Union, cast
 
 from fs import errors
 from fs.base import FS
@@ -107,15 +107,23 @@ class DoorvervainFS(FS):
 
     def exists(self, path: str) -> bool:
         """Whether a path exists."""
-        return self.volume.exists(self.validatepath(path))
+        return self._is(self.volume.exists, path)
 
     def isdir(self, path: str) -> bool:
         """Whether a path is a directory."""
-        return self.volume.is_dir(self.validatepath(path))
+        return self._is(self.volume.is_dir, path)
 
     def isfile(self, path: str) -> bool:
         """Whether a path is a file."""
-        return self.volume.is_file(self.validatepath(path))
+        return self._is(self.volume.is_file, path)
+
+    def _is(self, asks: Callable[[str], bool], path: str) -> bool:
+        """What a call that asks about a path answers."""
+        at = self.validatepath(path)
+        try:
+            return asks(at)
+        except OSError as error:
+            raise _fs_error(error, path) from None
 
     def listdir(self, path: str) -> List[str]:
         """The names in a directory."""
@@ -259,7 +267,7 @@ class DoorvervainFS(FS):
         """Moves a file, by one call. It keeps its mtime."""
         old, new = self.validatepath(src_path), self.validatepath(dst_path)
         with self.volume._lock:
-            if not overwrite and self.volume.exists(new):
+            if not overwrite and self.exists(dst_path):
                 raise errors.DestinationExists(dst_path)
             try:
                 if self.volume.stat(old).is_dir:
@@ -274,9 +282,12 @@ class DoorvervainFS(FS):
         directory there."""
         old, new = self.validatepath(src_path), self.validatepath(dst_path)
         with self.volume._lock:
-            if create and old != new and not isbase(old, new) and self.volume.is_dir(old):
-                if not self.volume.exists(new) and self.volume.is_dir(new.rsplit("/", 1)[0] or "/"):
-                    self.volume.rename(old, new)
+            if create and old != new and not isbase(old, new) and self.isdir(src_path):
+                if not self.exists(dst_path) and self.volume.is_dir(new.rsplit("/", 1)[0] or "/"):
+                    try:
+                        self.volume.rename(old, new)
+                    except OSError as error:
+                        raise _fs_error(error, dst_path) from None
                     return
         super().movedir(src_path, dst_path, create=create, preserve_time=preserve_time)
 

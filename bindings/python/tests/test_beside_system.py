@@ -235,6 +235,16 @@ class FilesBesideTheSystem(unittest.TestCase):
                 volume.open("/f", *words)
         self.assertEqual(volume.listdir(), [])
 
+    def test_a_place_is_a_whole_number(self):
+        volume, path = Volume(), os.path.join(self.folder, "f")
+        for file in [volume.open("/f", "w+b", 0), open(path, "w+b", 0)]:
+            with file:
+                file.write(b"rain")
+                for whence in [os.SEEK_SET, os.SEEK_CUR, os.SEEK_END]:
+                    with self.assertRaises(TypeError):
+                        file.seek(0.5, whence)
+                self.assertEqual((file.tell(), file.seek(True), file.read()), (4, 1, b"ain"))
+
     def test_what_a_file_tells(self):
         volume = Volume()
         for mode, expected in [("wb", "wb"), ("rb", "rb"), ("r+b", "rb+"), ("ab", "ab"), ("a+b", "ab+")]:

@@ -1,6 +1,7 @@
 """The file system of fsspec."""
 import os
 import shutil
+import sys
 import tempfile
 import threading
 import unittest
@@ -70,6 +71,26 @@ class Calls(unittest.TestCase):
         self.assertTrue(files.isdir("/a") and files.isfile("/a/y") and files.exists("/"))
         self.assertFalse(files.isdir("/a/y") or files.isfile("/a") or files.exists("/z") or files.isdir("/z"))
 
+    def test_listings_beside_another_thread(self):
+        files, stops = self.files, threading.Event()
+        interval = sys.getswitchinterval()
+        self.addCleanup(sys.setswitchinterval, interval)
+        sys.setswitchinterval(1e-6)
+        paths = [f"/d/{number}" for number in range(50)]
+        self.fill(*paths)
+
+        def works():
+            while not stops.is_set():
+                self.fill("/d/x")
+                files.rm("/d/x")
+
+        thread = threading.Thread(target=works)
+        thread.start()
+        self.addCleanup(thread.join)
+        self.addCleanup(stops.set)
+        for _ in range(500):
+            self.assertLessEqual(set(paths), {it["name"] for it in files.ls("/d")})
+
     def test_directories(self):
         files = self.files
         files.mkdir("/p/q")
@@ -113,6 +134,10 @@ class Calls(unittest.TestCase):
         files.copy("/m", "/l", recursive=True)
         self.assertEqual(files.find("/"), ["/k/x", "/l/b/x", "/m/b/x", "/n/z"])
         self.assertEqual(files.cat("/l/b/x"), b"/a/b/x")
+        for call, *words in [(files.mv, "/none", "/new/x"), (files.mv, "/l/b/x/y", "/new/x"), (files.open, "/new/x", "r+b")]:
+            with self.assertRaises(FileNotFoundError):
+                call(*words)
+            self.assertFalse(files.exists("/new"))
 
     def test_files(self):
         files = self.files

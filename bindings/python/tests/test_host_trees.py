@@ -174,6 +174,14 @@ class HostTrees(unittest.TestCase):
             volume.export_tree(out, "/d")
         self.assertEqual((caught.exception.errno, caught.exception.filename), (errno.ENOTEMPTY, out))
 
+    def test_the_path_is_told_as_text_or_bytes(self):
+        volume = Volume()
+        for host in [os.path.join(self.folder, b"none/out"), os.fsdecode(self.folder) + "/none/out"]:
+            for call in [volume.import_tree, volume.export_tree, volume.freeze().export_tree]:
+                with self.assertRaises(FileNotFoundError) as caught:
+                    call(host)
+                self.assertEqual(caught.exception.filename, host)
+
     def test_an_import_keeps_no_file_of_its_own(self):
         # The time of a directory is set by a file that comes and goes, whatever is there.
         for name in [b"~", b"~~"]:

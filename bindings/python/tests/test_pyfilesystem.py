@@ -43,6 +43,7 @@ class OurOwn(unittest.TestCase):
         with DoorvervainFS() as files:
             files.makedir("d")
             files.touch("f")
+            files.makedirs("deep/" + "/".join(["n" * 200] * 4))
             for error, call, *words in [
                 (errors.FileExpected, files.remove, "d"),
                 (errors.DirectoryExpected, files.removetree, "f"),
@@ -51,6 +52,13 @@ class OurOwn(unittest.TestCase):
                 (errors.FileExpected, files.openbin, "/", "x"),
                 (errors.RemoveRootError, files.removedir, "/"),
                 (errors.InvalidPath, files.touch, 300 * "n"),
+                (errors.InvalidPath, files.exists, 300 * "n"),
+                (errors.InvalidPath, files.isdir, 300 * "n"),
+                (errors.InvalidPath, files.isfile, 300 * "n"),
+                (errors.InvalidPath, files.move, "f", 300 * "n"),
+                (errors.InvalidPath, files.movedir, 300 * "n", "e", True),
+                (errors.InvalidPath, files.movedir, "d", 300 * "n", True),
+                (errors.InvalidPath, files.movedir, "deep", "n" * 250, True),
                 (errors.ResourceNotFound, files.makedir, "f/x"),
                 (errors.DestinationExists, files.move, "f", "f"),
                 (errors.FileExpected, files.move, "d", "e"),

@@ -8,9 +8,13 @@ import unittest
 CONFIGURATION = pathlib.Path(__file__).resolve().parents[1] / "pyproject.toml"
 # What users write: each line is well, or is wrong as the remark says, which mypy checks too.
 USES = """
+from array import array
 from io import BufferedRandom, BufferedReader, BufferedWriter, TextIOWrapper
 from typing import List, Optional
 from doorvervain import Entry, File, Frozen, Path, Stat, Volume
+
+class Mine(Volume):
+    def more(self) -> None: ...
 
 def uses(volume: Volume, tree: Frozen, mode: str) -> None:
     text: TextIOWrapper = volume.open("/x")
@@ -33,6 +37,9 @@ def uses(volume: Volume, tree: Frozen, mode: str) -> None:
     skipped: List[str] = volume.import_tree("here", path, skip_special=True)
     volume.import_tree(path)  # type: ignore[arg-type]
     volume.restore(volume.fork().freeze())
+    numbers = array("i", [1, 2])
+    volume.write_bytes("/x", numbers), volume.write("/x", numbers), volume.path("/x").write_bytes(numbers)
+    Mine.load(b"").more()
 """
 
 

@@ -8,6 +8,7 @@ import pickle
 import re
 import signal
 import stat
+import sys
 import threading
 import time
 import unittest
@@ -86,6 +87,7 @@ class Refusals(unittest.TestCase):
             ("a snapshot's name has 1 to 64 letters, digits, '.', '_' and '-'", errno.EINVAL, volume.snapshot, "/d"),
             ("no such snapshot", errno.ENOENT, volume.restore, "none"),
             ("no such snapshot", errno.ENOENT, volume.open_snapshot, "none"),
+            ("no such snapshot", errno.ENOENT, volume.delta, "none"),
         ]:
             with self.subTest(text=text), self.assertRaises(OSError) as caught:
                 call(*words)
@@ -122,6 +124,9 @@ class Refusals(unittest.TestCase):
         self.assertEqual(refused(self, FileNotFoundError, errno.ENOENT, self.volume.stat, b"/x").filename, b"/x")
         path = pathlib.PurePosixPath("/x")
         self.assertEqual(refused(self, FileNotFoundError, errno.ENOENT, self.volume.stat, path).filename, "/x")
+        self.volume.snapshot("s")
+        error = refused(self, FileNotFoundError, errno.ENOENT, self.volume.delta, "s", b"none")
+        self.assertEqual((error.filename, error.filename2), ("s", b"none"))
 
     def test_numbers_that_C_cannot_take(self):
         for call, *words in [
@@ -521,6 +526,9 @@ class Words(unittest.TestCase):
         for clock, fault in [(lambda: -1, ValueError), (lambda: "noon", TypeError), (lambda: 1 // 0, ZeroDivisionError)]:
             with self.assertRaises(fault):
                 Volume(clock=clock).create("/x")
+        for call in [lambda: Volume(clock=lambda: 1.5).create("/x"), lambda: Volume().create("/x", at=1.5)]:
+            with self.assertRaisesRegex(TypeError, "a timestamp is a whole number, as time.time_ns.* and not 1.5"):
+                call()
 
     def test_a_volume_begins_once(self):
         with self.assertRaises(RuntimeError):
@@ -721,6 +729,33 @@ class Threads(unittest.TestCase):
         for thread in crew:
             thread.join()
         self.assertEqual(volume.read("/log"), b"line\n" * 2_000)
+
+    def test_threads_share_a_file_without_a_buffer(self):
+        pieces, volume = 64, Volume()
+        volume.write_bytes("/f", b"".join(b"%08d" % number * (1 << 17) for number in range(pieces)))
+        for _ in range(5):
+            file, read = volume.open("/f", "rb", buffering=0), []
+
+            def work():
+                for piece in iter(lambda: file.read(1 << 20), b""):
+                    read.append(int(piece[:8]))
+
+            self.run_all(work, work, work, work)
+            self.assertEqual(sorted(read), list(range(pieces)))
+
+    def test_threads_begin_to_append_to_the_same_new_file(self):
+        interval = sys.getswitchinterval()
+        self.addCleanup(sys.setswitchinterval, interval)
+        sys.setswitchinterval(1e-6)
+        volume, start = Volume(), threading.Barrier(4, timeout=20)
+
+        def work():
+            for number in range(500):
+                start.wait()
+                volume.open(f"/log{number}", "ab", buffering=0).write(b"x")
+
+        self.run_all(work, work, work, work)
+        self.assertEqual({volume.read(f"/log{number}") for number in range(500)}, {b"xxxx"})
 
 
 @unittest.skipUnless(HEADER, "the header is not beside these sources")

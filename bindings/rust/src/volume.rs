@@ -224,15 +224,19 @@ macro_rules! changing_calls {
             /// Directories that were created before the error stay.
             pub fn create_dir_all<P: AsRef<Path>>(&self, path: P) -> Result<(), Errno> {
                 let path = path.as_ref();
+                match (self.make_dir(path), path.parent()) {
+                    (Err(Errno::ENOENT), Some(parent)) => {
+                        self.create_dir_all(parent)?;
+                        self.make_dir(path)
+                    }
+                    (ended, _) => ended,
+                }
+            }
+
+            /// Creates a directory, and does nothing if it exists: another thread may have created it just now.
+            fn make_dir(&self, path: &Path) -> Result<(), Errno> {
                 match self.mkdir(path) {
                     Err(Errno::EEXIST) if self.volume().stat(path)?.is_dir() => Ok(()),
-                    Err(Errno::ENOENT) => match path.parent() {
-                        Some(parent) => {
-                            self.create_dir_all(parent)?;
-                            self.mkdir(path)
-                        }
-                        None => Err(Errno::ENOENT),
-                    },
                     ended => ended,
                 }
             }

@@ -2,6 +2,7 @@
 use doorvervain::{DeltaError, Errno, File, Frozen, Kind, LoadError, Shape, Stat, Volume};
 use std::io::{self, Write};
 use std::path::Path;
+use std::sync::Barrier;
 use std::thread;
 
 type Outcome = Result<(), Errno>;
@@ -327,6 +328,26 @@ fn threads_share_a_volume() -> Outcome {
     let lines = volume.read("/lines")?;
     for letter in b"abc" {
         assert_eq!(lines.iter().filter(|&byte| byte == letter).count(), LINES);
+    }
+    Ok(())
+}
+
+/// Threads that create the same directories at once all succeed, as with `std::fs`.
+#[test]
+fn threads_create_the_same_directories() -> Outcome {
+    const THREADS: usize = 4;
+    let volume = Volume::new()?;
+    for round in 0..300 {
+        let start = Barrier::new(THREADS);
+        let create = || {
+            start.wait();
+            volume.create_dir_all(format!("/{round}/a/b/c"))
+        };
+        thread::scope(|scope| {
+            let threads: Vec<_> = (0..THREADS).map(|_| scope.spawn(create)).collect();
+            threads.into_iter().try_for_each(|it| it.join().expect("it ends"))
+        })?;
+        assert!(volume.stat(format!("/{round}/a/b/c"))?.is_dir());
     }
     Ok(())
 }

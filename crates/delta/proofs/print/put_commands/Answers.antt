@@ -1,4 +1,5 @@
-use Rattle.std.proofs.Common.{[], ◌++◌}
+use Rattle.std.proofs.Common.{[], ◌++◌, ap, sym, ◌∙◌, Err}
+use Rattle.std.proofs.lemmas.Result.{err_from_is_err_and}
 use Rattle.textio.proofs.Known.{on_err}
 use Rattle.delta.proofs.BeginFacts.{begun_none, begun_then, some_put, some_then}
 use Rattle.delta.proofs.PrintFacts.{puts_all, puts_none, puts_then}
@@ -22,7 +23,8 @@ returns-in_err-put_round-clause-err g c =
 pub returns-in_err-put_round-clause-memory : goal.returns-in_err-put_round-clause-memory
 returns-in_err-put_round-clause-memory g c = λ e.
     let (cs, puts) = c.loop.invariant in
-    some_then cs _ _ _ _ _ _ _ puts (c.in_err-put_round.ensures.memory e)
+    let p = err_from_is_err_and c.from_residual.result c.from_residual.ensures.1 in
+    some_then cs _ _ _ _ _ _ _ puts (c.in_err-put_round.ensures.memory (sym (ap Err p.2) ∙ sym p.1 ∙ e))
 
 pub loop-preserved : goal.loop-preserved
 loop-preserved g c =

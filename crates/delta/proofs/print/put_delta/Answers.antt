@@ -1,3 +1,4 @@
+use Rattle.std.proofs.lemmas.Result.{err_from_is_err_and}
 use Rattle.textio.proofs.Known.{on_err}
 use Rattle.delta.proofs.BeginFacts.{delta_commands, delta_end, delta_heading, delta_some}
 use Rattle.delta.proofs.PrintFacts.{delta_put}
@@ -13,7 +14,9 @@ returns-in_err-put_commands-clause-err g c = λ a b t u at_a at_b m n is.
 
 pub returns-in_err-put_commands-clause-memory : goal.returns-in_err-put_commands-clause-memory
 returns-in_err-put_commands-clause-memory g c = λ a b t u at_a at_b m n is e.
-    delta_some _ _ _ c.args.digest.now _ _ a b t u at_a at_b m n (record { size = c.told-digest; bytes = c.fits-digest }) is c.in_ok-put_heading.ensures.ok (c.in_err-put_commands.ensures.memory e)
+    let p = err_from_is_err_and c.from_residual-in_err-put_commands.result c.from_residual-in_err-put_commands.ensures.1 in
+    let q = p.2 in
+    delta_some _ _ _ c.args.digest.now _ _ a b t u at_a at_b m n (record { size = c.told-digest; bytes = c.fits-digest }) is c.in_ok-put_heading.ensures.ok (c.in_err-put_commands.ensures.memory cc)
 
 pub returns-in_err-put-clause-err : goal.returns-in_err-put-clause-err
 returns-in_err-put-clause-err g c = λ a b t u at_a at_b m n is.
