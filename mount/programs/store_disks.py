@@ -176,6 +176,43 @@ def the_bytes_of_a_file_without_a_name_go_where_the_disk_fails_before_it_is_clos
     end_well(mount)
 
 
+def bytes_and_size(file: int) -> tuple[bytes, int]:
+    """The kernel has both then: the size is asked for behind the read, which is an access."""
+    return os.pread(file, 100, 0), os.fstat(file).st_size
+
+
+def seen_behind_a_failed_sync(folder: Path, what: str) -> None:
+    """Of a file that is open, where the tree became another one."""
+    disk = FailingDisk(folder)
+    mount = store_mount(folder, "--sync", environment=disk.environment)
+    for name in ("one", "another"):
+        (mount.point / "file").write_text(name)
+        snapshot(mount, name)
+    sent = subprocess.run([MOUNT, "--send", "another", "one", mount.point], stdout=subprocess.PIPE, check=True).stdout
+    with (mount.point / "file").open("rb", buffering=0) as file:
+        assert bytes_and_size(file.fileno()) == (b"another", 7)
+        disk.fail("sync")
+        words = ["--restore", "one"] if what == "restore" else ["--receive"]
+        done = subprocess.run([MOUNT, *words, mount.point], input=sent, stderr=subprocess.DEVNULL)
+        assert done.returncode == 1, done
+        assert bytes_and_size(file.fileno()) == (b"one", 3)
+    disk.mend()
+    end_well(mount)
+    again = store_mount(folder)
+    assert (again.point / "file").read_text() == "one"
+    end_well(again)
+
+
+@case
+def an_open_file_is_that_of_a_restored_tree_that_was_not_synced(folder: Path):
+    seen_behind_a_failed_sync(folder, "restore")
+
+
+@case
+def an_open_file_is_that_of_a_received_tree_that_was_not_synced(folder: Path):
+    seen_behind_a_failed_sync(folder, "receive")
+
+
 @case
 def a_long_start_says_what_it_is_at(folder: Path):
     mount = store_mount(folder)
