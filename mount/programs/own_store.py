@@ -1,5 +1,6 @@
 """Mounts with a store, for the cases of `store`, `store_snapshots`, `store_disks`, `store_programs` and `store_large`."""
 import hashlib
+import json
 import os
 import random
 import subprocess
@@ -9,7 +10,7 @@ from collections.abc import Callable
 from pathlib import Path
 
 import store_states
-from own_mount import Mount
+from own_mount import MOUNT, Mount
 
 PROGRAMS = Path(__file__).resolve().parent
 KILLS, WORKS = 30, random.Random(58)
@@ -35,6 +36,10 @@ def sync(path: Path) -> None:
         os.fsync(opened)
     finally:
         os.close(opened)
+
+
+def status_of(mount: Mount) -> dict:
+    return json.loads(subprocess.run([MOUNT, "--status", mount.point, "--json"], stdout=subprocess.PIPE, check=True).stdout)
 
 
 def kill(mount: Mount) -> None:
