@@ -3,6 +3,7 @@ import hashlib
 import json
 import os
 import random
+import re
 import subprocess
 import sys
 import time
@@ -40,6 +41,11 @@ def sync(path: Path) -> None:
 
 def status_of(mount: Mount) -> dict:
     return json.loads(subprocess.run([MOUNT, "--status", mount.point, "--json"], stdout=subprocess.PIPE, check=True).stdout)
+
+
+def reported(mount: Mount) -> str:
+    """What a mount has said, but what a long start is at: on a machine that does much else each may be long."""
+    return "".join(line for line in mount.said().splitlines(keepends=True) if not re.search(", after [0-9]+ s$", line))
 
 
 def kill(mount: Mount) -> None:

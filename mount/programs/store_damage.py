@@ -15,7 +15,7 @@ from pathlib import Path
 from typing import NamedTuple
 
 from own_mount import MOUNT, Mount, case, run_cases
-from own_store import WORKS, digest, due_once_it_stands, end_well, kill, snapshot, store_mount, sync
+from own_store import WORKS, digest, due_once_it_stands, end_well, kill, reported, snapshot, store_mount, sync
 
 ROUNDS, FILES, TAKEN, NEVER = int(os.environ.get("ROUNDS", "4")), 12, 4, ("--log-size", "1G")
 HEADER, MARKER = 152, 56
@@ -169,7 +169,7 @@ def rescued(folder: Path, name: str, what: str) -> int:
     assert {it.name: digest(it) for it in (folder / "store").iterdir()} == before, (name, what)
     mount = Mount(folder, "--store", new, *NEVER, name="rescued")
     try:
-        assert mount.stands and not mount.said(), (name, what, mount.said())
+        assert mount.stands and not reported(mount), (name, what, mount.said())
         if "whether its bytes are right is not known" in done.stderr:
             return len(seen(mount.point))
         return shown(mount, name.startswith("snapshots") or "snapshots" in done.stderr)
@@ -191,7 +191,7 @@ def try_damage(folder: Path, made: Made, name: str, what: str, damaged: bytes | 
     before = {it.name: digest(it) for it in (folder / "store").iterdir()}
     mount = store_mount(folder, *NEVER)
     if not mount.stands:
-        assert mount.said().strip(), (name, what)
+        assert reported(mount), (name, what)
         assert {it.name: digest(it) for it in (folder / "store").iterdir()} == before, (name, what)
         count = rescued(folder, name, what)
         # Which of two files is that of another store is not known: so the log is left out.
@@ -200,7 +200,7 @@ def try_damage(folder: Path, made: Made, name: str, what: str, damaged: bytes | 
     try:
         assert what not in WHOLE_FILES or name == "lock", (name, what, "is not refused")
         count = shown(mount)
-        assert count == made.shown or mount.said().strip(), (name, what, count, "in silence")
+        assert count == made.shown or reported(mount), (name, what, count, "in silence")
         assert count == made.shown or name != "lock", (name, what, count)
     except AssertionError as fault:
         raise AssertionError(name, what, mount.said()) from fault
@@ -332,7 +332,7 @@ def an_end_is_told_from_a_kill(folder: Path):
         assert ("its mount did not end well" in mount.said()) != ends_well, mount.said()
         end_well(mount)
         mount = stands(store_mount(folder, *NEVER))
-        assert not mount.said(), mount.said()
+        assert not reported(mount), mount.said()
         end_well(mount)
         shutil.rmtree(folder / "store")
 
