@@ -14,7 +14,9 @@ from pathlib import Path
 from failing_disk import FailingDisk
 from own_mount import MOUNT, Mount, case, run_cases
 from own_store import (KILLS, WORKS, end_well, find_state, kill, kill_at_chance, logs, names_after, on_small_disk,
-                       snapshot, store_mount, sync)
+                       snapshot, status_of, store_mount, sync)
+
+FIVE_SECONDS, A_WHILE = 5, 5
 
 
 def refused(number: int, call: Callable, *words) -> None:
@@ -64,6 +66,61 @@ def nor_one_while_they_are_written_with_snapshots(folder: Path):
     end_well(mount)
 
 
+def write_and(behind: Callable[[Mount], object]) -> Callable[[Mount], None]:
+    def by(mount: Mount) -> None:
+        (mount.point / "file").write_text("file")
+        behind(mount)
+    return by
+
+
+def sync_data(mount: Mount) -> None:
+    opened = os.open(mount.point / "file", os.O_WRONLY)
+    os.fdatasync(opened)
+    os.close(opened)
+
+
+def receive(text: bytes) -> Callable[[Mount], None]:
+    return lambda mount: subprocess.run([MOUNT, "--receive", mount.point], input=text, check=True)
+
+
+def difference(folder: Path) -> bytes:
+    """What makes a tree of one file of an empty one."""
+    mount = Mount(folder, name="other")
+    snapshot(mount, "none")
+    (mount.point / "file").write_text("file")
+    text = subprocess.run([MOUNT, "--send", "none", mount.point], stdout=subprocess.PIPE, check=True).stdout
+    end_well(mount)
+    return text
+
+
+def outlives_a_loss_of_power(folder: Path, by: Callable[[Mount], None], *options) -> None:
+    """The file that something has made."""
+    disk = FailingDisk(folder)
+    mount = store_mount(folder, *options, environment=disk.environment)
+    by(mount)
+    kill(mount)
+    disk.lose_power(folder)
+    again = store_mount(folder)
+    assert again.stands and (again.point / "file").read_text() == "file", again.said()
+    end_well(again)
+    shutil.rmtree(folder / "store")
+    shutil.rmtree(disk.synced)
+
+
+@case
+def each_kind_of_sync_brings_what_was_answered_onto_the_disk(folder: Path):
+    outlives_a_loss_of_power(folder, write_and(lambda mount: sync(mount.point / "file")))
+    outlives_a_loss_of_power(folder, write_and(sync_data))
+    outlives_a_loss_of_power(folder, write_and(end_well))
+    outlives_a_loss_of_power(folder, write_and(lambda mount: None), "--sync")
+    outlives_a_loss_of_power(folder, receive(difference(folder)))
+
+
+@case
+def what_is_not_synced_is_on_the_disk_after_five_seconds(folder: Path):
+    outlives_a_loss_of_power(folder, write_and(lambda mount: time.sleep(FIVE_SECONDS + 1)))
+
+
 def write_when_it_may(path: Path) -> None:
     """Changes are refused until an image is whole."""
     for _ in range(300):
@@ -92,9 +149,11 @@ def fail_and_mend(folder: Path, what: str) -> None:
     refused(errno.EIO, os.write, held, b"more")
     refused(errno.EIO, snapshot, mount, "another")
     taken.rmdir()
-    assert (mount.point / "held").read_text() == "held"
+    assert (mount.point / "held").read_text() == "held" and status_of(mount)["store"]["refuses"]
     disk.mend()
+    mended = time.monotonic()
     write_when_it_may(mount.point / "later")
+    assert time.monotonic() - mended < FIVE_SECONDS + A_WHILE and not status_of(mount)["store"]["refuses"]
     sync(mount.point)
     os.fsync(held)
     refused(errno.EIO, os.fsync, other)
@@ -222,6 +281,8 @@ def a_long_start_says_what_it_is_at(folder: Path):
     disk = FailingDisk(folder, 2500)
     mount = store_mount(folder, environment=disk.environment)
     assert mount.stands and re.search("replays log 0, [0-9]+ of [0-9]+ MB, after 2 s\n", mount.said()), mount.said()
+    seconds = re.findall(" MB, after ([0-9]+) s\n", mount.said())
+    assert seconds[:3] == ["2", "4", "6"], mount.said()
     end_well(mount)
 
 
