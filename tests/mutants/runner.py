@@ -2,12 +2,12 @@
 
 Functions are proved one by one against contracts. So edits of different functions are first tried together, in one check of one copy
 of the crate. An edit of a function's body is refused there where the prover tells of a goal of that very function that does not hold.
-Nothing else counts. Where a function that no edit touched is refused too, each half of the edits is tried, and so on. Where an edit
-changes more than bodies, where no goal of its function is named, and where one half is that one edit, it is tried by itself, by
-`rt must-fail`.
+Nothing else counts. Where a function that no edit touched is refused too, each half of the edits is tried, and so on. The prover passes
+over a function that calls one that it refused, so edits that stay open are tried together again as long as one of them is refused. What
+is then left, and an edit that changes more than bodies, is tried by itself, by `rt must-fail`.
 
-Where the crate as it stands is known to be proved (`cache.py`), it is not checked first: the first check of edits begins with
-nothing, and the others with what that one left.
+Where the crate as it stands is known to be proved (`cache.py`), it is not checked first: a check of edits proves only the functions
+that they change, and those that these call. The first begins with nothing, and the others with what that one left.
 """
 from __future__ import annotations
 
@@ -35,7 +35,7 @@ ANSWER_ELSEWHERE = re.compile(r"(?:\./)?proofs/\S+\.antt:\d+:\d+: error: ")
 WEAK = re.compile(r"has no field|is not in scope|has no `|that can be named|was not admitted")
 UNREAD = re.compile(r"(?:\./)?((?:src|specs)/\S+?):(\d+):\d+: error")
 # How the last line of a check begins that came to its end, and of one that did not prove the crate.
-ENDED, NO_PROOF = "\nlogic=", "\nlogic=not-proved"
+ENDED, NO_PROOF = re.compile(r"^(logic=|only=\d+ proved=)", re.M), "\nlogic=not-proved"
 # How that of a check of some functions alone begins, of which not all are proved.
 NOT_ALL = re.compile(r"^only=(\d+) proved=(?!\1$)\d+$", re.M)
 REFUSED = ": refused, as it must be"
@@ -75,6 +75,8 @@ def verdict_of(said: str, bodies: Bodies, touched: frozenset[Function]) -> Verdi
             at, goal = bodies.at_line(note[1], int(note[2])), note[3]
         elif answer and not WEAK.search(line):
             at, goal = bodies.of_proof(answer[1]), answer[2]
+            # of a cycle's proof: where an edit touched one function of it, no other's goals changed
+            at = at or [it for it in bodies.of_cycle(answer[1]) if it in touched]
             # Without a goal's name it tells nothing of a function whose proof it may be.
             if not touched.isdisjoint(at or bodies.in_group(answer[1])) and (len(at) != 1 or not goal):
                 continue
@@ -134,6 +136,8 @@ class Trial:
         self.bodies = Bodies(crate)
         # whether the libraries of `rt ci` are at hand, and whether `rt ci` passes by what it kept
         self.is_kept, self.passes = False, False
+        # edits of which a check of each told all that one can
+        self.settled: set[Edit] = set()
 
     def run(self, *words: str, where: Path) -> subprocess.CompletedProcess:
         how = {"stdin": subprocess.DEVNULL, "stdout": subprocess.PIPE, "stderr": subprocess.STDOUT, "text": True, "errors": "replace"}
@@ -169,7 +173,7 @@ class Trial:
         """What a check of the crate with edits says. Where the crate was not checked as it stands, the first that ends leaves the seed."""
         self.again()
         said = self.check(*flags).stdout
-        if not self.seed.is_dir() and ENDED in said:
+        if not self.seed.is_dir() and ENDED.search(said):
             cache.linked(self.work, self.seed)
         return said
 
@@ -208,10 +212,18 @@ class Trial:
             return {}, False
         return {edit: verdict.goals(functions[edit]) for edit in made if not functions[edit].isdisjoint(verdict.failed)}, True
 
+    def only(self, edits: list[Edit]) -> list[str]:
+        """The words by which a check proves only the functions that the edits change, and those that they call; none where it has to prove all."""
+        touched = [self.bodies.touched(it) for it in edits]
+        places = {it.alone for functions in touched for it in functions or ()}
+        return [word for it in sorted(places) for word in ("--only", it)] if all(touched) and all(places) else []
+
     def halved(self, edits: list[Edit]) -> Refused:
         """The edits that checks of several of them show to be refused: of all, and of halves where one tells nothing."""
-        found, is_clean = self.batch(edits)
+        found, is_clean = self.batch(edits, *(self.only(edits) if self.is_kept else []))
         self.say(f"{self.crate.name}: {len(found)} of {len(edits)} edits refused in one check")
+        if len(edits) < 2:
+            self.settled.update(edits)
         if is_clean or len(edits) < 2:
             return found
         middle = len(edits) // 2
@@ -269,12 +281,15 @@ class Trial:
     def tried(self, edits: list[Edit], by_itself: bool) -> dict[Edit, Outcome]:
         """What comes of the edits."""
         self.begin()
-        batches, left = ([], edits) if by_itself else together(edits, self.bodies)
+        batches, alone = ([], edits) if by_itself else together(edits, self.bodies)
         refused: Refused = {}
-        for batch in batches:
-            found = self.halved(batch)
-            refused |= found
-            left = [*left, *(it for it in batch if it not in found)]
+        while batches:
+            known = len(refused)
+            for batch in batches:
+                refused |= self.halved(batch)
+            left = [it for batch in batches for it in batch if it not in refused and it not in self.settled]
+            batches = together(left, self.bodies)[0] if len(refused) > known else []
+        left = [it for it in edits if it in alone or it not in refused]
         if left:
             self.say(f"{self.crate.name}: trying by themselves: {' '.join(sorted(it.name for it in left))}")
         return self.outcomes(edits, refused | self.alone(left))
@@ -282,9 +297,8 @@ class Trial:
     def tried_in_place(self, edit: Edit) -> Outcome:
         """What comes of one edit, by a check of the functions that it changes alone. Else it is tried by itself, and its goals are not known."""
         self.begin()
-        places = {it.alone for it in self.bodies.touched(edit) or ()}
         refused: Refused = {}
-        if places and all(places):
-            refused, _ = self.batch([edit], *(word for it in sorted(places) for word in ("--only", it)))
+        if words := self.only([edit]):
+            refused, _ = self.batch([edit], *words)
         refused = refused or dict.fromkeys(self.alone([edit]), frozenset())
         return self.outcomes([edit], refused)[edit]

@@ -1,8 +1,9 @@
 """Tries of edits of the made-up repository over a made-up toolchain, which selftest holds `runner.py` to. Nothing is proved.
 
 The toolchain refuses each line of `low` that an edit changed, at the goal `returns`. Its files tell it more: `kept` has its `rt ci`
-pass by what it kept, `also` names lines, and one that is refused too where the other changed, `proves` names lines that it does not
-refuse, `told` is what `rt` says of an edit that is tried by itself, and `breaks` has its first check break off.
+pass by what it kept, `also` names lines, and one that is refused too where the other changed, `hides` those that are passed over where
+the other is refused, `proves` names lines that it does not refuse, `told` is what `rt` says of an edit that is tried by itself, and
+`breaks` has its first check break off.
 """
 from __future__ import annotations
 
@@ -47,6 +48,8 @@ def check(work):
     lines += [int(also[str(it)]) for it in lines if str(it) in also]
     proves = (kit / "proves").read_text().split() if (kit / "proves").exists() else []
     lines = [it for it in lines if str(it) not in proves]
+    hides = dict(it.split() for it in (kit / "hides").read_text().splitlines()) if (kit / "hides").exists() else {}
+    lines = [it for it in lines if str(it) not in [hides.get(str(other)) for other in lines]]
     for it in lines:
         print(f"note: src/lib.rt:{it}:1: it is not proved that what the function ensures holds when it returns (`returns`)")
     print("crate low: modules loaded=1 checked=1")
@@ -90,6 +93,8 @@ ADDS_TWO = "file: src/lib.rt\nold: hidden(n, 'x') * 2\nnew: hidden(n, 'x') + 2\n
 OF_A_CONSTANT = "file: src/lib.rt\nold: b'}'\nnew: b'{'\n"
 # The sample's edits of `low`, with the goals at which they are refused.
 BOTH = {"double_adds_one": "double:returns", "hidden_gives_none": "hidden:returns"}
+# Checks of the functions that edits change.
+OF_BOTH, OF_DOUBLE, OF_HIDDEN = (f"rattle check of {it}" for it in ("double hidden", "double", "hidden"))
 
 
 @dataclasses.dataclass(frozen=True)
@@ -111,7 +116,7 @@ TRIES = [
         {"kept": ""},
         {"double_adds_two": ADDS_TWO},
         BOTH | {"double_adds_two": "double:returns"},
-        ["rt ci", "rattle check over nothing", "rattle check over work-2"],
+        ["rt ci", f"{OF_BOTH} over nothing", f"{OF_DOUBLE} over work-2"],
     ),
     Try(
         "a try where nothing is kept",
@@ -125,7 +130,14 @@ TRIES = [
         {"kept": "", "also": f"{HIDDEN} {TRIPLE}\n"},
         {},
         {"double_adds_one": "double:returns"},
-        ["rt ci", "rattle check over nothing", *["rattle check over work-2"] * 2, "rt ci", "rt ci of hidden_gives_none.edit"],
+        ["rt ci", f"{OF_BOTH} over nothing", f"{OF_DOUBLE} over work-2", f"{OF_HIDDEN} over work-2", "rt ci", "rt ci of hidden_gives_none.edit"],
+    ),
+    Try(
+        "a try where the proof is kept, and an edit hides the goal of another",
+        {"kept": "", "hides": f"{HIDDEN} {DOUBLE}\n"},
+        {},
+        BOTH,
+        ["rt ci", f"{OF_BOTH} over nothing", f"{OF_DOUBLE} over work-2"],
     ),
     Try(
         "a try where nothing is kept, and a function that no edit touched is refused",
@@ -139,28 +151,28 @@ TRIES = [
         {"kept": "", "breaks": ""},
         {},
         BOTH,
-        ["rt ci", "rattle check over nothing", "rattle check over nothing", "rattle check over work-3"],
+        ["rt ci", f"{OF_BOTH} over nothing", f"{OF_DOUBLE} over nothing", f"{OF_HIDDEN} over work-3"],
     ),
     Try(
         "a try of a constant where the proof is kept",
         {"kept": "", "told": f"note: src/lib.rt:{DOUBLE}:1: it is not proved that a sum fits (`returns-else`)"},
         {"most_is_another": OF_A_CONSTANT},
         BOTH | {"most_is_another": "double:returns-else"},
-        ["rt ci", "rattle check over nothing", "rt ci", "rt ci of most_is_another.edit"],
+        ["rt ci", f"{OF_BOTH} over nothing", "rt ci", "rt ci of most_is_another.edit"],
     ),
     Try(
         "a try of a constant of which rt cuts the goal",
         {"kept": "", "told": f"note: src/lib.rt:{DOUBLE}:1: it is not proved that a sum fits (`returns-el"},
         {"most_is_another": OF_A_CONSTANT},
         BOTH | {"most_is_another": ""},
-        ["rt ci", "rattle check over nothing", "rt ci", "rt ci of most_is_another.edit"],
+        ["rt ci", f"{OF_BOTH} over nothing", "rt ci", "rt ci of most_is_another.edit"],
     ),
     Try(
         "a try over the libraries of another checkout",
         {},
         {"double_adds_two": ADDS_TWO},
         BOTH | {"double_adds_two": "double:returns"},
-        ["rattle check over nothing", "rattle check over work-1"],
+        [f"{OF_BOTH} over nothing", f"{OF_DOUBLE} over work-1"],
         is_proved=True,
     ),
     Try(
@@ -168,7 +180,7 @@ TRIES = [
         {"also": f"{MOST} {DOUBLE}\n"},
         {"most_is_another": OF_A_CONSTANT},
         BOTH | {"most_is_another": "double:returns"},
-        ["rattle check over nothing", "rattle check over work-1"],
+        [f"{OF_BOTH} over nothing", "rattle check over work-1"],
         is_proved=True,
     ),
     Try(
@@ -267,6 +279,9 @@ SAID = [
     Said(f"{ANSWERS}expected type `a`", {"double", "hidden"}),
     Said(f"{ANSWERS}expected type `a`", {"hidden"}, is_clean=False),
     Said("proofs/+both/Answers.antt:1:1: error: expected type `a`", {"double"}),
+    # the proof of a function that calls itself
+    Said("proofs/+double/Answers.antt:1:1: error: `returns`: expected type `a`", {"double"}, {"double": {"returns"}}),
+    Said("proofs/+double/Answers.antt:1:1: error: `returns`: expected type `a`", {"hidden"}),
     Said("proofs/other/+both/Answers.antt:1:1: error: expected type `a`", {"double"}, is_clean=False),
     # a lost name tells nothing at all, and a lemma of another file is of no function
     Said(f"{ANSWERS}`returns`: `c` has no field `a`", {"double"}),
@@ -283,6 +298,44 @@ def wrong_verdict(case: Said) -> str:
     failed = {it.name: goals for it, goals in told.failed.items()}
     is_well = (failed, told.is_clean) == (case.failed, case.is_clean)
     return "" if is_well else f"refused: {failed}, and {'none' if told.is_clean else 'one'} that no edit touched"
+
+
+NEAR = """
+impl crate::Count {
+    pub fn more(&self) -> u8 {
+        1
+    }
+}
+
+struct Near;
+
+struct NearBy;
+
+impl Half for Near {
+    fn half(&self) -> u8 {
+        2
+    }
+}
+
+impl Half for NearBy {
+    fn half(&self) -> u8 {
+        3
+    }
+}
+"""
+# Folders of proofs, and the function of each: of a type's method below the type's module, of a trait's below that of its `impl`.
+FOLDERS = {"Count/more": "Count/more", "measures/NearHalf/half": "measures/Near/half", "measures/NearByHalf/half": "measures/NearBy/half"}
+
+
+def wrong_folder(folder: str) -> str:
+    """The functions that are found by a folder of a proof, where they are not the one whose proof it is; else ''."""
+    with tempfile.TemporaryDirectory(prefix="mutants-selftest-") as name:
+        make(Path(name), Try("", {}, {}, {}, []))
+        base = Repository(Path(name) / "clone").crates["base"]
+        file = base.folder / "src/measures.rt"
+        file.write_text(file.read_text(encoding="utf-8") + NEAR, encoding="utf-8")
+        found = [it.exact for it in Bodies(base).of_proof(folder)]
+    return "" if found == [FOLDERS[folder]] else f"found {' '.join(found) or 'nothing'}"
 
 
 @dataclasses.dataclass(frozen=True)
@@ -354,4 +407,5 @@ def undrawn() -> str:
 def all_trials() -> list[tuple[str, str]]:
     """What was tried here, and what was wrong with it, '' where nothing was."""
     said = [(f"{it.line}, where edits touch {' '.join(sorted(it.touched))}", wrong_verdict(it)) for it in SAID]
-    return [*((it.name, wrong_try(it)) for it in TRIES), *said, ("what is tried anew", undrawn())]
+    folders = [(f"the proof in {it}", wrong_folder(it)) for it in FOLDERS]
+    return [*((it.name, wrong_try(it)) for it in TRIES), *said, *folders, ("what is tried anew", undrawn())]
