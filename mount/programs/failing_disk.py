@@ -36,13 +36,14 @@ class FailingDisk:
         return max((int(it.read_text()) for it in noted if it.exists()), default=0)
 
     def lose_power(self, folder: Path) -> None:
-        """Of what no sync came behind only a part is left, of each log another."""
+        """Of the records that no sync came behind only a part is left, of each log another."""
         for log in logs(folder):
-            least = self.synced_bytes(log.name)
             whole = log.read_bytes()
-            left = WORKS.randint(min(least, len(whole)), len(whole))
+            end = len(whole.rstrip(b"\0"))
+            least = min(self.synced_bytes(log.name), end)
+            left = WORKS.randint(least, end)
             torn = bytearray(whole[:left])
-            for at in WORKS.sample(range(least, left), min(2, max(0, left - least))):
+            for at in WORKS.sample(range(least, left), min(2, left - least)):
                 torn[at] = 0
             log.write_bytes(torn + bytes(WORKS.choice([0, len(whole) - left])))
         for part in (folder / "store").glob("*.part"):

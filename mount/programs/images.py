@@ -111,6 +111,21 @@ def what_a_mount_left_is_not_cut(folder: Path):
 
 
 @case
+def an_image_that_cannot_take_its_place_is_left_in_its_part(folder: Path):
+    """A folder has come there since the mount began. No other mount begins beside the part."""
+    mount = Mount(folder, "--image", folder / "image")
+    (mount.point / "file").write_text("file")
+    (folder / "image").unlink(missing_ok=True)
+    (folder / "image").mkdir()
+    part = folder / "image.part"
+    assert mount.end() == 1 and "the tree is left in the file with .part behind its name" in mount.said(), mount.said()
+    (folder / "image").rmdir()
+    assert not Mount(folder, "--image", folder / "image").stands
+    part.rename(folder / "image")
+    assert names_in(folder, folder / "image") == ["file"]
+
+
+@case
 def a_program_that_dies_leaves_the_old_image(folder: Path):
     file = keep_tree(folder)
     before = file.read_bytes()

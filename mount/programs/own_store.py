@@ -1,7 +1,9 @@
 """Mounts with a store, for the cases of `store`, `store_snapshots`, `store_disks`, `store_programs` and `store_large`."""
 import hashlib
+import json
 import os
 import random
+import re
 import subprocess
 import sys
 import time
@@ -9,7 +11,7 @@ from collections.abc import Callable
 from pathlib import Path
 
 import store_states
-from own_mount import Mount
+from own_mount import MOUNT, Mount
 
 PROGRAMS = Path(__file__).resolve().parent
 KILLS, WORKS = 30, random.Random(58)
@@ -35,6 +37,15 @@ def sync(path: Path) -> None:
         os.fsync(opened)
     finally:
         os.close(opened)
+
+
+def status_of(mount: Mount) -> dict:
+    return json.loads(subprocess.run([MOUNT, "--status", mount.point, "--json"], stdout=subprocess.PIPE, check=True).stdout)
+
+
+def reported(mount: Mount) -> str:
+    """What a mount has said, but what a long start is at: on a machine that does much else each may be long."""
+    return "".join(line for line in mount.said().splitlines(keepends=True) if not re.search(", after [0-9]+ s$", line))
 
 
 def kill(mount: Mount) -> None:

@@ -133,6 +133,21 @@ def an_unlinked_file_is_looked_at_by_its_descriptor():
     assert get("file") == b"another"
 
 
+@case
+def a_listing_goes_on_behind_names_that_are_gone():
+    os.mkdir("folder")
+    names = [f"{i:04}" for i in range(1200)]
+    for name in names:
+        put(f"folder/{name}")
+    gone = names[300:900]
+    with os.scandir("folder") as listing:
+        found = [next(listing).name]
+        for name in gone:
+            os.unlink(f"folder/{name}")
+        found += [entry.name for entry in listing]
+    assert len(found) == len(set(found)) and set(found) >= set(names) - set(gone), len(found)
+
+
 def modified(name: str) -> str:
     """The time of modification as the file system has it, whatever the kernel knows."""
     command = ["stat", "--cached=never", "-c", "%.9Y", name]

@@ -1,19 +1,14 @@
 """What --status and df -i tell of a mount, held against what is seen of it."""
-import json
 import os
 import subprocess
 import time
 from pathlib import Path
 
 from own_mount import MOUNT, Mount, case, run_cases
-from own_store import end_well, store_mount, sync
+from own_store import end_well, status_of, store_mount, sync
 
 LARGE = 200 << 20
 SECONDS_TO_RETURN = 10
-
-
-def status_of(mount: Mount) -> dict:
-    return json.loads(subprocess.run([MOUNT, "--status", mount.point, "--json"], stdout=subprocess.PIPE, check=True).stdout)
 
 
 def names_in(top: Path) -> int:
@@ -102,6 +97,22 @@ def a_store_tells_its_log(folder: Path):
     assert (mount.point / "bytes").exists()
     counted_right(mount)
     assert "log " in subprocess.run([MOUNT, "--status", mount.point], stdout=subprocess.PIPE, text=True, check=True).stdout
+    end_well(mount)
+
+
+@case
+def what_is_not_synced_waits_and_syncfs_brings_none_of_it_onto_the_disk(folder: Path):
+    """Each five seconds all is synced: so it is tried more than once."""
+    mount, pending = store_mount(folder), []
+    for number in range(5):
+        (mount.point / f"file{number}").write_text("text")
+        before = status_of(mount)["store"]["pending"]
+        subprocess.run(["sync", "--file-system", mount.point], check=True)
+        pending.append((before, status_of(mount)["store"]["pending"]))
+        sync(mount.point)
+        assert status_of(mount)["store"]["pending"] == 0
+    assert any(before == behind > 0 for before, behind in pending), pending
+    assert status_of(mount)["store"]["last_sync"] < 5
     end_well(mount)
 
 

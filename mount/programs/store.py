@@ -3,6 +3,7 @@ import itertools
 import os
 import re
 import shutil
+import signal
 import subprocess
 import time
 from pathlib import Path
@@ -11,6 +12,8 @@ import store_states
 from own_mount import MOUNT, Mount, case, run_cases
 from own_store import (KILLS, WORKS, end_well, fill, find_state, kill, kill_at_chance, logs, names_after, store_mount, sync,
                        write_sums, writes_image)
+
+MOST_AHEAD = 8 << 20  # zeros behind the records of a log
 
 
 def kill_often(folder: Path, *options, in_image: bool = False) -> int:
@@ -174,8 +177,16 @@ def two_mounts_have_not_one_store(folder: Path):
 @case
 def another_users_folder_is_no_store(folder: Path):
     (folder / "store").mkdir()
-    (folder / "store").chmod(0o777)
-    assert not store_mount(folder).stands
+    for mode in (0o777, 0o720):
+        (folder / "store").chmod(mode)
+        mount = store_mount(folder)
+        assert not mount.stands and "others may write in the folder" in mount.said(), mount.said()
+    if not os.getuid():
+        (folder / "store").chmod(0o700)
+        os.chown(folder / "store", 65534, -1)
+        mount = store_mount(folder)
+        assert not mount.stands and "the folder is another user's" in mount.said(), mount.said()
+    assert os.listdir(folder / "store") == []
 
 
 @case
@@ -205,6 +216,18 @@ def an_image_goes_with_no_store(folder: Path):
 
 
 @case
+def it_is_mounted_with_nosuid_and_nodev_unless_attributes_are_trusted(folder: Path):
+    for options, has in (((), True), (("--trust-attributes",), False)):
+        if options and os.getuid():
+            continue
+        mount = store_mount(folder, *options)
+        line = next(it for it in Path("/proc/self/mountinfo").read_text().splitlines() if it.split()[4] == str(mount.point))
+        words = line.split()[5].split(",")
+        assert ("nosuid" in words, "nodev" in words) == (has, has), line
+        end_well(mount)
+
+
+@case
 def owners_and_bits_are_trusted(folder: Path):
     owner, mode = (5, 6) if not os.getuid() else (os.getuid(), os.getgid()), 0o6751
     for ends in (end_well, kill, end_well):
@@ -221,13 +244,15 @@ def owners_and_bits_are_trusted(folder: Path):
 
 @case
 def signals_end_it_as_an_unmount_does(folder: Path):
-    mount = store_mount(folder)
-    fill(mount, 200)
-    mount.process.terminate()
-    time.sleep(0.01)
-    mount.process.terminate()
-    assert mount.process.wait() == 0, mount.said()
-    assert len(names_after(folder)) == 200
+    for number in (signal.SIGTERM, signal.SIGHUP, signal.SIGINT):
+        mount = store_mount(folder)
+        fill(mount, 200)
+        mount.process.send_signal(number)
+        time.sleep(0.01)
+        mount.process.send_signal(number)
+        assert mount.process.wait() == 0, mount.said()
+        assert len(names_after(folder)) == 200
+        shutil.rmtree(folder / "store")
 
 
 @case
@@ -244,6 +269,53 @@ def images_take_the_place_of_logs(folder: Path):
     again = store_mount(folder)
     assert (again.point / "file").read_bytes() == bytes([59]) * 50000
     end_well(again)
+
+
+def newest_image(folder: Path) -> int:
+    return max(int(it.suffixes[0][1:]) for it in (folder / "store").glob("tree.*.sum"))
+
+
+def wait_for_image_alone(folder: Path, number: int) -> int:
+    """Until an image has taken the place of all before it: its bytes."""
+    ends, wanted = time.monotonic() + 60, {"lock", f"log.{number}", f"tree.{number}", f"tree.{number}.sum"}
+    while set(os.listdir(folder / "store")) != wanted:
+        assert time.monotonic() < ends, sorted(os.listdir(folder / "store"))
+        time.sleep(0.01)
+    return (folder / f"store/tree.{number}").stat().st_size
+
+
+def write_mebibytes(mount: Mount, count: int) -> None:
+    """Into one file, which has one of them."""
+    for _ in range(count):
+        (mount.point / "file").write_bytes(WORKS.randbytes(1 << 20))
+    sync(mount.point)
+
+
+@case
+def an_image_takes_the_place_of_a_log_above_64_mebibytes(folder: Path):
+    mount = store_mount(folder)
+    write_mebibytes(mount, 60)
+    time.sleep(1)
+    assert newest_image(folder) == 0
+    write_mebibytes(mount, 8)
+    wait_for_image_alone(folder, 1)
+    end_well(mount)
+
+
+@case
+def and_above_twice_the_image_before(folder: Path):
+    mount = store_mount(folder)
+    write_mebibytes(mount, 1)
+    end_well(mount)
+    mount = store_mount(folder, "--log-size", "100K")
+    size = wait_for_image_alone(folder, 1)
+    write_mebibytes(mount, 3)
+    time.sleep(1)
+    taken = sum(it.stat().st_blocks * 512 for it in (folder / "store").iterdir())
+    assert newest_image(folder) == 1 and size + (3 << 20) < taken < 3 * size + MOST_AHEAD, (size, taken)
+    write_mebibytes(mount, 2)
+    wait_for_image_alone(folder, 2)
+    end_well(mount)
 
 
 @case

@@ -58,13 +58,14 @@ def write_until_full(mount: Mount, store: Path, other: bytes, most: int) -> dict
 
 
 def lose_power(log: Path, length: int) -> None:
-    """Behind what was synced some bytes are lost."""
+    """Of the records behind what was synced some bytes are lost, and of the zeros behind those none."""
     data = bytearray(log.read_bytes())
+    end = max(length, len(data.rstrip(b"\0")))
     for _ in range(WORKS.randrange(3)):
-        at = WORKS.randrange(length, len(data)) if length < len(data) else len(data)
+        at = WORKS.randrange(length, end) if length < end else len(data)
         data[at:at + 512] = bytes(min(512, len(data) - at))
-    if WORKS.random() < 0.3 and length < len(data):
-        del data[WORKS.randrange(length, len(data)):]
+    if WORKS.random() < 0.3 and length < end:
+        del data[WORKS.randrange(length, end):]
     log.write_bytes(data)
 
 

@@ -6,6 +6,7 @@ ROUNDS is how many damages of each kind are tried of a file; the heavy run is `R
 """
 import itertools
 import os
+import re
 import shutil
 import subprocess
 import time
@@ -14,10 +15,11 @@ from pathlib import Path
 from typing import NamedTuple
 
 from own_mount import MOUNT, Mount, case, run_cases
-from own_store import WORKS, digest, due_once_it_stands, end_well, kill, snapshot, store_mount, sync
+from own_store import WORKS, digest, due_once_it_stands, end_well, kill, reported, snapshot, store_mount, sync
 
 ROUNDS, FILES, TAKEN, NEVER = int(os.environ.get("ROUNDS", "4")), 12, 4, ("--log-size", "1G")
 HEADER, MARKER = 152, 56
+MISSING, EMPTIED, OTHERS = WHOLE_FILES = "missing", "emptied", "that of another store"
 
 
 class Made(NamedTuple):
@@ -122,15 +124,15 @@ def cuts(name: str, whole: bytes) -> Iterator[int]:
 
 def damages(name: str, whole: bytes, other: bytes | None) -> Iterator[tuple[str, bytes | None]]:
     """What becomes of a file, in words; none: it is missing."""
-    yield "missing", None
-    yield "emptied", b""
+    yield MISSING, None
+    yield EMPTIED, b""
     for at in cuts(name, whole):
         yield f"cut at {at} of {len(whole)}", whole[:at]
     for at in WORKS.sample(range(len(whole)), min(3 * ROUNDS, len(whole))):
         yield f"changed at {at}", whole[:at] + bytes([whole[at] ^ 1 << WORKS.randrange(8)]) + whole[at + 1:]
     yield "lengthened", whole + b"x"
-    if other is not None:
-        yield "that of another store", other
+    if other not in (None, whole):
+        yield OTHERS, other
 
 
 def seen(top: Path) -> dict[str, bytes]:
@@ -167,7 +169,7 @@ def rescued(folder: Path, name: str, what: str) -> int:
     assert {it.name: digest(it) for it in (folder / "store").iterdir()} == before, (name, what)
     mount = Mount(folder, "--store", new, *NEVER, name="rescued")
     try:
-        assert mount.stands and not mount.said(), (name, what, mount.said())
+        assert mount.stands and not reported(mount), (name, what, mount.said())
         if "whether its bytes are right is not known" in done.stderr:
             return len(seen(mount.point))
         return shown(mount, name.startswith("snapshots") or "snapshots" in done.stderr)
@@ -189,15 +191,16 @@ def try_damage(folder: Path, made: Made, name: str, what: str, damaged: bytes | 
     before = {it.name: digest(it) for it in (folder / "store").iterdir()}
     mount = store_mount(folder, *NEVER)
     if not mount.stands:
-        assert mount.said().strip(), (name, what)
+        assert reported(mount), (name, what)
         assert {it.name: digest(it) for it in (folder / "store").iterdir()} == before, (name, what)
         count = rescued(folder, name, what)
         # Which of two files is that of another store is not known: so the log is left out.
-        assert count == made.shown or not name.endswith((".sum", "lock")) or "another" in what, (name, what, count)
+        assert count == made.shown or not name.endswith((".sum", "lock")) or what == OTHERS, (name, what, count)
         return True
     try:
+        assert what not in WHOLE_FILES or name == "lock", (name, what, "is not refused")
         count = shown(mount)
-        assert count == made.shown or mount.said().strip(), (name, what, count, "in silence")
+        assert count == made.shown or reported(mount), (name, what, count, "in silence")
         assert count == made.shown or name != "lock", (name, what, count)
     except AssertionError as fault:
         raise AssertionError(name, what, mount.said()) from fault
@@ -283,7 +286,10 @@ def files_as_they_were_at_an_earlier_end(folder: Path):
             for old in made[then].store.iterdir():
                 if kind_of(old.name) == kind_of(file.name) and old.read_bytes() != file.read_bytes():
                     what = f"that is {old.name} as it was {now - then} mounts before"
-                    refused += try_damage(folder, store, file.name, what, old.read_bytes())
+                    is_refused = try_damage(folder, store, file.name, what, old.read_bytes())
+                    lacks_files = file.name.startswith("log.") and made[then].shown < store.shown
+                    assert is_refused or not lacks_files or not STAGES[now][1], (now, then, file.name, "is not refused")
+                    refused += is_refused
                     tried += 1
     print(f"of {tried} older files {refused} are refused")
 
@@ -326,7 +332,7 @@ def an_end_is_told_from_a_kill(folder: Path):
         assert ("its mount did not end well" in mount.said()) != ends_well, mount.said()
         end_well(mount)
         mount = stands(store_mount(folder, *NEVER))
-        assert not mount.said(), mount.said()
+        assert not reported(mount), mount.said()
         end_well(mount)
         shutil.rmtree(folder / "store")
 
@@ -338,6 +344,24 @@ def a_start_that_changes_nothing_leaves_each_file_as_it_was(folder: Path):
     for _ in range(2):
         end_well(stands(store_mount(folder, *NEVER)))
         assert {it.name: digest(it) for it in (folder / "store").iterdir()} == before
+
+
+@case
+def a_rescue_has_all_before_the_first_damage(folder: Path):
+    """Of a log of which each record but the marks of its end is damaged in turn: how many whole ones come after is told."""
+    made, counts = make(folder, make_log_alone, True, "made"), []
+    log = made.store / "log.0"
+    whole, ends = log.read_bytes(), list(records_in(log.read_bytes()))
+    for number, at in enumerate(ends[:-3], start=1):
+        log.write_bytes(whole[:at + 30] + bytes([whole[at + 30] ^ 1]) + whole[at + 31:])
+        done = subprocess.run([MOUNT, "--rescue", folder / f"new{number}", made.store], capture_output=True, text=True)
+        left = re.search("log.0: ([0-9]+) whole records behind that are left", done.stderr)
+        assert done.returncode == 3 and f"record {number}, at byte {at}, was on the disk" in done.stderr, done
+        assert left and int(left[1]) == len(ends) - number - 1, (number, done)
+        mount = stands(Mount(folder, "--store", folder / f"new{number}", *NEVER))
+        counts.append(shown(mount))
+        end_well(mount)
+    assert counts == sorted(counts) and set(counts) == set(range(FILES)), counts
 
 
 @case

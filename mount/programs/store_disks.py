@@ -14,7 +14,9 @@ from pathlib import Path
 from failing_disk import FailingDisk
 from own_mount import MOUNT, Mount, case, run_cases
 from own_store import (KILLS, WORKS, end_well, find_state, kill, kill_at_chance, logs, names_after, on_small_disk,
-                       snapshot, store_mount, sync)
+                       snapshot, status_of, store_mount, sync)
+
+FIVE_SECONDS, A_WHILE = 5, 5
 
 
 def refused(number: int, call: Callable, *words) -> None:
@@ -64,6 +66,61 @@ def nor_one_while_they_are_written_with_snapshots(folder: Path):
     end_well(mount)
 
 
+def write_and(behind: Callable[[Mount], object]) -> Callable[[Mount], None]:
+    def by(mount: Mount) -> None:
+        (mount.point / "file").write_text("file")
+        behind(mount)
+    return by
+
+
+def sync_data(mount: Mount) -> None:
+    opened = os.open(mount.point / "file", os.O_WRONLY)
+    os.fdatasync(opened)
+    os.close(opened)
+
+
+def receive(text: bytes) -> Callable[[Mount], None]:
+    return lambda mount: subprocess.run([MOUNT, "--receive", mount.point], input=text, check=True)
+
+
+def difference(folder: Path) -> bytes:
+    """What makes a tree of one file of an empty one."""
+    mount = Mount(folder, name="other")
+    snapshot(mount, "none")
+    (mount.point / "file").write_text("file")
+    text = subprocess.run([MOUNT, "--send", "none", mount.point], stdout=subprocess.PIPE, check=True).stdout
+    end_well(mount)
+    return text
+
+
+def outlives_a_loss_of_power(folder: Path, by: Callable[[Mount], None], *options) -> None:
+    """The file that something has made."""
+    disk = FailingDisk(folder)
+    mount = store_mount(folder, *options, environment=disk.environment)
+    by(mount)
+    kill(mount)
+    disk.lose_power(folder)
+    again = store_mount(folder)
+    assert again.stands and (again.point / "file").read_text() == "file", again.said()
+    end_well(again)
+    shutil.rmtree(folder / "store")
+    shutil.rmtree(disk.synced)
+
+
+@case
+def each_kind_of_sync_brings_what_was_answered_onto_the_disk(folder: Path):
+    outlives_a_loss_of_power(folder, write_and(lambda mount: sync(mount.point / "file")))
+    outlives_a_loss_of_power(folder, write_and(sync_data))
+    outlives_a_loss_of_power(folder, write_and(end_well))
+    outlives_a_loss_of_power(folder, write_and(lambda mount: None), "--sync")
+    outlives_a_loss_of_power(folder, receive(difference(folder)))
+
+
+@case
+def what_is_not_synced_is_on_the_disk_after_five_seconds(folder: Path):
+    outlives_a_loss_of_power(folder, write_and(lambda mount: time.sleep(FIVE_SECONDS + 1)))
+
+
 def write_when_it_may(path: Path) -> None:
     """Changes are refused until an image is whole."""
     for _ in range(300):
@@ -92,9 +149,11 @@ def fail_and_mend(folder: Path, what: str) -> None:
     refused(errno.EIO, os.write, held, b"more")
     refused(errno.EIO, snapshot, mount, "another")
     taken.rmdir()
-    assert (mount.point / "held").read_text() == "held"
+    assert (mount.point / "held").read_text() == "held" and status_of(mount)["store"]["refuses"]
     disk.mend()
+    mended = time.monotonic()
     write_when_it_may(mount.point / "later")
+    assert time.monotonic() - mended < FIVE_SECONDS + A_WHILE and not status_of(mount)["store"]["refuses"]
     sync(mount.point)
     os.fsync(held)
     refused(errno.EIO, os.fsync, other)
@@ -116,6 +175,103 @@ def a_disk_whose_writes_fail_is_told_until_an_image_is_whole(folder: Path):
     fail_and_mend(folder, "write")
 
 
+def removed_before_writes_fail(mount: Mount, disk: FailingDisk, path: Path) -> bool:
+    """Whether a file that the kernel still knows was removed before the mount saw that the disk fails, as it then has."""
+    told, end = mount.said().count("is not written"), time.monotonic() + 60
+    try:
+        with (mount.point / "large").open("wb", buffering=0) as large:
+            large.write(bytes(7 << 17))
+            disk.fail("write")
+            large.write(bytes(1 << 17))
+            path.unlink()
+            while mount.said().count("is not written") == told:
+                assert time.monotonic() < end, mount.said()
+                time.sleep(0.01)
+            return True
+    except OSError as fault:
+        assert fault.errno == errno.EIO, fault
+        return False
+
+
+@case
+def reads_go_on_where_the_disk_fails_behind_a_removal(folder: Path):
+    disk = FailingDisk(folder)
+    mount = store_mount(folder, environment=disk.environment)
+    (mount.point / "kept").write_text("kept")
+    gone = mount.point / "gone"
+    for tried in range(20):
+        write_when_it_may(gone)
+        sync(mount.point)
+        held = os.open(gone, os.O_PATH)
+        if removed_before_writes_fail(mount, disk, gone):
+            break
+        disk.mend()
+        os.close(held)
+        write_when_it_may(mount.point / "large")
+    assert (mount.point / "kept").read_text() == "kept"
+    assert sorted(os.listdir(mount.point)) == ["kept", "large"]
+    refused(errno.EIO, (mount.point / "later").write_text, "later")
+    os.close(held)
+    disk.mend()
+    write_when_it_may(mount.point / "later")
+    sync(mount.point)
+    kill(mount)
+    assert names_after(folder) == {"kept", "large", "later"}
+
+
+@case
+def the_bytes_of_a_file_without_a_name_go_where_the_disk_fails_before_it_is_closed(folder: Path):
+    disk = FailingDisk(folder)
+    mount = store_mount(folder, environment=disk.environment)
+    with (mount.point / "file").open("wb", buffering=0) as file:
+        file.write(b"file")
+        (mount.point / "file").unlink()
+        disk.fail("sync")
+        refused(errno.EIO, sync, mount.point)
+    disk.mend()
+    write_when_it_may(mount.point / "later")
+    image = next((folder / "store").glob("tree.*[1-9]")).read_bytes()
+    assert b"F /later " not in image and b" /.doorvervain/unlinked/" not in image, image
+    end_well(mount)
+
+
+def bytes_and_size(file: int) -> tuple[bytes, int]:
+    """The kernel has both then: the size is asked for behind the read, which is an access."""
+    return os.pread(file, 100, 0), os.fstat(file).st_size
+
+
+def seen_behind_a_failed_sync(folder: Path, what: str) -> None:
+    """Of a file that is open, where the tree became another one."""
+    disk = FailingDisk(folder)
+    mount = store_mount(folder, "--sync", environment=disk.environment)
+    for name in ("one", "another"):
+        (mount.point / "file").write_text(name)
+        snapshot(mount, name)
+    sent = subprocess.run([MOUNT, "--send", "another", "one", mount.point], stdout=subprocess.PIPE, check=True).stdout
+    with (mount.point / "file").open("rb", buffering=0) as file:
+        assert bytes_and_size(file.fileno()) == (b"another", 7)
+        disk.fail("sync")
+        words = ["--restore", "one"] if what == "restore" else ["--receive"]
+        done = subprocess.run([MOUNT, *words, mount.point], input=sent, stderr=subprocess.DEVNULL)
+        assert done.returncode == 1, done
+        assert bytes_and_size(file.fileno()) == (b"one", 3)
+    disk.mend()
+    end_well(mount)
+    again = store_mount(folder)
+    assert (again.point / "file").read_text() == "one"
+    end_well(again)
+
+
+@case
+def an_open_file_is_that_of_a_restored_tree_that_was_not_synced(folder: Path):
+    seen_behind_a_failed_sync(folder, "restore")
+
+
+@case
+def an_open_file_is_that_of_a_received_tree_that_was_not_synced(folder: Path):
+    seen_behind_a_failed_sync(folder, "receive")
+
+
 @case
 def a_long_start_says_what_it_is_at(folder: Path):
     mount = store_mount(folder)
@@ -125,6 +281,8 @@ def a_long_start_says_what_it_is_at(folder: Path):
     disk = FailingDisk(folder, 2500)
     mount = store_mount(folder, environment=disk.environment)
     assert mount.stands and re.search("replays log 0, [0-9]+ of [0-9]+ MB, after 2 s\n", mount.said()), mount.said()
+    seconds = re.findall(" MB, after ([0-9]+) s\n", mount.said())
+    assert seconds[:3] == ["2", "4", "6"], mount.said()
     end_well(mount)
 
 

@@ -10,7 +10,7 @@ import time
 from pathlib import Path
 
 from own_mount import MOUNT, Mount, case, run_cases
-from own_store import PROGRAMS, digest, end_well, kill, logs, store_mount, sync
+from own_store import PROGRAMS, digest, end_well, kill, logs, reported, store_mount, sync
 
 OLD_MOUNT, WARNING, NEVER = os.environ.get("OLD_MOUNT"), "is of release 0.2 or before", ("--log-size", "1G")
 STORES, COUNT = PROGRAMS / "old_stores.tar.xz", 12
@@ -88,7 +88,7 @@ def read_and_write_anew(folder: Path, name: str) -> None:
     mount = store_mount(folder)
     check(mount, name)
     end_well(mount)
-    assert not mount.said(), mount.said()
+    assert not reported(mount), mount.said()
     old_refuses(folder)
     shutil.rmtree(folder / "store")
 

@@ -1,4 +1,5 @@
 """Images of a store in which snapshots stand: what is kept, behind kills and on full disks, and what is told."""
+import errno
 import hashlib
 import os
 import random
@@ -11,6 +12,7 @@ from collections.abc import Callable, Iterator
 from pathlib import Path
 from typing import NamedTuple
 
+from cases import refused as not_made
 from failing_disk import FailingDisk
 from kept import restore
 from mixed_trees import change, change_at_random, make, told
@@ -196,9 +198,12 @@ def sixty_four_snapshots_hold_an_image_up(folder: Path):
         snapshot(mount, f"s{i}")
     end_well(mount)
     mount = stands(store_mount(folder, *AT_ONCE))
+    not_made(errno.ENOSPC, snapshot, mount, "more")
+    (mount.point / "file").write_text("file" * 2000)
+    before = sum(it.stat().st_size for it in logs(folder))
     sync(mount.point)
     time.sleep(1)
-    assert files(folder) == first_files()
+    assert files(folder) == first_files() and sum(it.stat().st_size for it in logs(folder)) > before
     (mount.point / ".snapshots/s9").rmdir()
     write_image(folder, mount, 1)
     snapshot(mount, "s9")

@@ -177,8 +177,8 @@ static int print_name(struct pair in, const char *name, bool had, bool has, stru
 // The same, with the path down to that name.
 static int print_path(struct pair in, const char *name, bool had, bool has, struct bytes *path) {
     size_t length = path->length;
-    int err = bytes_print(path, "/%s", name);
-    if (!err) err = bytes_append(path, "", 1);
+    int err = bytes_append(path, "/", 1);
+    if (!err) err = bytes_append(path, name, strlen(name) + 1);
     if (!err) {
         path->length--;
         err = print_name(in, name, had, has, path);

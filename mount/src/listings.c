@@ -12,10 +12,11 @@
 #include <errno.h>
 #include <string.h>
 #include <sys/stat.h>
+#include <time.h>
 
 // A directory with more names is listed by a worker, and so is one whose number of names is not known, in a tree with
 // more. Of a page others wait for no more than so many names.
-enum { MANY_NAMES = 1000, MANY_IN_TREE = 10000, MOST_OF_A_PAGE = 128 };
+enum { MANY_NAMES = 1000, MANY_IN_TREE = 10000, MOST_OF_A_PAGE = 128, REST_NANOSECONDS = 50000 };
 // The number of an entry that is not known, as libfuse has it.
 #define NO_NUMBER 0xffffffff
 
@@ -25,6 +26,8 @@ struct page {
     const struct page_args *args;
     char *out;
     size_t length;
+    off_t at;      // the place of the next name
+    bool has_more; // enough names were looked for, and others come behind
 };
 
 // What is told of a name.
@@ -83,23 +86,42 @@ static size_t path_of_name(const struct bytes *names, size_t from) {
 // Place 0 is before `.`, 1 before `..`, and 2 and so many bytes of the listing before each name.
 static void put_names(struct page *page) {
     const struct bytes *names = page->args->names;
-    off_t at = page->args->at;
     unsigned left = MOST_OF_A_PAGE;
-    if (at == 0 && !put_dots(page, ".", ++at)) return;
-    if (at == 1 && !put_dots(page, "..", ++at)) return;
-    for (size_t from = path_of_name(names, (size_t)at - 2); left-- && from < names->length;) {
+    page->has_more = false;
+    if (page->at == 0 && !put_dots(page, ".", ++page->at)) return;
+    if (page->at == 1 && !put_dots(page, "..", ++page->at)) return;
+    size_t from = path_of_name(names, (size_t)page->at - 2);
+    for (; left && from < names->length; left--) {
         const char *name = names->at + from;
         from += strlen(name) + 1;
         if (!put_name(page, name + 1, name[0] == 'd', (off_t)from + 2)) return;
     }
+    page->at = (off_t)from + 2;
+    page->has_more = from < names->length;
 }
 
 // Under the request lock.
 static int fill_page(struct page *page) {
     page->out = mem_alloc(page->args->capacity);
     if (!page->out) return ENOMEM;
-    if (page->args->at >= 0) put_names(page);
+    page->at = page->args->at;
+    if (page->at >= 0) put_names(page);
     return 0;
+}
+
+// Whether all names that were looked for are gone, and others come behind: an empty page would be the listing's end.
+static bool is_to_go_on(const struct page *page) { return !page->length && page->has_more; }
+
+// Called with no lock. Between two parts there is a rest: so a request that waits for the lock gets it.
+static int go_on(struct page *page) {
+    int err = 0;
+    while (!err && is_to_go_on(page)) {
+        nanosleep(&(struct timespec){0, REST_NANOSECONDS}, NULL);
+        err = requests_begin(page->request);
+        if (!err) put_names(page);
+        err = requests_end(page->request, err);
+    }
+    return err;
 }
 
 static void answer_page(struct page *page, int err) {
@@ -145,7 +167,7 @@ static void take_names(const struct long_listing *listing, struct bytes *names) 
 static void list_and_answer(void *self) {
     struct long_listing *listing = self;
     const struct request *request = &listing->request;
-    struct page page = {request, &listing->args, NULL, 0};
+    struct page page = {.request = request, .args = &listing->args};
     struct bytes names = {NULL};
     int listed = worker_list(&listing->tree, listing->path, &names);
     uint64_t count = count_names(&names);
@@ -156,6 +178,7 @@ static void list_and_answer(void *self) {
     if (!err) take_names(listing, &names);
     if (!err) err = fill_page(&page);
     err = requests_end(request, err);
+    if (!err) err = go_on(&page);
     answer_page(&page, err);
     bytes_free(&names);
     mem_free(listing);
@@ -188,8 +211,34 @@ static bool has_left(struct long_listing *listing) {
     return false;
 }
 
+// A page that goes on.
+struct long_page {
+    struct request request;
+    struct page_args args;
+    struct page page;
+};
+
+static void go_on_and_answer(void *self) {
+    struct long_page *copy = self;
+    answer_page(&copy->page, go_on(&copy->page));
+    mem_free(copy);
+}
+
+// A replica has one thread.
+static bool page_has_left(const struct page *page) {
+    if (!is_to_go_on(page) || page->request->mount->replica) return false;
+    struct long_page *copy = mem_alloc(sizeof *copy);
+    if (!copy) return false;
+    *copy = (struct long_page){*page->request, *page->args, *page};
+    copy->page.request = &copy->request;
+    copy->page.args = &copy->args;
+    if (!worker_start(go_on_and_answer, copy)) return true;
+    mem_free(copy);
+    return false;
+}
+
 void listing_answer(const struct request *request, const struct page_args *args) {
-    struct page page = {request, args, NULL, 0};
+    struct page page = {.request = request, .args = args};
     int err = requests_begin(request);
     bool is_long = !err && is_wanted(args) && may_be_long(request->mount, args->directory);
     if (is_long && has_left(begin_long(request, args))) {
@@ -199,5 +248,7 @@ void listing_answer(const struct request *request, const struct page_args *args)
     if (!err && is_wanted(args)) err = list_now(request, args);
     if (!err) err = fill_page(&page);
     err = requests_end(request, err);
+    if (!err && page_has_left(&page)) return;
+    if (!err) err = go_on(&page);
     answer_page(&page, err);
 }

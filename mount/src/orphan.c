@@ -101,13 +101,24 @@ static int settle(struct mount *mount, struct inode *inode, const char *name, ui
     return is_aside ? 0 : orphan_delete(mount, inode, at);
 }
 
+// The removal of a name was answered before a store refused changes: else each later request would be refused with it.
+static void complete_begins(struct mount *mount) {
+    if (mount->store) store_complete_begins(mount->store);
+}
+
+static void complete_ends(struct mount *mount) {
+    if (mount->store) store_complete_ends(mount->store);
+}
+
 int orphan_flush_deferred(struct mount *mount) {
     assert(request_lock_is_held(mount));
     struct inode *inode = mount->deferred;
     char *name = mount->deferred_path;
     if (!inode) return 0;
     mount->deferred = NULL;
+    complete_begins(mount);
     int err = settle(mount, inode, name, mount->deferred_at);
+    complete_ends(mount);
     if (err) {
         mount->deferred = inode;
         return err;
@@ -149,7 +160,9 @@ int orphan_put(struct mount *mount, struct inode *inode, uint64_t at) {
         inode_put(inode);
         return 0;
     }
+    complete_begins(mount);
     int err = orphan_delete(mount, inode, at);
+    complete_ends(mount);
     if (err) inode_detach(inode); // The bytes go with the mount's own folder.
     return err;
 }

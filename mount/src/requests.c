@@ -725,9 +725,10 @@ static void notify_known(void) {
     bytes_free(&inodes);
 }
 
-// Tells the kernel to forget what it knows; where the tree is as it was, nothing.
-static void notify_stale(struct stale *stale, int err) {
-    if (!err && stale->is_all) {
+// Tells the kernel to forget what it knows; where the tree is as it was, nothing. Whether it is on the disk does not
+// matter.
+static void notify_stale(struct stale *stale, bool is_other_tree) {
+    if (is_other_tree && stale->is_all) {
         requests_invalidate_names();
         notify_known();
     }
@@ -759,11 +760,12 @@ static void restore(void *argument) {
     int err = requests_begin(request);
     if (!err) worker_fork(request->mount, NULL, &former);
     if (!err) err = snapshot_restore(request->mount, restoring->wanted.name, noted(&stale));
+    bool is_other_tree = !err;
     struct store *store = request->mount->store;
     err = requests_end(request, err);
     doorvervain_close(&former);
     if (!err && store && store_syncs_each(store)) err = store_sync(store);
-    notify_stale(&stale, err);
+    notify_stale(&stale, is_other_tree);
     count_entries(request->mount);
     if (!answer_failed(request, err)) fuse_reply_ioctl(request->req, 0, NULL, 0);
     mem_free(restoring);
@@ -793,8 +795,9 @@ static void receive(void *argument) {
     struct stale stale = find_stale();
     struct delta_answer answer;
     int err = delta_apply(request, &receiving->text, &answer, noted(&stale));
+    bool is_other_tree = !err && answer.outcome == DELTA_IS_DONE;
     if (!err && request->mount->store) err = store_sync(request->mount->store);
-    notify_stale(&stale, err);
+    notify_stale(&stale, is_other_tree);
     count_entries(request->mount);
     if (!answer_failed(request, err)) fuse_reply_ioctl(request->req, 0, &answer, sizeof answer);
     bytes_free(&receiving->text);

@@ -26,7 +26,8 @@ enum { NANOSECONDS = 1000000000, SOON = 250000, LONGEST_GATHERING = 10000000, PA
 // A request whose calls cannot be kept begins none. One that has begun is not refused on its way, since what it did may
 // have to be undone.
 static int may_change(const struct store *store) {
-    return store->err && store->batch->calls.length == store_ended_bytes(store->batch) ? EIO : 0;
+    bool has_begun = store->completing || store->batch->calls.length > store_ended_bytes(store->batch);
+    return store->err && !has_begun ? EIO : 0;
 }
 
 static struct bytes *call_begins(void *self, int *err) {
@@ -176,6 +177,17 @@ bool store_try_sync(struct store *store, int *err) {
     if (does) *err = take_and_sync(store, NULL);
     store_unlock_wal(store);
     return does;
+}
+
+void store_complete_begins(struct store *store) {
+    assert(requests_are_locked());
+    store->completing++;
+}
+
+// The image that ends the refusal has it. What follows is another request's, and is refused.
+void store_complete_ends(struct store *store) {
+    assert(requests_are_locked());
+    if (!--store->completing && store->err) store_end_calls(store);
 }
 
 int store_end_request(struct store *store, bool *has_changed) {

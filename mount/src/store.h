@@ -32,6 +32,9 @@ struct waiter {
 
 // Called under the request lock. At its end a request is one record; `has_changed`: it changed something.
 int store_end_request(struct store *store, bool *has_changed);
+// What is done between these two was answered before: so it is not refused where changes are.
+void store_complete_begins(struct store *store);
+void store_complete_ends(struct store *store);
 
 // The others are called with no lock.
 bool store_syncs_each(const struct store *store);

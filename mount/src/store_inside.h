@@ -91,6 +91,7 @@ struct store {
     struct batch_list full_batches; // before it
     unsigned changes;               // requests since the last sync that changed something
     unsigned expected;              // so many were there before the last sync
+    unsigned completing;            // above 0: what is done was answered before
     struct snapshots snapshots;     // in the order in which they were taken
     uint64_t last_snapshot;         // the last number
 
