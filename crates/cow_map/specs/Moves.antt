@@ -1,10 +1,10 @@
--- An entry that leaves one list for another.
+-- An entry that is moved from one map to another.
 use Rattle.std.specs.Prelude.{◌≡◌, ℕ, List, ◌∷◌, Option}
 use Rattle.std.specs.BTreeMap.{insert_entry}
 use Rattle.pathkey.specs.Order.{by_bytes}
 use Rattle.cow_map.specs.Places.{at_key}
 
--- the first entry of a list has left it, which gave rest, and stands in its place in another, where `was` stood
+-- the first entry of a list was moved, leaving rest, to its place in another, where `was` is the previous value at its key
 pub record IsFirstMoved {X : Type 0} (was : Option X) (from old rest new : List (List ℕ × X)) : Type 0 where
   pub key : List ℕ
   pub value : X

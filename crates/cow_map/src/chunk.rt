@@ -1,4 +1,4 @@
-//! A row of entries, which several lists may share.
+//! A chunk of entries, which several maps may share.
 ghost use Rattle.std.specs.Prelude.{◌≡◌, ◌<◌, ◌≤◌, [], take, drop, length, OnOk, OnErr, IfOk, IfErr};
 ghost use Rattle.pathkey.specs.Order.{by_bytes};
 ghost use Rattle.cow_map.specs.Places.{BeginsHeaded};
@@ -13,8 +13,8 @@ use std::cmp::Ordering;
 use std::marker::Model;
 use std::sync::Arc;
 
-/// Entries that other rows may share, of which the first ones may be gone, and beside them the head of the first one's key:
-/// a search among rows seldom reads more of a row. Contracts see the entries that are left.
+/// A shared vector of entries, of which the first may already be consumed, and the head of the first remaining entry's key, so
+/// that a search among chunks seldom reads more of a chunk. Contracts see the remaining entries.
 #[derive(Drop)]
 pub struct Chunk<T> {
     head: u64,
@@ -35,14 +35,14 @@ impl<T> Model for Chunk<T> {
 }
 
 impl<T: CopyValue> Chunk<T> {
-    /// A row without entries.
+    /// An empty chunk.
     pub(crate) fn new(alloc: Global) -> Result<Chunk<T>, NoMemory>
         ensures { IfOk result (λ r. r ≡ []) }
     {
         Ok(Chunk::of(Arc::new(alloc, Vec::new(alloc))?))
     }
 
-    /// A row of these entries.
+    /// A chunk of these entries.
     pub(crate) fn of(entries: Arc<Vec<SharedEntry<T>>>) -> Chunk<T>
         ensures { result ≡ entries.value.items }
     {
@@ -62,8 +62,8 @@ impl<T: CopyValue> Chunk<T> {
         &self.entries.as_slice()[self.consumed..]
     }
 
-    /// The order of the first entry to a key whose first `skip` bytes are the same, and how many leading bytes were seen to be.
-    /// Heads that differ say it alone.
+    /// Compares the first entry's key with a key whose first `skip` bytes are the same, and returns the order and how many
+    /// leading bytes were found equal. Heads that differ decide without reading the entry.
     #[inline(always)]
     pub(crate) fn cmp_from(&self, key: &Key, skip: usize) -> (Ordering, usize)
         requires { 0 < length self.now }
@@ -77,7 +77,7 @@ impl<T: CopyValue> Chunk<T> {
         self.entries()[0].key().cmp_from(key, skip)
     }
 
-    /// The same entries, which both rows then share.
+    /// Clones the chunk; both then share the entries.
     pub(crate) fn share(&self) -> Result<Chunk<T>, NoMemory>
         ensures { IfOk result (λ r. r ≡ self.now) }
     {
@@ -89,7 +89,7 @@ impl<T: CopyValue> Chunk<T> {
         })
     }
 
-    /// Changes the entries, which first become this row's own. On want of memory the change comes back.
+    /// Changes the entries, which are copied first if they are shared. If an allocation fails the change is returned.
     pub(crate) fn change<C: ChunkEdit<T>>(&mut self, change: C) -> Result<C::Answer, C>
         requires { C.fits change self.old }
         ensures done { IfOk result (λ a. C.does change self.old self.new a) }
@@ -110,7 +110,7 @@ impl<T: CopyValue> Chunk<T> {
         }
     }
 
-    /// Takes the first entries away. It takes no memory.
+    /// Drops the first entries. It allocates nothing.
     pub(crate) fn drop_front(&mut self, count: usize)
         requires { count ≤ length self.old }
         ensures { self.new ≡ drop count self.old }
@@ -120,7 +120,7 @@ impl<T: CopyValue> Chunk<T> {
     }
 }
 
-/// The head of the first entry's key; 0 where there is none.
+/// The head of the first entry's key; 0 if there are no entries.
 #[inline(always)]
 fn first_head<T: CopyValue>(entries: &[SharedEntry<T>]) -> u64
     ensures { BeginsHeaded result entries.now }
@@ -131,7 +131,7 @@ fn first_head<T: CopyValue>(entries: &[SharedEntry<T>]) -> u64
     }
 }
 
-/// Takes the first entries out where nobody else holds them. It answers how many are still to be passed over.
+/// Drops the first entries if the vector is not shared. It returns how many are still to be skipped.
 fn drop_consumed<T: CopyValue>(entries: &mut Arc<Vec<SharedEntry<T>>>, consumed: usize) -> usize
     requires { consumed ≤ length entries.old.value.items }
     ensures same { drop result entries.new.value.items ≡ drop consumed entries.old.value.items }
@@ -146,7 +146,7 @@ fn drop_consumed<T: CopyValue>(entries: &mut Arc<Vec<SharedEntry<T>>>, consumed:
     }
 }
 
-/// Takes a list of its own in the place of one that is shared, without the first entries, which are gone.
+/// Replaces a shared vector by an own copy, without the first entries, which are consumed.
 fn own<T: CopyValue>(
     entries: &mut Arc<Vec<SharedEntry<T>>>,
     consumed: usize,
@@ -165,7 +165,7 @@ fn own<T: CopyValue>(
     Ok(())
 }
 
-/// Takes the first entries out.
+/// Removes the first entries.
 fn drop_first<T: CopyValue>(entries: &mut Vec<SharedEntry<T>>, count: usize)
     requires { count ≤ length entries.old.items }
     ensures { entries.new.items ≡ drop count entries.old.items }
@@ -175,7 +175,7 @@ fn drop_first<T: CopyValue>(entries: &mut Vec<SharedEntry<T>>, count: usize)
     }
 }
 
-/// The same entries, which both lists of them then share.
+/// A copy of the vector; both then share the entries.
 pub(crate) fn share_items<T: CopyValue>(
     alloc: Global,
     items: &[SharedEntry<T>],

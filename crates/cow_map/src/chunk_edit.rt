@@ -1,4 +1,4 @@
-//! What is done to the entries of one row, once nobody else holds it.
+//! Changes of the entries of one chunk, once it is not shared.
 ghost use Rattle.std.specs.Prelude.{◌≡◌, ◌<◌, ◌≤◌, ◌+◌, ◌++◌, ℕ, List, Result, length, take, drop, OnOk, OnErr, IfOk, IfErr, vec_len, vec_capacity, ⊤};
 ghost use Rattle.std.specs.List.{insert};
 ghost use Rattle.cow_map.specs.Places.{Rises, IsHolder};
@@ -13,24 +13,24 @@ use pathkey::{Key, NoMemory};
 use std::alloc::Global;
 use std::sync::Arc;
 
-/// A change of the entries of one row.
+/// A change of the entries of one chunk.
 pub(crate) trait ChunkEdit<T> {
-    /// What it answers.
+    /// The result.
     type Answer;
 
-    /// The entries that it can be done to.
+    /// The entries that it applies to.
     ghost fits: { Self → List (List ℕ × T) → Type 0 };
 
-    /// What becomes of the entries, with the answer.
+    /// The entries afterwards, and the result.
     ghost does: { Self → List (List ℕ × T) → List (List ℕ × T) → Self.Answer → Type 0 };
 
-    /// Does it.
+    /// Applies the change.
     fn change(self, entries: &mut Vec<SharedEntry<T>>) -> Self::Answer
         requires { fits self entries.old.items }
         ensures { does self entries.old.items entries.new.items result };
 }
 
-/// A value is put at a key. It answers what stood there, or the pair where memory is refused.
+/// Puts a value at a key. It returns the previous value, or the pair if an allocation fails.
 #[derive(Drop)]
 pub(crate) struct Put<T> {
     pub(crate) key: Key,
@@ -69,7 +69,7 @@ impl<T: CopyValue> ChunkEdit<T> for Put<T> {
     }
 }
 
-/// An entry of another list is put at its key. It answers what stood there, or the item where memory is refused.
+/// Puts an entry of another map at its key. It returns the previous value, or the entry if an allocation fails.
 #[derive(Drop)]
 pub(crate) struct PutEntry<T> {
     pub(crate) item: SharedEntry<T>,
@@ -94,7 +94,7 @@ impl<T: CopyValue> ChunkEdit<T> for PutEntry<T> {
     }
 }
 
-/// The value at a key is changed. Where none stands there, or memory is refused, the edit comes back.
+/// Edits the value at a key. If there is none, or an allocation fails, the edit is returned.
 #[derive(Drop)]
 pub(crate) struct EditEntry<'a, E> {
     pub(crate) key: &'a Key,
@@ -124,7 +124,7 @@ impl<'a, T: CopyValue, E: Edit<T>> ChunkEdit<T> for EditEntry<'a, E> {
     }
 }
 
-/// The entries from this number on leave for a row of their own.
+/// Moves the entries from this index on to a new chunk.
 #[derive(Drop)]
 pub(crate) struct SplitOff {
     pub(crate) at: usize,
@@ -149,7 +149,7 @@ impl<T: CopyValue> ChunkEdit<T> for SplitOff {
     }
 }
 
-/// The entries from one number up to another leave for a row of their own.
+/// Moves the entries from one index up to another to a new chunk.
 #[derive(Drop)]
 pub(crate) struct ExtractBetween {
     pub(crate) from: usize,
@@ -173,7 +173,7 @@ impl<T: CopyValue> ChunkEdit<T> for ExtractBetween {
     }
 }
 
-/// All entries leave.
+/// Removes all entries.
 #[derive(Drop)]
 pub(crate) struct TakeAll;
 
@@ -190,7 +190,7 @@ impl<T: CopyValue> ChunkEdit<T> for TakeAll {
     }
 }
 
-/// The entries of another row come behind these. Where memory is refused that row comes back.
+/// Appends the entries of another chunk. If an allocation fails that chunk is returned.
 #[derive(Drop)]
 pub(crate) struct MergeChunk<T> {
     pub(crate) row: Chunk<T>,
@@ -218,7 +218,7 @@ impl<T: CopyValue> ChunkEdit<T> for MergeChunk<T> {
     }
 }
 
-/// Puts an item in the place of the one at its key, and answers the value of that one. On want of memory it comes back.
+/// Replaces the entry at the same key, and returns the value of the old one. If an allocation fails the new entry is returned.
 fn swap_item<T: CopyValue>(
     entries: &mut Vec<SharedEntry<T>>,
     i: usize,
@@ -235,7 +235,7 @@ fn swap_item<T: CopyValue>(
     }
 }
 
-/// Puts entries behind others, for which there is room.
+/// Appends entries, for which there is capacity.
 fn put_back<T: CopyValue>(entries: &mut Vec<SharedEntry<T>>, back: Vec<SharedEntry<T>>)
     requires { vec_len entries.old + vec_len back ≤ vec_capacity entries.old }
     ensures { entries.new.items ≡ entries.old.items ++ back.items }

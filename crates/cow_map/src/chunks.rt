@@ -1,4 +1,4 @@
-//! Rows one behind the other: which of them has a key, the walk to it, and rows that are made two or joined.
+//! The chunks of a map in order: which of them has a key, the walk to it, and how chunks are split and merged.
 ghost use Rattle.std.specs.Prelude.{◌≡◌, ◌+◌, ◌-◌, ◌<◌, ◌≤◌, ◌^◌, ◌++◌, ◌∷◌, [], length, take, drop, None, Some, OnOk, OnErr, IfOk, IfErr, IfNone, IfSome, true, false, vec_len, vec_capacity};
 ghost use Rattle.std.specs.List.{insert, remove_range, slice_get, slice_index_or, slice_set};
 ghost use Rattle.cow_map.specs.Places.{AreBefore, AreFrom};
@@ -14,11 +14,12 @@ use pathkey::{Key, NoMemory};
 use std::alloc::Global;
 use std::cmp::Ordering;
 
-/// The most entries of a row.
+/// The maximum number of entries of a chunk.
 const MAX_ENTRIES: usize = 64;
 
-/// How many of the rows begin at the key or before it, up to the first that does not. The last one is asked first: keys often
-/// come in their order. Then it bisects. What the key shares with the rows on either side, all between them share too.
+/// How many of the chunks begin at or before the key, up to the first that does not. The last chunk is compared first, since
+/// keys often come in order; then it bisects. The bytes that the key shares with the chunks on either side are shared by all
+/// chunks between them.
 fn chunk_before<T: CopyValue>(rows: &[Chunk<T>], key: &Key) -> usize
     requires { AreRows rows.now }
     ensures number { result ≡ row_number key.now rows.now }
@@ -52,7 +53,7 @@ fn chunk_before<T: CopyValue>(rows: &[Chunk<T>], key: &Key) -> usize
     low
 }
 
-/// The number of the row in which the key stands or would.
+/// The index of the chunk to which the key belongs.
 pub(crate) fn chunk_index<T: CopyValue>(rows: &[Chunk<T>], key: &Key) -> usize
     requires { AreRows rows.now }
     ensures number { result ≡ chunk_index key.now rows.now }
@@ -65,7 +66,7 @@ pub(crate) fn chunk_index<T: CopyValue>(rows: &[Chunk<T>], key: &Key) -> usize
     chunk_before(later, key)
 }
 
-/// Changes the entries of the row with this number. On want of memory the change comes back.
+/// Changes the entries of the chunk at this index. If an allocation fails the change is returned.
 pub(crate) fn edit_chunk<T: CopyValue, C: ChunkEdit<T>>(
     rows: &mut Vec<Chunk<T>>,
     n: usize,
@@ -83,7 +84,7 @@ pub(crate) fn edit_chunk<T: CopyValue, C: ChunkEdit<T>>(
     row.change(change)
 }
 
-/// Makes a first row of one entry. On want of memory it comes back.
+/// Adds a first chunk of one entry. If an allocation fails the entry is returned.
 pub(crate) fn begin<T: CopyValue>(
     rows: &mut Vec<Chunk<T>>,
     key: Key,
@@ -103,7 +104,7 @@ pub(crate) fn begin<T: CopyValue>(
     Ok(())
 }
 
-/// Makes a first row of one item. On want of memory it comes back.
+/// Adds a first chunk of one shared entry. If an allocation fails the entry is returned.
 pub(crate) fn begin_item<T: CopyValue>(
     rows: &mut Vec<Chunk<T>>,
     item: SharedEntry<T>,
@@ -122,7 +123,7 @@ pub(crate) fn begin_item<T: CopyValue>(
     Ok(())
 }
 
-/// A row of one entry. On want of memory it comes back.
+/// A chunk of one entry. If an allocation fails the entry is returned.
 fn row_with<T: CopyValue>(alloc: Global, key: Key, value: T) -> Result<Chunk<T>, (Key, T)>
     ensures row { IfOk result (λ r. r ≡ (key, value) ∷ []) }
     ensures back { IfErr result (λ p. p ≡ (key, value)) }
@@ -138,7 +139,7 @@ fn row_with<T: CopyValue>(alloc: Global, key: Key, value: T) -> Result<Chunk<T>,
     }
 }
 
-/// A row of one item. On want of memory it comes back.
+/// A chunk of one shared entry. If an allocation fails the entry is returned.
 fn row_of<T: CopyValue>(alloc: Global, item: SharedEntry<T>) -> Result<Chunk<T>, SharedEntry<T>>
     ensures row { IfOk result (λ r. r ≡ item ∷ []) }
     ensures back { IfErr result (λ i. i ≡ item) }
@@ -154,8 +155,8 @@ fn row_of<T: CopyValue>(alloc: Global, item: SharedEntry<T>) -> Result<Chunk<T>,
     }
 }
 
-/// Makes two rows of the one in which the key stands or would, where it is full. Answers the number of the row in which it then
-/// does, and which has room for one entry more; none where memory is refused.
+/// Splits the chunk to which the key belongs if it is full. Returns the index of the chunk to which the key then belongs, and
+/// which has room for one more entry; `None` if an allocation fails.
 pub(crate) fn split_full<T: CopyValue>(rows: &mut Vec<Chunk<T>>, key: &Key) -> Option<usize>
     requires rows { AreRows rows.old.items }
     requires some { 0 < length rows.old.items }
@@ -173,7 +174,7 @@ pub(crate) fn split_full<T: CopyValue>(rows: &mut Vec<Chunk<T>>, key: &Key) -> O
     chunk_with_space(rows.as_slice(), key)
 }
 
-/// The number of the row in which the key stands or would, where that has room.
+/// The index of the chunk to which the key belongs, if it has room.
 fn chunk_with_space<T: CopyValue>(rows: &[Chunk<T>], key: &Key) -> Option<usize>
     requires rows { AreRows rows.now }
     requires some { 0 < length rows.now }
@@ -189,7 +190,7 @@ fn chunk_with_space<T: CopyValue>(rows: &[Chunk<T>], key: &Key) -> Option<usize>
     }
 }
 
-/// Makes two rows of the one in which the key stands or would, where it is full and memory is there.
+/// Splits the chunk to which the key belongs, if it is full and no allocation fails.
 fn split_if_full<T: CopyValue>(rows: &mut Vec<Chunk<T>>, key: &Key)
     requires rows { AreRows rows.old.items }
     requires some { 0 < length rows.old.items }
@@ -206,8 +207,8 @@ fn split_if_full<T: CopyValue>(rows: &mut Vec<Chunk<T>>, key: &Key)
     let _ = split_chunk(rows, n, at);
 }
 
-/// Where a full row is made two: behind most of its entries where the key comes behind all, so that keys that come in
-/// their order leave rows that are nearly full.
+/// The index at which a full chunk is split: near its end if the key is after all keys, so that insertions in key order leave
+/// chunks nearly full.
 fn middle<T: CopyValue>(row: &Chunk<T>, key: &Key) -> usize
     requires { 64 ≤ length row.now }
     ensures some { 0 < result }
@@ -221,8 +222,7 @@ fn middle<T: CopyValue>(row: &Chunk<T>, key: &Key) -> usize
     len / 2
 }
 
-/// Moves the entries of a row from number `at` on into a row of their own behind it. On want of memory the rows are as they
-/// were.
+/// Moves the entries of a chunk from index `at` on to a new chunk after it. If an allocation fails the chunks are unchanged.
 fn split_chunk<T: CopyValue>(rows: &mut Vec<Chunk<T>>, n: usize, at: usize) -> Result<(), NoMemory>
     requires rows { AreRows rows.old.items }
     requires row { n < length rows.old.items }
@@ -245,7 +245,7 @@ fn split_chunk<T: CopyValue>(rows: &mut Vec<Chunk<T>>, n: usize, at: usize) -> R
     Ok(())
 }
 
-/// Moves the entries of a row from number `at` on out of it.
+/// Moves the entries of a chunk from index `at` on out of it.
 fn split_tail<T: CopyValue>(
     rows: &mut Vec<Chunk<T>>,
     n: usize,
@@ -265,7 +265,7 @@ fn split_tail<T: CopyValue>(
     }
 }
 
-/// Moves the entries of a row from one number up to another out of it.
+/// Moves the entries of a chunk from one index up to another out of it.
 pub(crate) fn extract_between<T: CopyValue>(
     rows: &mut Vec<Chunk<T>>,
     n: usize,
@@ -285,7 +285,7 @@ pub(crate) fn extract_between<T: CopyValue>(
     }
 }
 
-/// Moves the rows' entries at the key and behind it into rows of their own. On want of memory the entries are as they were.
+/// Moves the entries at or after the key to chunks of their own. If an allocation fails the entries are unchanged.
 pub(crate) fn split_chunks_at<T: CopyValue>(
     rows: &mut Vec<Chunk<T>>,
     key: &Key,
@@ -306,8 +306,8 @@ pub(crate) fn split_chunks_at<T: CopyValue>(
     Ok(back)
 }
 
-/// Makes two rows of the one that has entries on both sides of the key, if one has, and answers the number from which on the
-/// rows stand at the key or behind it.
+/// Splits the chunk that has entries on both sides of the key, if there is one, and returns the index from which on the chunks
+/// are at or after the key.
 fn split_at<T: CopyValue>(rows: &mut Vec<Chunk<T>>, key: &Key) -> Result<usize, NoMemory>
     requires { AreRows rows.old.items }
     ensures same { joined rows.new.items ≡ joined rows.old.items }
@@ -334,7 +334,7 @@ fn split_at<T: CopyValue>(rows: &mut Vec<Chunk<T>>, key: &Key) -> Result<usize, 
     Ok(n + 1)
 }
 
-/// Makes one row of two neighbours that have few entries, where memory is there.
+/// Merges two adjacent chunks that have few entries, if no allocation fails.
 pub(crate) fn merge_small<T: CopyValue>(rows: &mut Vec<Chunk<T>>, m: usize)
     requires { AreRows rows.old.items }
     ensures rows { AreRows rows.new.items }
@@ -348,7 +348,7 @@ pub(crate) fn merge_small<T: CopyValue>(rows: &mut Vec<Chunk<T>>, m: usize)
     }
 }
 
-/// Moves the entries of a row behind those of the row before it, where memory is there.
+/// Appends the entries of a chunk to the chunk before it, if no allocation fails.
 fn merge_chunks<T: CopyValue>(rows: &mut Vec<Chunk<T>>, m: usize)
     requires rows { AreRows rows.old.items }
     requires first { 0 < m }
@@ -363,7 +363,7 @@ fn merge_chunks<T: CopyValue>(rows: &mut Vec<Chunk<T>>, m: usize)
     }
 }
 
-/// Moves the entries of a row behind those of the row with this number. On want of memory it comes back.
+/// Appends the entries of a chunk to the chunk at this index. If an allocation fails the chunk is returned.
 fn put_behind<T: CopyValue>(rows: &mut Vec<Chunk<T>>, n: usize, row: Chunk<T>) -> Option<Chunk<T>>
     requires { n < length rows.old.items }
     ensures joined { IfNone result (rows.new.items ≡ slice_set rows.old.items n (slice_index_or rows.old.items n [] ++ row)) }
@@ -379,7 +379,7 @@ fn put_behind<T: CopyValue>(rows: &mut Vec<Chunk<T>>, n: usize, row: Chunk<T>) -
     }
 }
 
-/// Puts a row to its place, for which there is room.
+/// Inserts a chunk at its index, for which there is capacity.
 fn put_at<T: CopyValue>(rows: &mut Vec<Chunk<T>>, m: usize, row: Chunk<T>)
     requires bound { m ≤ length rows.old.items }
     requires room { vec_len rows.old < vec_capacity rows.old }
@@ -390,7 +390,7 @@ fn put_at<T: CopyValue>(rows: &mut Vec<Chunk<T>>, m: usize, row: Chunk<T>)
     };
 }
 
-/// Whether rows have no entry.
+/// Whether the chunks have no entries.
 pub(crate) fn has_none<T: CopyValue>(rows: &[Chunk<T>]) -> bool
     requires { AreSized rows.now }
     ensures yes { result ≡ true → joined rows.now ≡ [] }
@@ -402,7 +402,7 @@ pub(crate) fn has_none<T: CopyValue>(rows: &[Chunk<T>]) -> bool
     }
 }
 
-/// How many entries rows have.
+/// The total number of entries of the chunks.
 pub(crate) fn entries_in<T: CopyValue>(rows: &[Chunk<T>]) -> usize
     requires { length (joined rows.now) < 2 ^ 64 }
     ensures { result ≡ length (joined rows.now) }
@@ -414,7 +414,7 @@ pub(crate) fn entries_in<T: CopyValue>(rows: &[Chunk<T>]) -> usize
     count
 }
 
-/// How many rows have only entries among the first `count`, and how many of these are then left.
+/// How many chunks have only entries among the first `count`, and how many of these entries are in the chunk after them.
 pub(crate) fn whole_rows<T: CopyValue>(rows: &[Chunk<T>], count: usize) -> (usize, usize)
     requires { count ≤ length (joined rows.now) }
     ensures rows { result.0 ≤ length rows.now }
@@ -431,7 +431,7 @@ pub(crate) fn whole_rows<T: CopyValue>(rows: &[Chunk<T>], count: usize) -> (usiz
     (n, left)
 }
 
-/// Takes the first entries of the first row away, of which it has more. It takes no memory.
+/// Drops the first entries of the first chunk, which has more. It allocates nothing.
 pub(crate) fn drop_front_of_first<T: CopyValue>(rows: &mut Vec<Chunk<T>>, count: usize)
     requires rows { AreRows rows.old.items }
     requires some { 0 < length rows.old.items }
@@ -443,7 +443,7 @@ pub(crate) fn drop_front_of_first<T: CopyValue>(rows: &mut Vec<Chunk<T>>, count:
     row.drop_front(count);
 }
 
-/// The same entries, in rows that both share.
+/// Clones the chunks; both lists then share the entries.
 pub(crate) fn share_rows<T: CopyValue>(
     rows: &[Chunk<T>],
     alloc: Global,

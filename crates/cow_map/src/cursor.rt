@@ -1,4 +1,4 @@
-//! A walk through entries, in the order of their keys.
+//! A cursor through entries, in the order of their keys.
 ghost use Rattle.std.specs.Prelude.{◌≡◌, ◌++◌, [], IfNone};
 ghost use Rattle.std.specs.Option.{option_map, option_to_list};
 ghost use Rattle.std.specs.List.{slice_get};
@@ -10,7 +10,7 @@ use crate::stored::CopyValue;
 use pathkey::Key;
 use std::marker::Model;
 
-/// The entries that a walk has still before it. Contracts see the list of them.
+/// The entries that a cursor has not yet returned. Contracts see the list of them.
 #[derive(Drop)]
 pub struct Cursor<'a, T> {
     entries: &'a [SharedEntry<T>],
@@ -29,7 +29,7 @@ impl<'a, T> Model for Cursor<'a, T> {
 }
 
 impl<'a, T: CopyValue> Cursor<'a, T> {
-    /// A walk through entries, and then through rows.
+    /// A cursor through entries, and then through chunks.
     pub(crate) fn of(entries: &'a [SharedEntry<T>], later: &'a [Chunk<T>]) -> Cursor<'a, T>
         requires { AreSized later.now }
         ensures { result ≡ entries.now ++ joined later.now }
@@ -46,14 +46,14 @@ impl<'a, T: CopyValue> Cursor<'a, T> {
         }
     }
 
-    /// The item of the first entry that is left.
+    /// The next entry in its shared form, without advancing.
     pub(crate) fn first(&self) -> Option<&'a SharedEntry<T>>
         ensures { option_map (λ i. i.now) result ≡ slice_get self.now 0 }
     {
         self.entries.first()
     }
 
-    /// The first entry that is left.
+    /// The next entry, without advancing.
     pub fn peek(&self) -> Option<(&'a Key, &'a T)>
         ensures { option_map (λ p. (p.0.now, p.1.now)) result ≡ slice_get self.now 0 }
     {
@@ -63,7 +63,7 @@ impl<'a, T: CopyValue> Cursor<'a, T> {
         }
     }
 
-    /// Goes past the first entry that is left.
+    /// Advances past the next entry.
     pub fn next(&mut self) -> Option<(&'a Key, &'a T)>
         ensures passed { self.old ≡ option_to_list (option_map (λ p. (p.0.now, p.1.now)) result) ++ self.new }
         ensures end { IfNone result (self.old ≡ []) }

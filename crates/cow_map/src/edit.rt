@@ -1,26 +1,26 @@
-//! A change of the value at a key, in its place.
+//! An edit of the value at a key, in place.
 ghost use Rattle.std.specs.Prelude.{◌≡◌};
 
-/// A change of one value.
+/// An edit of one value.
 pub trait Edit<T>: Drop {
-    /// What it answers.
+    /// The result.
     type Answer;
 
-    /// What becomes of the value, with the answer.
+    /// The value afterwards, and the result.
     ghost does: { Self → T → T → Self.Answer → Type 0 };
 
-    /// Changes the value.
+    /// Applies the edit.
     fn edit(self, value: &mut T) -> Self::Answer
         ensures { does self value.old value.new result };
 }
 
-/// What became of an edit at a key.
+/// The outcome of an edit at a key.
 #[derive(Drop)]
 pub enum Edited<A, E> {
-    /// It was done, with this answer.
+    /// The edit was applied, with this result.
     Done(A),
-    /// Nothing stands at the key. The edit comes back.
+    /// The key is absent. The edit is returned.
     Absent(E),
-    /// Memory was refused. The edit comes back, and the value is as it was.
+    /// An allocation failed. The edit is returned, and the value is unchanged.
     Refused(E),
 }

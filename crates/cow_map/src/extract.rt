@@ -1,4 +1,4 @@
-//! The entries of a range, out of rows.
+//! Extracts the entries of a range from chunks.
 ghost use Rattle.std.specs.Prelude.{◌≡◌, ◌+◌, ◌≤◌, ◌++◌, not, length, OnOk, OnErr, IfOk, IfSome, vec_len, vec_capacity};
 ghost use Rattle.std.specs.List.{filter};
 ghost use Rattle.std.specs.Option.{option_copied};
@@ -13,7 +13,7 @@ use crate::search::count_before;
 use crate::stored::CopyValue;
 use pathkey::{Key, KeyRange, NoMemory};
 
-/// Moves the entries inside the range out. On want of memory the entries are as they were.
+/// Extracts the entries in the range. If an allocation fails the entries are unchanged.
 pub(crate) fn extract_range<T: CopyValue>(
     rows: &mut Vec<Chunk<T>>,
     range: &KeyRange,
@@ -36,8 +36,8 @@ pub(crate) fn extract_range<T: CopyValue>(
     Ok(out)
 }
 
-/// Where the range begins and ends within one row that has other entries too: the number of the row, and the numbers of its
-/// entries from which on and up to which they stand in the range.
+/// The span of a range within one chunk that also has other entries: the index of the chunk, and the indexes of its entries
+/// from which on and up to which they are in the range.
 fn span_of<T: CopyValue>(rows: &[Chunk<T>], range: &KeyRange) -> Option<(usize, usize, usize)>
     requires { AreRows rows.now }
     ensures { IfSome result (λ s. IsSpan range.now s.0 s.1 s.2 rows.now) }
@@ -65,7 +65,7 @@ fn span_of<T: CopyValue>(rows: &[Chunk<T>], range: &KeyRange) -> Option<(usize, 
     Some((n, from, to))
 }
 
-/// Likewise as [`extract_range`], by rows of their own for the entries on both sides.
+/// Like [`extract_range`], but splits the chunks at both ends of the range.
 fn extract_split<T: CopyValue>(
     rows: &mut Vec<Chunk<T>>,
     range: &KeyRange,
@@ -93,7 +93,7 @@ fn extract_split<T: CopyValue>(
     }
 }
 
-/// Moves the rows' entries from the end on into rows of their own; `None` is no end.
+/// Moves the entries at or after `end` to chunks of their own; `None` is unbounded.
 fn split_off_end<T: CopyValue>(
     rows: &mut Vec<Chunk<T>>,
     end: Option<&Key>,
@@ -114,7 +114,7 @@ fn split_off_end<T: CopyValue>(
     }
 }
 
-/// Puts rows behind others, for which there is room.
+/// Appends chunks, for which there is capacity.
 fn put_behind<T: CopyValue>(rows: &mut Vec<Chunk<T>>, later: Vec<Chunk<T>>)
     requires { vec_len rows.old + vec_len later ≤ vec_capacity rows.old }
     ensures { rows.new.items ≡ rows.old.items ++ later.items }

@@ -1,19 +1,19 @@
-//! Entries that rise by key, in shared rows.
+//! A sorted map in shared chunks.
 //!
-//! What it stands for: a list of pairs of a key and a value, in which each key stands before the later ones. Contracts see
-//! that list alone, as a sorted map's.
+//! What it means: a list of pairs of a key and a value, sorted by key without duplicates. Contracts see that list alone, as for
+//! any sorted map.
 //!
-//! What it relies on:
+//! Its invariants:
 //!
-//! - the entries of all rows, one row behind the other, are that list;
-//! - no row is empty, and none has more than 64 entries;
-//! - who changes a row holds it alone: a row that others share is copied first. Only the first entries of a row can leave it
-//!   without that: the row then begins behind them.
+//! - the entries of all chunks, concatenated, are that list;
+//! - no chunk is empty, and none has more than 64 entries;
+//! - a chunk is changed only by its sole owner: a shared chunk is copied first. Only the first entries of a chunk can be
+//! dropped without a copy: the chunk then begins after them.
 //!
-//! `chunk` is one row, `chunk_edit` what is done to its entries, `search` where a key stands among them. `strides` is a search for
-//! any sorted slice, which the crates above use. `chunks` has the rows: which of them has a key, the one way to change it, and
-//! rows that are made two or joined. `split_tail` takes a range out, `neighbours` finds what stands next to a key. `map` is what callers
-//! see, and `cursor` goes through it.
+//! `chunk` is one chunk, `chunk_edit` has the changes of its entries, and `search` finds a key among them. `strides` is a
+//! search for any sorted slice, which the crates above use. `chunks` has the list of chunks: which of them has a key, the only
+//! way to change one, and how chunks are split and merged. `extract` extracts a range, and `neighbours` finds the entries next
+//! to a key. `map` is the public interface, and `cursor` iterates over a map.
 #![tactic(auto)]
 
 pub(crate) mod chunk;

@@ -1,4 +1,4 @@
-//! The list of entries that callers see.
+//! The map, as callers see it.
 ghost use Rattle.std.specs.Prelude.{◌≡◌, ◌+◌, ◌^◌, ◌<◌, ◌≤◌, ◌++◌, ◌∷◌, [], not, true, false, length, take, drop, OnOk, OnErr, IfOk, IfNone, IfSome};
 ghost use Rattle.std.specs.Option.{option_copied, option_map};
 ghost use Rattle.std.specs.List.{filter, slice_get};
@@ -27,7 +27,7 @@ use pathkey::{Key, KeyRange, NoMemory};
 use std::alloc::Global;
 use std::marker::Model;
 
-/// Values by their keys, in shared rows. Contracts see the list of the entries, which rise by key.
+/// A sorted map in shared chunks. Contracts see the list of its entries, sorted by key.
 #[derive(Drop)]
 pub struct CowMap<T> {
     rows: Vec<Chunk<T>>,
@@ -46,7 +46,7 @@ impl<T> Model for CowMap<T> {
 }
 
 impl<T: CopyValue> CowMap<T> {
-    /// No entries. It takes no memory.
+    /// An empty map. It allocates nothing.
     pub fn new(alloc: Global) -> CowMap<T>
         ensures { result ≡ [] }
     {
@@ -55,14 +55,14 @@ impl<T: CopyValue> CowMap<T> {
         }
     }
 
-    /// Says that the entries rise by key. It does nothing.
+    /// Brings the invariant, that the entries are sorted by key, into a proof. It does nothing at run time.
     pub fn assert_invariant(&self)
         ensures { Rises self.now }
     {
         let _ = self.rows.len();
     }
 
-    /// Whether there is no entry.
+    /// Whether the map is empty.
     pub fn is_empty(&self) -> bool
         ensures yes { result ≡ true → self.now ≡ [] }
         ensures no { result ≡ false → 0 < length self.now }
@@ -70,7 +70,7 @@ impl<T: CopyValue> CowMap<T> {
         has_none(self.rows.as_slice())
     }
 
-    /// How many entries there are, where their number is known to fit. It asks each row.
+    /// The number of entries, if it is known to fit in a `usize`. It visits each chunk.
     pub fn len(&self) -> usize
         requires { length self.now < 2 ^ 64 }
         ensures { result ≡ length self.now }
@@ -78,14 +78,15 @@ impl<T: CopyValue> CowMap<T> {
         entries_in(self.rows.as_slice())
     }
 
-    /// What stands at the key.
+    /// The value at the key.
     pub fn get(&self, key: &Key) -> Option<&T>
         ensures { option_copied result ≡ at_key key.now self.now }
     {
         get_among(self.rows.as_slice(), key)
     }
 
-    /// Puts a value at the key, and answers what stood there. On want of memory key and value come back, and all is as it was.
+    /// Puts a value at the key, and returns the previous one. If an allocation fails the key and the value are returned, and
+    /// the map is unchanged.
     #[inline(always)]
     pub fn put(&mut self, key: Key, value: T) -> Result<Option<T>, (Key, T)>
         ensures { IsPut key value self.old self.new result }
@@ -103,7 +104,7 @@ impl<T: CopyValue> CowMap<T> {
         }
     }
 
-    /// Changes the value at the key in its place.
+    /// Edits the value at the key in place.
     #[inline(always)]
     pub fn edit<E: Edit<T>>(&mut self, key: &Key, edit: E) -> Edited<E::Answer, E>
         ensures { IsEdited (E.does edit) key.now edit self.old self.new result }
@@ -118,21 +119,21 @@ impl<T: CopyValue> CowMap<T> {
         }
     }
 
-    /// All entries from the first on.
+    /// All entries, in key order.
     pub fn cursor(&self) -> Cursor<'_, T>
         ensures { result ≡ self.now }
     {
         Cursor::of(&[], self.rows.as_slice())
     }
 
-    /// The entries at the key and behind it.
+    /// The entries at or after the key.
     pub fn lower_bound(&self, key: &Key) -> Cursor<'_, T>
         ensures { result ≡ drop (place key.now self.now) self.now }
     {
         walk_from_among(self.rows.as_slice(), key)
     }
 
-    /// The entries behind the key.
+    /// The entries after the key.
     pub fn upper_bound(&self, key: &Key) -> Cursor<'_, T>
         ensures { result ≡ drop (place_past key.now self.now) self.now }
     {
@@ -153,14 +154,14 @@ impl<T: CopyValue> CowMap<T> {
         last_before_among(self.rows.as_slice(), key)
     }
 
-    /// The last entry at the key or before it.
+    /// The last entry at or before the key.
     pub fn last_at_or_before(&self, key: &Key) -> Option<(&Key, &T)>
         ensures { option_map (λ p. (p.0.now, p.1.now)) result ≡ last_of (take (place_past key.now self.now) self.now) }
     {
         last_by_among(self.rows.as_slice(), key)
     }
 
-    /// Moves the entries at the key and behind it out. On want of memory all are as they were.
+    /// Splits off the entries at or after the key. If an allocation fails the map is unchanged.
     pub fn split_off(&mut self, key: &Key) -> Result<CowMap<T>, NoMemory>
         ensures parts { IfOk result (λ back. self.old ≡ self.new ++ back) }
         ensures front { OnOk result (AreBefore key.now self.new) }
@@ -171,7 +172,7 @@ impl<T: CopyValue> CowMap<T> {
         Ok(CowMap { rows })
     }
 
-    /// Moves the entries inside the range out. On want of memory all are as they were.
+    /// Extracts the entries in the range. If an allocation fails the map is unchanged.
     pub fn extract_range(&mut self, range: &KeyRange) -> Result<CowMap<T>, NoMemory>
         ensures kept { OnOk result (self.new ≡ filter (λ e. not (is_in range.now e.0)) self.old) }
         ensures taken { IfOk result (λ out. out ≡ filter (λ e. is_in range.now e.0) self.old) }
@@ -181,8 +182,8 @@ impl<T: CopyValue> CowMap<T> {
         Ok(CowMap { rows })
     }
 
-    /// Moves the entries of another list behind these, where all its keys stand behind them. On want of memory both lists are
-    /// as they were.
+    /// Moves all entries of another map, whose keys are all greater, to the end of this one. If an allocation fails both maps
+    /// are unchanged.
     pub fn append(&mut self, later: &mut CowMap<T>) -> Result<(), NoMemory>
         requires { Rises (self.old ++ later.old) }
         ensures entries { OnOk result (self.new ≡ self.old ++ later.old) }
@@ -194,7 +195,7 @@ impl<T: CopyValue> CowMap<T> {
         Ok(())
     }
 
-    /// Takes the first entries away. It takes no memory.
+    /// Drops the first entries. It allocates nothing.
     pub fn drop_front(&mut self, count: usize)
         requires { count ≤ length self.old }
         ensures { self.new ≡ drop count self.old }
@@ -202,8 +203,8 @@ impl<T: CopyValue> CowMap<T> {
         drop_among(&mut self.rows, count);
     }
 
-    /// Moves the first entry of another list to its place here, and answers what stood there, which is copied where others share it.
-    /// On want of memory both lists are as they were.
+    /// Moves the first entry of another map into this one, and returns the previous value at its key, cloned if its entry is
+    /// shared. If an allocation fails both maps are unchanged.
     pub fn move_first_from(&mut self, from: &mut CowMap<T>) -> Result<Option<T>, NoMemory>
         requires { 0 < length from.old }
         ensures moved { IfOk result (λ was. IsFirstMoved was from.old self.old from.new self.new) }
@@ -213,7 +214,7 @@ impl<T: CopyValue> CowMap<T> {
         move_first_among(&mut self.rows, &mut from.rows)
     }
 
-    /// A list of the same entries, which both then share.
+    /// Clones the map; both then share the entries.
     pub fn share(&self) -> Result<CowMap<T>, NoMemory>
         ensures { IfOk result (λ shared. shared ≡ self.now) }
     {
@@ -222,7 +223,7 @@ impl<T: CopyValue> CowMap<T> {
     }
 }
 
-/// What stands at the key in rows.
+/// The value at the key in chunks.
 fn get_among<'a, T: CopyValue>(rows: &'a [Chunk<T>], key: &Key) -> Option<&'a T>
     requires { AreRows rows.now }
     ensures { option_copied result ≡ at_key key.now (joined rows.now) }
@@ -234,7 +235,7 @@ fn get_among<'a, T: CopyValue>(rows: &'a [Chunk<T>], key: &Key) -> Option<&'a T>
     }
 }
 
-/// Moves the first entry of other rows to its place in these, and answers what stood there.
+/// Moves the first entry of other chunks into these, and returns the previous value at its key.
 fn move_first_among<T: CopyValue>(
     rows: &mut Vec<Chunk<T>>,
     from: &mut Vec<Chunk<T>>,
@@ -261,7 +262,7 @@ fn move_first_among<T: CopyValue>(
     }
 }
 
-/// Puts an item at its key in rows, and answers what stood there. On want of memory it comes back.
+/// Puts a shared entry at its key in chunks, and returns the previous value. If an allocation fails the entry is returned.
 fn put_item_among<T: CopyValue>(
     rows: &mut Vec<Chunk<T>>,
     item: SharedEntry<T>,
@@ -283,7 +284,7 @@ fn put_item_among<T: CopyValue>(
     }
 }
 
-/// Takes the first entries of rows away.
+/// Drops the first entries of chunks.
 fn drop_among<T: CopyValue>(rows: &mut Vec<Chunk<T>>, count: usize)
     requires rows { AreRows rows.old.items }
     requires count { count ≤ length (joined rows.old.items) }
@@ -297,7 +298,7 @@ fn drop_among<T: CopyValue>(rows: &mut Vec<Chunk<T>>, count: usize)
     }
 }
 
-/// Takes the first rows away.
+/// Drops the first chunks.
 fn skip<T: CopyValue>(rows: &mut Vec<Chunk<T>>, count: usize)
     requires { count ≤ length rows.old.items }
     ensures { rows.new.items ≡ drop count rows.old.items }

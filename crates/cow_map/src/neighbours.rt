@@ -1,4 +1,4 @@
-//! The entries of rows that stand next to a key, on either side of it.
+//! The entries next to a key, on either side of it.
 ghost use Rattle.std.specs.Prelude.{◌≡◌, ◌++◌, take, drop};
 ghost use Rattle.std.specs.Option.{option_map};
 ghost use Rattle.cow_map.specs.Places.{last_of, place, place_past};
@@ -12,7 +12,7 @@ use crate::shared_entry::SharedEntry;
 use crate::stored::CopyValue;
 use pathkey::Key;
 
-/// The entries of rows at the key and behind it.
+/// The entries of chunks at or after the key.
 pub(crate) fn walk_from_among<'a, T: CopyValue>(rows: &'a [Chunk<T>], key: &Key) -> Cursor<'a, T>
     requires { AreRows rows.now }
     ensures { result ≡ drop (place key.now (joined rows.now)) (joined rows.now) }
@@ -26,7 +26,7 @@ pub(crate) fn walk_from_among<'a, T: CopyValue>(rows: &'a [Chunk<T>], key: &Key)
     Cursor::of(&entries[at..], &rows[n + 1..])
 }
 
-/// The entries of rows behind the key.
+/// The entries of chunks after the key.
 pub(crate) fn walk_past_among<'a, T: CopyValue>(rows: &'a [Chunk<T>], key: &Key) -> Cursor<'a, T>
     requires { AreRows rows.now }
     ensures { result ≡ drop (place_past key.now (joined rows.now)) (joined rows.now) }
@@ -40,7 +40,7 @@ pub(crate) fn walk_past_among<'a, T: CopyValue>(rows: &'a [Chunk<T>], key: &Key)
     Cursor::of(&entries[at..], &rows[n + 1..])
 }
 
-/// The last entry of rows before the key.
+/// The last entry of chunks before the key.
 pub(crate) fn last_before_among<'a, T: CopyValue>(
     rows: &'a [Chunk<T>],
     key: &Key,
@@ -57,7 +57,7 @@ pub(crate) fn last_before_among<'a, T: CopyValue>(
     last_after(&rows[..n], &entries[..at])
 }
 
-/// The last entry of rows at the key or before it.
+/// The last entry of chunks at or before the key.
 pub(crate) fn last_by_among<'a, T: CopyValue>(
     rows: &'a [Chunk<T>],
     key: &Key,
@@ -74,7 +74,7 @@ pub(crate) fn last_by_among<'a, T: CopyValue>(
     last_after(&rows[..n], &entries[..at])
 }
 
-/// The last of entries, or of the rows before them.
+/// The last of the entries, or of the chunks before them if there are none.
 fn last_after<'a, T: CopyValue>(
     rows: &'a [Chunk<T>],
     entries: &'a [SharedEntry<T>],
@@ -88,7 +88,7 @@ fn last_after<'a, T: CopyValue>(
     last_entry(entries)
 }
 
-/// The last entry of rows.
+/// The last entry of chunks.
 pub(crate) fn last_in<T: CopyValue>(rows: &[Chunk<T>]) -> Option<(&Key, &T)>
     requires { AreSized rows.now }
     ensures { option_map (λ p. (p.0.now, p.1.now)) result ≡ last_of (joined rows.now) }
@@ -99,7 +99,7 @@ pub(crate) fn last_in<T: CopyValue>(rows: &[Chunk<T>]) -> Option<(&Key, &T)>
     }
 }
 
-/// The last of entries.
+/// The last of the entries.
 fn last_entry<T: CopyValue>(entries: &[SharedEntry<T>]) -> Option<(&Key, &T)>
     ensures { option_map (λ p. (p.0.now, p.1.now)) result ≡ last_of entries.now }
 {

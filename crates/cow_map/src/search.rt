@@ -1,4 +1,4 @@
-//! Where a key stands among entries that rise.
+//! Search for a key among sorted entries.
 ghost use Rattle.std.specs.Prelude.{◌≡◌, ◌+◌, ◌<◌, ◌≤◌, length, IfOk, IfErr};
 ghost use Rattle.std.specs.Option.{option_copied};
 ghost use Rattle.cow_map.specs.Places.{Rises, at_key, place, place_past, IsFound, IsHolder};
@@ -9,7 +9,7 @@ use crate::stored::CopyValue;
 use pathkey::Key;
 use std::cmp::Ordering;
 
-/// How many entries stand before the key.
+/// The number of entries before the key.
 pub(crate) fn count_before<T: CopyValue>(entries: &[SharedEntry<T>], key: &Key) -> usize
     requires { Rises entries.now }
     ensures place { result ≡ place key.now entries.now }
@@ -21,7 +21,8 @@ pub(crate) fn count_before<T: CopyValue>(entries: &[SharedEntry<T>], key: &Key) 
     }
 }
 
-/// Where the key stands among entries, or where it would. The last one is asked first: keys often come in their order.
+/// The index of the key among entries, or else the index at which it would be inserted. The last entry is compared first, since
+/// keys often come in order.
 pub(crate) fn find<T: CopyValue>(entries: &[SharedEntry<T>], key: &Key) -> Result<usize, usize>
     requires { Rises entries.now }
     ensures { IsFound key.now entries.now result }
@@ -46,9 +47,9 @@ pub(crate) fn find<T: CopyValue>(entries: &[SharedEntry<T>], key: &Key) -> Resul
     }
 }
 
-/// The places that are left to a search: entries before `low` stand before the key, and those from `high` on behind it. The key
-/// has its first `below` bytes in common with the entries before, and its first `above` ones with those behind; so the entries
-/// between have the fewer of these too, and comparisons go on behind them.
+/// The state of a search: entries before `low` are before the key, and those from `high` on are after it. The key has its first
+/// `below` bytes in common with the entries before, and its first `above` bytes with those after; so all entries between share
+/// the lesser number of bytes with it, and comparisons skip them.
 #[derive(Clone, Copy)]
 struct Rest {
     low: usize,
@@ -57,7 +58,7 @@ struct Rest {
     above: usize,
 }
 
-/// The same, found in strides: each reads a place that is known beforehand.
+/// Searches in strides: the indexes that each stride reads do not depend on earlier comparisons.
 fn find_among<T: CopyValue>(
     entries: &[SharedEntry<T>],
     key: &Key,
@@ -81,8 +82,8 @@ fn find_among<T: CopyValue>(
     }
 }
 
-/// Goes on in strides as long as the last entry of each stands before the key, and leaves fewer places than a stride has; or
-/// answers the place of the key, where it meets that.
+/// Advances in strides as long as the last entry of each is before the key, until fewer entries than a stride remain; or
+/// returns the index of the key if it is found.
 #[inline(always)]
 fn narrow<T: CopyValue>(
     entries: &[SharedEntry<T>],
@@ -126,7 +127,7 @@ fn narrow<T: CopyValue>(
     })
 }
 
-/// How many entries stand at the key or before it.
+/// The number of entries at or before the key.
 pub(crate) fn count_past<T: CopyValue>(entries: &[SharedEntry<T>], key: &Key) -> usize
     requires { Rises entries.now }
     ensures place { result ≡ place_past key.now entries.now }
@@ -138,7 +139,7 @@ pub(crate) fn count_past<T: CopyValue>(entries: &[SharedEntry<T>], key: &Key) ->
     }
 }
 
-/// What stands at the key among entries.
+/// The value at the key among entries.
 pub(crate) fn value_at<'a, T: CopyValue>(entries: &'a [SharedEntry<T>], key: &Key) -> Option<&'a T>
     requires { Rises entries.now }
     ensures { option_copied result ≡ at_key key.now entries.now }

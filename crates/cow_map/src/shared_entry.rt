@@ -1,4 +1,4 @@
-//! One entry, in a place of its own that several rows may share.
+//! One entry behind a pointer, which several chunks may share.
 ghost use Rattle.std.specs.Prelude.{◌≡◌, take, OnOk, OnErr, IfOk, IfErr};
 ghost use Rattle.std.specs.Ordering.{is_gt};
 ghost use Rattle.pathkey.specs.Order.{by_bytes};
@@ -12,8 +12,8 @@ use std::cmp::Ordering;
 use std::marker::Model;
 use std::sync::Arc;
 
-/// An entry that other items may share, and beside it the head of its key: a search among items seldom reads the entry.
-/// Contracts see the entry.
+/// A shared pointer to an entry, and the head of the entry's key, so that a search seldom reads the entry itself. Contracts see
+/// the entry.
 #[derive(Drop)]
 pub struct SharedEntry<T> {
     head: u64,
@@ -32,7 +32,7 @@ impl<T> Model for SharedEntry<T> {
 }
 
 impl<T: CopyValue> SharedEntry<T> {
-    /// An item of this entry. On want of memory it comes back.
+    /// Allocates an entry. If the allocation fails the key and the value are returned.
     pub(crate) fn new(alloc: Global, key: Key, value: T) -> Result<SharedEntry<T>, (Key, T)>
         ensures ok { IfOk result (λ i. i ≡ (key, value)) }
         ensures back { IfErr result (λ p. p ≡ (key, value)) }
@@ -68,7 +68,7 @@ impl<T: CopyValue> SharedEntry<T> {
         self.head
     }
 
-    /// Whether the entry stands before the key. Heads that differ say it alone.
+    /// Whether the entry is before the key. Heads that differ decide without reading the entry.
     #[inline(always)]
     pub(crate) fn is_before(&self, key: &Key) -> bool
         ensures { result ≡ is_gt (by_bytes key.now self.now.0) }
@@ -80,8 +80,8 @@ impl<T: CopyValue> SharedEntry<T> {
         key.cmp(self.key()).is_gt()
     }
 
-    /// The order to a key whose first `skip` bytes are the same, and how many leading bytes were seen to be. Heads that differ
-    /// say it alone.
+    /// Compares with a key whose first `skip` bytes are the same, and returns the order and how many leading bytes were found
+    /// equal. Heads that differ decide without reading the entry.
     #[inline(always)]
     pub(crate) fn cmp_from(&self, key: &Key, skip: usize) -> (Ordering, usize)
         ensures order { take skip self.now.0 ≡ take skip key.now → result.0 ≡ by_bytes self.now.0 key.now }
@@ -94,7 +94,7 @@ impl<T: CopyValue> SharedEntry<T> {
         self.key().cmp_from(key, skip)
     }
 
-    /// The same entry in the same place, which both items then share.
+    /// Clones the pointer; both then share the entry.
     pub(crate) fn share(&self) -> Result<SharedEntry<T>, NoMemory>
         ensures { IfOk result (λ i. i ≡ self.now) }
     {
@@ -105,7 +105,7 @@ impl<T: CopyValue> SharedEntry<T> {
         })
     }
 
-    /// An equal entry in a place of its own.
+    /// Copies the entry to a new allocation.
     fn copy(&self, alloc: Global) -> Result<SharedEntry<T>, NoMemory>
         ensures { IfOk result (λ i. i ≡ self.now) }
     {
@@ -117,7 +117,7 @@ impl<T: CopyValue> SharedEntry<T> {
         }
     }
 
-    /// Changes the value. An entry that is shared is copied first. On want of memory the edit comes back.
+    /// Edits the value. A shared entry is copied first. If an allocation fails the edit is returned.
     #[inline(always)]
     pub(crate) fn edit<E: Edit<T>>(&mut self, alloc: Global, edit: E) -> Result<E::Answer, E>
         ensures key { self.new.0 ≡ self.old.0 }
@@ -134,8 +134,8 @@ impl<T: CopyValue> SharedEntry<T> {
         }
     }
 
-    /// Puts another value in the place of this one, which it answers. An entry that is shared is copied first. On want of memory
-    /// the value comes back.
+    /// Replaces the value, and returns the old one. A shared entry is copied first. If an allocation fails the new value is
+    /// returned.
     #[inline(always)]
     pub(crate) fn replace(&mut self, alloc: Global, value: T) -> Result<T, T>
         ensures is { OnOk result (self.new ≡ (self.old.0, value)) }
@@ -152,7 +152,7 @@ impl<T: CopyValue> SharedEntry<T> {
         }
     }
 
-    /// Takes a copy in the place of an entry that is shared.
+    /// Replaces a shared entry by a copy.
     #[inline(always)]
     fn own(&mut self, alloc: Global) -> Result<(), NoMemory>
         ensures { self.new ≡ self.old }
@@ -165,7 +165,7 @@ impl<T: CopyValue> SharedEntry<T> {
         Ok(())
     }
 
-    /// The value alone, or a copy of it where the entry is shared. On want of memory the item comes back.
+    /// Converts it into the value, which is copied if the entry is shared. If an allocation fails the entry is returned.
     pub(crate) fn into_value(self, alloc: Global) -> Result<T, SharedEntry<T>>
         ensures ok { IfOk result (λ v. v ≡ self.1) }
         ensures back { IfErr result (λ i. i ≡ self) }

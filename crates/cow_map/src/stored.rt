@@ -1,12 +1,12 @@
-//! What can stand at a key.
+//! The values of a map.
 ghost use Rattle.std.specs.Prelude.{◌≡◌, IfOk};
 
 use pathkey::{Key, NoMemory};
 use std::alloc::Global;
 
-/// A value that can stand at a key. Where lists share it, a list takes a copy before it changes it.
+/// A value of a map. A map that shares it with others copies it before a change.
 pub trait CopyValue: Drop {
-    /// An equal value.
+    /// Clones the value.
     fn copy(&self, alloc: Global) -> Result<Self, NoMemory>
         ensures { IfOk result (λ v. v ≡ self.now) };
 }

@@ -1,20 +1,21 @@
-//! A search through a sorted slice in strides, so that the processor reads ahead of the tests.
+//! A search through a sorted slice in strides, so that the processor can read ahead of the comparisons.
 //!
-//! It has the contract of `partition_point` of slices, which bisects: there each place that is read hangs on the test before it,
-//! and where elements are large each of them waits for memory. Strides read places that are known beforehand.
+//! It has the contract of `partition_point` of slices. That bisects: each index depends on the comparison before it, so that
+//! with large elements each comparison waits for memory. The indexes that a stride reads are known beforehand.
 ghost use Rattle.std.specs.Prelude.{◌≡◌, ◌≤◌, ◌<◌, ◌+◌, Bool, true, false, length, ◌-◌};
 ghost use Rattle.std.specs.Fn.{ComputesKey};
 ghost use Rattle.std.specs.List.Sorted.{IsPartitionedBy, IsPartitionPoint};
 ghost use Rattle.cow_map.specs.Striding.{IsBetween, IsWithin};
 
-/// The places in question: all elements before `low` pass, and none from `high` on.
+/// The remaining indexes: all elements before `low` satisfy the predicate, and none from `high` on does.
 #[derive(Clone, Copy)]
 pub struct SearchWindow {
     low: usize,
     high: usize,
 }
 
-/// Goes from `low` on in strides as long as the last element of each passes, and leaves fewer places than a stride has.
+/// Advances `low` in strides as long as the last element of each satisfies the predicate, until fewer elements than a stride
+/// remain.
 #[inline(always)]
 fn narrow<T, P: FnMut(&T) -> bool>(
     xs: &[T],
@@ -43,7 +44,7 @@ fn narrow<T, P: FnMut(&T) -> bool>(
     (SearchWindow { low, high }, pred)
 }
 
-/// How many elements pass the test, where no element that passes comes after one that fails.
+/// How many elements satisfy the predicate, if no element that satisfies it is after one that does not.
 #[inline]
 pub fn count_passing<T, P: FnMut(&T) -> bool>(xs: &[T], pred: P) -> usize
     requires { P.IsAlwaysCallable pred }

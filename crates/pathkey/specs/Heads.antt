@@ -1,8 +1,8 @@
--- The first bytes of a key as one number, which is compared at once.
+-- The first bytes of a key as one number, which is compared in one step.
 use Rattle.std.specs.Prelude.{◌≡◌, ℕ, zero, suc, ◌+◌, ◌*◌, ◌^◌, ◌<◌, List, [], ◌∷◌}
 use Rattle.std.specs.List.{AllByRecursion}
 
--- the number that the first n bytes make, greatest first, with zeros behind a shorter list
+-- the number that the first n bytes make, big-endian, padded with zeros if the list is shorter
 abbrev pub head : ℕ → List ℕ → ℕ
 head zero bytes = 0
 head (suc n) [] = 0
@@ -16,7 +16,7 @@ head_of bytes = head 8 bytes
 abbrev pub AreBytes : List ℕ → Type 0
 AreBytes bytes = AllByRecursion (λ b. b < 256) bytes
 
--- the first n bytes of both are the same, where zeros stand behind fewer
+-- the first n bytes of both are the same, each padded with zeros
 abbrev pub ShareHead : ℕ → List ℕ → List ℕ → Type 0
 ShareHead n left right = head n left ≡ head n right
 

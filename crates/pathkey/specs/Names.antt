@@ -67,6 +67,6 @@ is_under [] q = true
 is_under (n ∷ p) [] = false
 is_under (n ∷ p) (m ∷ q) = same n m && is_under p q
 
--- the two paths are one
+-- the two paths are equal
 abbrev pub same_path : Path → Path → Bool
 same_path p q = is_under p q && is_under q p

@@ -1,9 +1,9 @@
--- The numbers and words of the refusals.
+-- The numbers, names and messages of the errors.
 use Rattle.std.specs.Prelude.{ℕ, List, ◌++◌, codes}
 use Rattle.pathkey.specs.declared.errno.Errno.{Errno}
 use Rattle.pathkey.specs.declared.errno.Errno.TheVariants.{ENOENT, ENOTDIR, EISDIR, EEXIST, ENOTEMPTY, EPERM, EINVAL, ENAMETOOLONG, EFBIG, EBUSY, ENOMEM, ENOSPC}
 
--- a refusal's number
+-- an error's number
 abbrev pub number_of : Errno → ℕ
 number_of ENOENT = 1
 number_of ENOTDIR = 2
@@ -18,7 +18,7 @@ number_of EBUSY = 10
 number_of ENOMEM = 11
 number_of ENOSPC = 12
 
--- a refusal's word
+-- an error's name
 abbrev pub word_of : Errno → List ℕ
 word_of ENOENT = codes "ENOENT"
 word_of ENOTDIR = codes "ENOTDIR"
@@ -33,7 +33,7 @@ word_of EBUSY = codes "EBUSY"
 word_of ENOMEM = codes "ENOMEM"
 word_of ENOSPC = codes "ENOSPC"
 
--- what a refusal says
+-- an error's message
 abbrev pub sentence_of : Errno → List ℕ
 sentence_of ENOENT = codes "no such file or directory"
 sentence_of ENOTDIR = codes "not a directory"
@@ -48,6 +48,6 @@ sentence_of EBUSY = codes "the root cannot be moved or taken out"
 sentence_of ENOMEM = codes "memory was refused"
 sentence_of ENOSPC = codes "all 64 names of snapshots are taken"
 
--- how a refusal is shown
+-- how an error is printed
 abbrev pub shown : Errno → List ℕ
 shown e = word_of e ++ codes ": " ++ sentence_of e

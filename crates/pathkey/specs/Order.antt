@@ -1,4 +1,4 @@
--- Byte order of names and of keys: byte by byte, and a beginning comes first.
+-- Byte order of names and of keys: lexicographic, and a prefix comes first.
 use Rattle.std.specs.Prelude.{ℕ, List, Bool}
 use Rattle.std.specs.declared.cmp.Ordering.{Ordering}
 use Rattle.std.specs.Cmp.{IsTotalOrder, IsEquivalence, IsPartialEquivalence, partial_equiv_from_equiv}
@@ -10,7 +10,7 @@ use Rattle.std.proofs.lemmas.Cmp.{nat_list_cmp_total, eq_by_cmp_equiv}
 abbrev pub by_bytes : List ℕ → List ℕ → Ordering
 by_bytes a b = slice_cmp nat_cmp a b
 
--- whether two lists of bytes are one
+-- whether two lists of bytes are equal
 abbrev pub same : List ℕ → List ℕ → Bool
 same a b = is_eq (by_bytes a b)
 

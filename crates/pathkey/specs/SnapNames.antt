@@ -18,6 +18,6 @@ is_snap_byte b =
 abbrev pub is_snap_name : List ℕ → Bool
 is_snap_name text = is_between 1 64 (length text) && list_all is_snap_byte text
 
--- what reading a text as a snapshot name answers
+-- the result of parsing a text as a snapshot name
 abbrev pub snap_parsed : List ℕ → Result (List ℕ) Errno
 snap_parsed text = unless (when (not (is_snap_name text)) EINVAL ∷ []) text

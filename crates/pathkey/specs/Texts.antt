@@ -1,4 +1,4 @@
--- The text of a path, and what reading a text as a path answers.
+-- The text of a path, and the result of parsing a text as a path.
 use Rattle.std.specs.Prelude.{ℕ, List, [], ◌∷◌, ◌++◌, length, Bool, true, cond, not, ◌||◌, ◌==◌, nat_lt, Option, Result}
 use Rattle.std.specs.List.{list_any}
 use Rattle.pathkey.specs.Order.{same}
@@ -17,7 +17,7 @@ abbrev pub text_of : Path → List ℕ
 text_of [] = 47 ∷ []
 text_of (n ∷ p) = slashed (n ∷ p)
 
--- the byte put before the first piece
+-- the byte added in front of the first piece
 abbrev pub onto_first : ℕ → List Name → List Name
 onto_first b [] = (b ∷ []) ∷ []
 onto_first b (n ∷ p) = (b ∷ n) ∷ p
@@ -27,7 +27,7 @@ abbrev pub pieces : ℕ → List ℕ → List Name
 pieces separator [] = []
 pieces separator (b ∷ bytes) = cond (b == separator) ([] ∷ pieces separator bytes) (onto_first b (pieces separator bytes))
 
--- what stands between the slashes of a text, after its first slash
+-- the components between the slashes of a text, after its first slash
 abbrev pub components : List ℕ → List Name
 components [] = []
 components (b ∷ rest) = pieces 47 (b ∷ rest ++ 47 ∷ [])
@@ -40,7 +40,7 @@ is_dots n = same n (46 ∷ []) || same n (46 ∷ 46 ∷ [])
 abbrev pub is_forbidden : ℕ → Bool
 is_forbidden b = (b == 0) || (b == 47)
 
--- no file name, whatever its length: empty, `.`, `..`, or with a null byte or a slash
+-- not a file name, whatever its length: empty, `.`, `..`, or with a null byte or a slash
 abbrev pub is_malformed : Name → Bool
 is_malformed [] = true
 is_malformed n = is_dots n || list_any is_forbidden n
@@ -49,14 +49,14 @@ is_malformed n = is_dots n || list_any is_forbidden n
 abbrev pub is_long : Name → Bool
 is_long n = nat_lt 255 (length n)
 
--- the faults of what stands between the separators, the first of which counts
+-- the errors of the components between the separators, of which the first is returned
 abbrev pub component_faults : ℕ → List ℕ → List (Option Errno)
 component_faults separator bytes =
     when (list_any is_malformed (pieces separator (bytes ++ separator ∷ []))) EINVAL
     ∷ when (list_any is_long (pieces separator (bytes ++ separator ∷ []))) ENAMETOOLONG
     ∷ []
 
--- what reading a text as a path answers: the first fault in this order, or the names
+-- the result of parsing a text as a path: the first error in this order, or the names
 abbrev pub parsed : List ℕ → Result Path Errno
 parsed [] = unless (when true ENOENT ∷ []) []
 parsed (b ∷ rest) =
@@ -68,7 +68,7 @@ parsed (b ∷ rest) =
     ∷ [])
     (components rest)
 
--- the names that a key spells, each ended by a byte 0
+-- the names that a key encodes, each ended by a byte 0
 abbrev pub names_of : List ℕ → Path
 names_of key = pieces 0 key
 

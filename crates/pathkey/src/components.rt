@@ -1,4 +1,4 @@
-//! What stands between the separators of a text or of a key, and the first fault there.
+//! The components between the separators of a text or of a key, and the first error among them.
 ghost use Rattle.std.specs.Prelude.{◌≡◌, ◌≢◌, ◌<◌, [], ◌∷◌, ◌++◌, All, MatchOption, length, take, slice_index};
 ghost use Rattle.std.specs.List.{list_any};
 ghost use Rattle.pathkey.specs.Texts.{is_dots, is_forbidden, is_malformed, is_long, component_faults};
@@ -8,10 +8,10 @@ ghost use Rattle.pathkey.specs.PathKeys.{IsAfterLast};
 
 use crate::errno::Errno;
 
-/// The most bytes that a name has.
+/// The maximum length of a name in bytes.
 pub(crate) const LONGEST_NAME: usize = 255;
 
-/// Tests the components of the bytes: each is to be a file name, and none too long.
+/// Validates the components of the bytes: each must be a file name, and none may be too long.
 pub(crate) fn check_components(bytes: &[u8], separator: u8) -> Result<(), Errno>
     ensures { result ≡ unless (component_faults separator bytes.now) tt }
 {
@@ -33,7 +33,7 @@ pub(crate) fn check_components(bytes: &[u8], separator: u8) -> Result<(), Errno>
     Ok(())
 }
 
-/// The bytes before the first separator, and those after it; none where there is no separator.
+/// The bytes before the first separator, and those after it; `None` if there is no separator.
 pub(crate) fn split_at_byte(bytes: &[u8], separator: u8) -> Option<(&[u8], &[u8])>
     ensures { MatchOption result (All (λ b. b ≢ separator) bytes.now) (λ parts. (bytes.now ≡ parts.0.now ++ separator ∷ parts.1.now) × All (λ b. b ≢ separator) parts.0.now) }
 {
@@ -42,7 +42,7 @@ pub(crate) fn split_at_byte(bytes: &[u8], separator: u8) -> Option<(&[u8], &[u8]
     Some((front, &back[1..]))
 }
 
-/// The bytes after the last separator; all of them where there is no separator.
+/// The bytes after the last separator; all of them if there is no separator.
 pub(crate) fn after_last(bytes: &[u8], separator: u8) -> &[u8]
     ensures { IsAfterLast separator bytes.now result.now }
 {
@@ -67,7 +67,7 @@ pub(crate) fn are_plain(names: &[u8]) -> bool
     !begins
 }
 
-// Whether plain names can go on with the byte, where it begins a name or does not.
+// Whether the byte may come next in plain names, at the start of a name or within one.
 fn is_plain_after(begins: bool, byte: u8) -> bool
     ensures { result ≡ is_plain_after begins byte }
 {
@@ -78,21 +78,21 @@ fn is_plain_after(begins: bool, byte: u8) -> bool
     }
 }
 
-// The place of the first separator.
+// The index of the first separator.
 fn place_of(bytes: &[u8], separator: u8) -> Option<usize>
     ensures { MatchOption result (All (λ b. b ≢ separator) bytes.now) (λ i. (i < length bytes.now) × (slice_index bytes.now i ≡ separator) × All (λ b. b ≢ separator) (take i bytes.now)) }
 {
     bytes.iter().position(|byte| *byte == separator)
 }
 
-// Whether a component is no file name, whatever its length.
+// Whether a component is not a file name, whatever its length.
 fn is_malformed(component: &[u8]) -> bool
     ensures { result ≡ is_malformed component.now }
 {
     component.is_empty() || is_dots(component) || has_forbidden_byte(component)
 }
 
-// Whether a component has a byte that no name has.
+// Whether a component contains a byte that no name may contain.
 fn has_forbidden_byte(component: &[u8]) -> bool
     ensures { result ≡ list_any is_forbidden component.now }
 {

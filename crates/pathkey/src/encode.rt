@@ -1,4 +1,4 @@
-//! The keys of paths and of blocks, and back from a key to its path.
+//! Encodes paths and blocks as keys, and decodes keys to paths.
 ghost use Rattle.std.specs.Prelude.{◌≡◌, ◌≢◌, [], IfOk, MatchBool, List, ℕ};
 ghost use Rattle.pathkey.specs.Names.{IsPath};
 ghost use Rattle.pathkey.specs.PathKeys.{IsPathKey, IsPathOf};
@@ -17,7 +17,7 @@ pub fn enc(alloc: Global, path: &Path) -> Result<Key, NoMemory>
     path.key().copy(alloc)
 }
 
-/// The path that has this key; none where no path has it.
+/// The path with this key; `None` if there is none.
 pub fn dec(alloc: Global, key: &Key) -> Result<Option<Path>, NoMemory>
     ensures { IfOk result (IsPathOf key.now) }
 {
@@ -41,7 +41,7 @@ fn is_path_key(key: &[u8]) -> bool
     check_components(body, 0).is_ok()
 }
 
-/// The key of block `index` of a file: the path's, a byte 0, and the number in four bytes.
+/// The key of block `index` of a file: the path's key, a byte 0, and the index in four bytes.
 pub fn block_key(alloc: Global, path: &Path, index: u32) -> Result<Key, NoMemory>
     requires { path.now ≢ [] }
     ensures { IfOk result (λ k. k ≡ block_key path.now index) }
@@ -50,7 +50,7 @@ pub fn block_key(alloc: Global, path: &Path, index: u32) -> Result<Key, NoMemory
     Key::joined(alloc, path.key().as_bytes(), &[0, a, b, c, d])
 }
 
-/// The key with its beginning, the key of `old`, replaced by the key of `new`; none where it begins otherwise.
+/// The key with its prefix, the key of `old`, replaced by the key of `new`; `None` if it does not have that prefix.
 pub fn rekey(alloc: Global, key: &Key, old: &Path, new: &Path) -> Result<Option<Key>, NoMemory>
     ensures { IfOk result (IsRekeyed key.now old.now new.now) }
 {

@@ -1,4 +1,4 @@
-//! Why a call is refused.
+//! The errors of calls.
 ghost use Rattle.std.specs.Prelude.{◌≡◌};
 ghost use Rattle.pathkey.specs.declared.errno.Errno.TheVariants.{ENOMEM};
 ghost use Rattle.pathkey.specs.Numbers.{number_of, sentence_of, word_of};
@@ -7,8 +7,7 @@ use std::alloc::{AllocError, AllocFailed};
 use std::error::Error;
 use std::fmt;
 
-/// Why a call was refused, under the names of POSIX.1-2017, 2.3 Error Numbers. The numbers are this
-/// project's own.
+/// Why a call failed, under the names of POSIX.1-2017, 2.3 Error Numbers. The numbers are this project's own.
 #[derive(Clone, Copy, Debug, PartialEq, Eq)]
 pub enum Errno {
     /// No such file or directory.
@@ -38,14 +37,14 @@ pub enum Errno {
 }
 
 impl Errno {
-    /// The refusal's number, from 1 to 12.
+    /// The error's number, from 1 to 12.
     pub fn number(self) -> u8
         ensures { result ≡ number_of self }
     {
         self as u8
     }
 
-    /// The refusal's word, as `ENOENT`.
+    /// The error's name, such as `ENOENT`.
     pub fn name(self) -> &'static str
         ensures { result.now ≡ word_of self }
     {
@@ -65,7 +64,7 @@ impl Errno {
         }
     }
 
-    /// What the refusal says, as a short sentence without a full stop.
+    /// The error's message: a short sentence without a full stop.
     pub fn sentence(self) -> &'static str
         ensures { result.now ≡ sentence_of self }
     {
@@ -86,7 +85,7 @@ impl Errno {
     }
 }
 
-/// The word and the sentence, as `ENOENT: no such file or directory`.
+/// The name and the message, as `ENOENT: no such file or directory`.
 impl fmt::Display for Errno {
     ghost use Rattle.std.specs.Prelude.{Some};
     ghost use Rattle.pathkey.specs.Numbers.{shown};
@@ -101,7 +100,7 @@ impl fmt::Display for Errno {
 
 impl Error for Errno {}
 
-/// Memory was refused, and the call changed nothing.
+/// An allocation failed, and the call changed nothing.
 #[derive(Clone, Copy, Debug, PartialEq, Eq)]
 pub struct NoMemory;
 

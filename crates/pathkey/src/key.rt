@@ -1,4 +1,4 @@
-//! Keys: byte strings in byte order.
+//! Keys: byte strings in lexicographic order.
 ghost use Rattle.std.specs.Prelude.{◌≡◌, ◌≤◌, [], ◌∷◌, ◌++◌, length, take, IfOk, map, slice_index_or};
 ghost use Rattle.std.specs.Cmp.{partial_order_from_agreeing_total};
 ghost use Rattle.std.specs.Ordering.{as_partial_cmp, eq_by_cmp};
@@ -14,22 +14,23 @@ use std::alloc::Global;
 use std::cmp::Ordering;
 use std::marker::Model;
 
-/// How many bytes of a key lie in the value itself; a longer key takes memory.
+/// How many bytes of a key are stored inline; a longer key is allocated.
 const INLINE: usize = 40;
 
-/// How many bytes of a key its head has.
+/// The length of a key's head in bytes.
 const HEAD: usize = 8;
 
 /// A byte string, which contracts see as the list of its bytes.
 ///
-/// Keys of usual paths lie in the value itself, so that a search through keys waits for no pointer.
-/// The first bytes are kept as a number too, which settles most comparisons.
+/// Keys of usual paths are stored inline, so that a search through keys follows no pointer. The head, the first bytes as a
+/// number, is stored too: it decides most comparisons.
 pub struct Key {
     head: u64,
     bytes: SmallVec<u8, INLINE>,
 }
 
-// Written out, so that it is proved here once: a derived drop is proved again in each crate that lets one go.
+// Drop is implemented by hand, so that it is proved here once: derived drop glue is proved again in each crate that drops a
+// key.
 impl Drop for Key {
     fn drop(self) {
         let Key { head: _, bytes: _ } = self;
@@ -48,14 +49,14 @@ impl Model for Key {
 }
 
 impl Key {
-    /// The empty key. It takes no memory.
+    /// The empty key. It allocates nothing.
     pub fn new(alloc: Global) -> Key
         ensures { result ≡ [] }
     {
         Key::holding(SmallVec::new(alloc))
     }
 
-    /// The key of these bytes.
+    /// Copies the bytes into a key.
     pub fn from_bytes(alloc: Global, bytes: &[u8]) -> Result<Key, NoMemory>
         ensures { IfOk result (λ k. k ≡ bytes.now) }
     {
@@ -63,7 +64,7 @@ impl Key {
         Ok(Key::holding(bytes))
     }
 
-    /// The key of these bytes, one part after the other.
+    /// The key of these parts, concatenated.
     pub(crate) fn joined(alloc: Global, front: &[u8], back: &[u8]) -> Result<Key, NoMemory>
         ensures { IfOk result (λ k. k ≡ front.now ++ back.now) }
     {
@@ -73,7 +74,7 @@ impl Key {
         Ok(Key::holding(bytes))
     }
 
-    /// The key of the path whose text is a slash and then this.
+    /// The key of the path whose text is a slash followed by this text.
     pub(crate) fn of_text(alloc: Global, text: &[u8]) -> Result<Key, NoMemory>
         ensures { IfOk result (λ k. k ≡ map null_for_slash text.now ++ 0 ∷ []) }
     {
@@ -85,7 +86,7 @@ impl Key {
         Ok(Key::holding(bytes))
     }
 
-    // The key whose bytes these are.
+    // The key with these bytes.
     fn holding(bytes: SmallVec<u8, INLINE>) -> Key
         ensures { result ≡ bytes.items }
     {
@@ -102,15 +103,16 @@ impl Key {
         self.bytes.as_slice()
     }
 
-    /// The first eight bytes as one number, with zeros behind fewer: of two keys the one with the less head stands first.
+    /// The head: the first eight bytes as a big-endian number, padded with zeros. Of two keys, the one with the lesser head is
+    /// less.
     pub fn head(&self) -> u64
         ensures { IsHeaded result self.now }
     {
         self.head
     }
 
-    /// The order to another key whose first `skip` bytes are the same, and how many leading bytes were seen to be. A search
-    /// among keys that begin alike goes on behind these bytes.
+    /// Compares with another key whose first `skip` bytes are the same, and returns the order and how many leading bytes were
+    /// found equal. A search among keys with a common prefix can skip these bytes.
     #[inline]
     pub fn cmp_from(&self, other: &Key, skip: usize) -> (Ordering, usize)
         ensures order { take skip self.now ≡ take skip other.now → result.0 ≡ by_bytes self.now other.now }
@@ -122,7 +124,7 @@ impl Key {
         order_from(self.as_bytes(), other.as_bytes(), skip.max(HEAD))
     }
 
-    /// An equal key.
+    /// Clones the key.
     pub fn copy(&self, alloc: Global) -> Result<Key, NoMemory>
         ensures { IfOk result (λ k. k ≡ self.now) }
     {
@@ -133,7 +135,7 @@ impl Key {
         })
     }
 
-    /// The least key after this one.
+    /// The successor: the least key greater than this one.
     pub fn next(&self, alloc: Global) -> Result<Key, NoMemory>
         ensures { IfOk result (λ k. k ≡ next_key self.now) }
     {
@@ -182,7 +184,7 @@ impl Ord for Key {
     }
 }
 
-// The first bytes as a number, greatest first, with zeros behind fewer.
+// The first bytes as a big-endian number, padded with zeros.
 fn head_of(bytes: &[u8]) -> u64
     ensures { IsHeaded result bytes.now }
 {
@@ -196,7 +198,7 @@ fn head_of(bytes: &[u8]) -> u64
     head
 }
 
-// The first eight bytes as a number, where they are there.
+// The first eight bytes as a number, if there are that many.
 fn whole_head(bytes: &[u8]) -> u64
     requires { 8 ≤ length bytes.now }
     ensures { result ≡ head_of bytes.now }
@@ -206,15 +208,15 @@ fn whole_head(bytes: &[u8]) -> u64
     ])
 }
 
-// The byte there, or 0 behind the last.
+// The byte at the index, or 0 past the end.
 fn byte_at(bytes: &[u8], index: usize) -> u8
     ensures { result ≡ slice_index_or bytes.now index 0 }
 {
     if index < bytes.len() { bytes[index] } else { 0 }
 }
 
-// The order of byte strings whose first `skip` bytes are the same, where zeros stand behind fewer, and how many leading bytes were
-// seen to be: eight bytes after eight, of which the last eight may overlap those before.
+// The order of byte strings whose first `skip` bytes are the same, each padded with zeros, and how many leading bytes were
+// found equal: eight bytes at a time, of which the last eight may overlap those before.
 #[inline]
 fn order_from(left: &[u8], right: &[u8], skip: usize) -> (Ordering, usize)
     requires { 8 ≤ skip }

@@ -1,9 +1,8 @@
-//! Paths, keys and ranges of keys, names of snapshots, and the numbers of refusals.
+//! Paths, keys, key ranges, snapshot names, and error numbers.
 //!
-//! A path is kept as its key: each name followed by a byte 0, so that the key of a path, the test
-//! whether one path lies below another, and the keys of a whole subtree are plain bytes side by side
-//! (full-path indexing: Jannen et al., FAST 2015). Contracts see a path as the list of its names from
-//! the root down, and a key or a snapshot's name as its bytes.
+//! A path is stored as its key: each name followed by a byte 0, so that the key of a path, the test whether one path is below
+//! another, and the keys of a whole subtree are contiguous bytes (full-path indexing: Jannen et al., FAST 2015). Contracts see
+//! a path as the list of its names from the root down, and a key or a snapshot's name as its bytes.
 #![tactic(auto)]
 
 mod components;

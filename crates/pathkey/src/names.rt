@@ -7,9 +7,9 @@ ghost use Rattle.pathkey.specs.PathKeys.{SpellsNames};
 use crate::components::split_at_byte;
 use std::marker::Model;
 
-/// The names of a path that are still to be read, which contracts see as the list of them.
+/// An iterator over a path's names. Contracts see it as the list of those that remain.
 ///
-/// It lies on the path's own bytes and takes no memory.
+/// It borrows the path's bytes and allocates nothing.
 #[derive(Drop)]
 pub struct Names<'a> {
     rest: &'a [u8],
@@ -28,7 +28,7 @@ impl<'a> Model for Names<'a> {
 }
 
 impl<'a> Names<'a> {
-    // The names that a key spells.
+    // The names that a key encodes.
     pub(crate) fn of_key(key: &'a [u8]) -> Names<'a>
         requires { SpellsNames key.now }
         ensures { result ≡ names_of key.now }
@@ -36,7 +36,7 @@ impl<'a> Names<'a> {
         Names { rest: key }
     }
 
-    /// The first name and the names after it; none where no name is left.
+    /// The first name and the names after it; `None` if none remains.
     pub fn split_first(self) -> Option<(&'a [u8], Names<'a>)>
         ensures { MatchOption result (self.entry ≡ []) (λ first. (self.entry ≡ first.0.now ∷ first.1) × IsName first.0.now) }
     {

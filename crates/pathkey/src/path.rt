@@ -1,4 +1,4 @@
-//! Paths, each kept as its key.
+//! Paths, each stored as its key.
 ghost use Rattle.std.specs.Prelude.{◌≡◌, ◌≤◌, [], ◌∷◌, ◌++◌, length, map, IfOk, MatchOption, Ok, true, false};
 ghost use Rattle.std.specs.Option.{option_copied};
 ghost use Rattle.pathkey.specs.Names.{IsPath, is_root, parent_path, last_name, is_under, same_path};
@@ -16,17 +16,17 @@ use std::alloc::Global;
 use std::fmt;
 use std::marker::Model;
 
-/// The most bytes that a path's text has.
+/// The maximum length of a path's text in bytes.
 pub(crate) const LONGEST_TEXT: usize = 1023;
 
-/// A path from the root, which contracts see as the list of its names.
+/// An absolute path, which contracts see as the list of its names.
 ///
-/// It holds its own key, so that a look-up makes no key of its own.
+/// It stores its own key, so that a lookup need not build one.
 pub struct Path {
     key: Key,
 }
 
-// Written out, as that of `pathkey::Key`.
+// Drop is implemented by hand, as for `pathkey::Key`.
 impl Drop for Path {
     fn drop(self) {
         let Path { key: _ } = self;
@@ -46,14 +46,14 @@ impl Model for Path {
 }
 
 impl Path {
-    /// The root. It takes no memory.
+    /// The root. It allocates nothing.
     pub fn root(alloc: Global) -> Path
         ensures { result ≡ [] }
     {
         Path::of_key(Key::new(alloc))
     }
 
-    /// The path that a text names, as `/a/b`.
+    /// Parses a text such as `/a/b`.
     pub fn parse(alloc: Global, text: &[u8]) -> Result<Path, Errno>
         ensures { IsOrLacksMemory result (parsed text.now) }
     {
@@ -74,8 +74,8 @@ impl Path {
         Ok(Path::of_key(key))
     }
 
-    /// The path that a plain text names; none if the text is not plain. It is `parse` for texts that need no decoding, in one
-    /// pass over the names.
+    /// Parses a plain text; `None` if the text is not plain. It is `parse` for texts that need no decoding, in one pass over
+    /// the names.
     pub fn parse_plain(alloc: Global, text: &[u8]) -> Result<Option<Path>, NoMemory>
         ensures { IfOk result (λ path. MatchOption path (is_plain text.now ≡ false) (λ p. (is_plain text.now ≡ true) × (Ok p ≡ parsed text.now))) }
     {
@@ -89,7 +89,7 @@ impl Path {
         Ok(Some(Path::of_key(key)))
     }
 
-    // The path whose key this is.
+    // The path with this key.
     pub(crate) fn of_key(key: Key) -> Path
         requires { IsPathKey key }
         ensures { result ≡ names_of key }
@@ -97,7 +97,7 @@ impl Path {
         Path { key }
     }
 
-    /// An equal path.
+    /// Clones the path.
     pub fn copy(&self, alloc: Global) -> Result<Path, NoMemory>
         ensures { IfOk result (λ p. p ≡ self.now) }
     {
@@ -113,7 +113,7 @@ impl Path {
         &self.key
     }
 
-    /// The path's key, which is taken out of it.
+    /// Converts the path into its key.
     pub fn into_key(self) -> Key
         ensures value { result ≡ enc self }
         ensures valid { IsPath self }
@@ -157,14 +157,14 @@ impl Path {
         Ok(Some(Path::of_key(key)))
     }
 
-    /// Whether the path is `other` or lies below it.
+    /// Whether the path is `other` or is below it.
     pub fn is_under(&self, other: &Path) -> bool
         ensures { result ≡ is_under other.now self.now }
     {
         self.key().as_bytes().starts_with(other.key().as_bytes())
     }
 
-    /// Whether the two paths are one.
+    /// Whether the two paths are equal.
     pub fn is_same(&self, other: &Path) -> bool
         ensures { result ≡ same_path self.now other.now }
     {
@@ -172,8 +172,8 @@ impl Path {
     }
 }
 
-// The key of a short text after its first slash. Its bytes are laid in an array first, as one copy of many bytes takes fewer steps
-// than a push of each.
+// The key of a short text after its first slash. The bytes are first written to an array, since one copy of many bytes takes
+// fewer steps than a push of each.
 fn short_key(alloc: Global, names: &[u8]) -> Result<Key, NoMemory>
     requires { length names.now ≤ 254 }
     ensures { IfOk result (λ k. k ≡ map null_for_slash names.now ++ 0 ∷ []) }
@@ -203,7 +203,7 @@ impl fmt::Debug for Path {
     }
 }
 
-// The names of a path whose key has these bytes before its last.
+// The names of the path whose key is these bytes and a byte 0.
 fn show_names<W: fmt::Write>(names: &[u8], f: &mut fmt::Formatter<W>) -> fmt::Result {
     for &byte in names {
         match byte {

@@ -1,4 +1,4 @@
-//! Ranges of keys.
+//! Key ranges.
 ghost use Rattle.std.specs.Prelude.{◌≡◌, ◌≢◌, [], IfOk};
 ghost use Rattle.pathkey.specs.Keys.{subtree, blocks_from, is_in, is_below};
 
@@ -8,17 +8,17 @@ use crate::key::Key;
 use crate::path::Path;
 use std::alloc::Global;
 
-/// The keys from `lo` up to and without `hi`; `None` is no end.
+/// The keys from `lo` up to but excluding `hi`; `None` is unbounded.
 #[derive(Drop)]
 pub struct KeyRange {
-    /// The least key of the range.
+    /// The inclusive lower bound.
     pub lo: Key,
-    /// The least key past the range, if it has an end.
+    /// The exclusive upper bound, if there is one.
     pub hi: Option<Key>,
 }
 
 impl KeyRange {
-    /// An equal range.
+    /// Clones the range.
     pub fn copy(&self, alloc: Global) -> Result<KeyRange, NoMemory>
         ensures { IfOk result (λ r. r ≡ self.now) }
     {
@@ -30,14 +30,14 @@ impl KeyRange {
         Ok(KeyRange { lo, hi })
     }
 
-    /// Whether the range holds the key.
+    /// Whether the range contains the key.
     pub fn contains(&self, key: &Key) -> bool
         ensures { result ≡ is_in self.now key.now }
     {
         self.lo <= *key && self.ends_above(key)
     }
 
-    // Whether the key lies before the range's end.
+    // Whether the key is less than the upper bound.
     fn ends_above(&self, key: &Key) -> bool
         ensures { result ≡ is_below key.now self.now.hi }
     {
@@ -48,7 +48,7 @@ impl KeyRange {
     }
 }
 
-/// The keys at or below a path, and those of their blocks; at the root every key.
+/// The keys of the paths at or below a path, and of their blocks; at the root, all keys.
 pub fn subtree(alloc: Global, path: &Path) -> Result<KeyRange, NoMemory>
     ensures { IfOk result (λ r. r ≡ subtree path.now) }
 {
@@ -60,7 +60,7 @@ pub fn subtree(alloc: Global, path: &Path) -> Result<KeyRange, NoMemory>
     Ok(KeyRange { lo, hi })
 }
 
-/// The keys of a file's blocks from number `from` on.
+/// The keys of a file's blocks from index `from` on.
 pub fn blocks_from(alloc: Global, path: &Path, from: u32) -> Result<KeyRange, NoMemory>
     requires { path.now ≢ [] }
     ensures { IfOk result (λ r. r ≡ blocks_from path.now from) }

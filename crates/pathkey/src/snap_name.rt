@@ -15,17 +15,17 @@ use std::cmp::Ordering;
 use std::fmt;
 use std::marker::Model;
 
-/// The most bytes that a snapshot's name has.
+/// The maximum length of a snapshot's name in bytes.
 const LONGEST: usize = 64;
 
 /// A snapshot's name, which contracts see as its bytes.
 ///
-/// Names are in byte order, so it holds its bytes as a key does.
+/// Names are in byte order, so the bytes are stored as a key.
 pub struct SnapName {
     bytes: Key,
 }
 
-// Written out, as that of `pathkey::Key`.
+// Drop is implemented by hand, as for `pathkey::Key`.
 impl Drop for SnapName {
     fn drop(self) {
         let SnapName { bytes: _ } = self;
@@ -44,7 +44,7 @@ impl Model for SnapName {
 }
 
 impl SnapName {
-    /// The name that a text spells.
+    /// Parses a snapshot's name.
     pub fn parse(alloc: Global, text: &[u8]) -> Result<SnapName, Errno>
         ensures { IsOrLacksMemory result (snap_parsed text.now) }
     {
@@ -55,7 +55,7 @@ impl SnapName {
         Ok(SnapName { bytes })
     }
 
-    /// An equal name.
+    /// Clones the name.
     pub fn copy(&self, alloc: Global) -> Result<SnapName, NoMemory>
         ensures { IfOk result (λ name. name ≡ self.now) }
     {
@@ -72,14 +72,14 @@ impl SnapName {
     }
 }
 
-// Whether a text is a snapshot's name.
+// Whether a text is a valid snapshot name.
 fn is_snap_name(text: &[u8]) -> bool
     ensures { result ≡ is_snap_name text.now }
 {
     !text.is_empty() && text.len() <= LONGEST && has_snap_bytes(text)
 }
 
-// Whether each byte is one of a snapshot's name.
+// Whether each byte may occur in a snapshot's name.
 fn has_snap_bytes(text: &[u8]) -> bool
     ensures { result ≡ list_all is_snap_byte text.now }
 {

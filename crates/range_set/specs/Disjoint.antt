@@ -1,4 +1,4 @@
--- Ranges that lie apart, each as its low end with its high end: which keys they hold.
+-- Disjoint ranges, each as its low end and its high end, and the keys that they contain.
 use Rattle.std.specs.Prelude.{◌≡◌, ℕ, ◌+◌, ◌≤◌, Bool, true, false, ◌||◌, List, [], ◌∷◌, map, length, Option, Some, None}
 use Rattle.std.specs.List.{AllByRecursion}
 use Rattle.std.specs.Map.{keys_of}
@@ -10,35 +10,35 @@ use Rattle.message.specs.Ranges.{before, within}
 abbrev pub Span : Type 0
 Span = List ℕ × Option (List ℕ)
 
--- one of the ranges holds the key
+-- one of the ranges contains the key
 abbrev pub covered : List Span → List ℕ → Bool
 covered [] k = false
 covered (e ∷ rs) k = within e.0 e.1 k || covered rs k
 
--- an end stands before the key
+-- an end is before the key
 abbrev pub ends_before : Option (List ℕ) → List ℕ → Bool
 ends_before None k = false
 ends_before (Some h) k = before h k
 
--- each range begins behind the end
+-- each range begins after the end
 abbrev pub BeginBehind : Option (List ℕ) → List Span → Type 0
 BeginBehind h rs = AllByRecursion (λ q. ends_before h q ≡ true) (keys_of rs)
 
--- each range holds a key, and ends before the later ones begin: no two of them meet
+-- each range contains a key, and ends before the later ones begin: no two of them overlap or touch
 abbrev pub AreApart : List Span → Type 0
 AreApart [] = Unit {0}
 AreApart (e ∷ rs) = (is_below e.0 e.1 ≡ true) × BeginBehind e.1 rs × AreApart rs
 
--- such ranges, and how many they are
+-- such ranges, and how many there are
 pub record AreRanges (rs : List Span) (count : ℕ) : Type 0 where
   pub apart : AreApart rs
   pub counted : count ≡ length rs
 
--- the ranges cover what they covered, and the keys of one more
+-- the ranges cover what they covered, and the keys of one range more
 abbrev pub CoversMore : List ℕ → Option (List ℕ) → List Span → List Span → Type 0
 CoversMore lo hi old new = (k : List ℕ) → covered new k ≡ (within lo hi k || covered old k)
 
--- the first range has left a list and lies over the others
+-- the first range was moved out of a list and inserted into the others
 pub record TakesFirst (from left old new : List Span) : Type 0 where
   pub first : Span
   pub parts : from ≡ first ∷ left

@@ -1,15 +1,16 @@
-//! Range-deletes that lie apart.
+//! Disjoint ranges of deleted keys.
 //!
-//! What it stands for: a set of keys, as the fewest ranges that hold it. Contracts see the list of the ranges, each as its low
-//! end with its high end.
+//! What it means: a set of keys, as the fewest ranges that cover it. Contracts see the list of the ranges, each as its low end
+//! and its high end.
 //!
-//! What it relies on:
+//! Its invariants:
 //!
-//! - each range holds a key, and ends before the later ones begin: those that overlap or meet are one;
-//! - so the last range that begins at a key or before it tells whether one holds the key.
+//! - each range contains a key, and ends before the later ones begin: ranges that overlap or touch are merged;
+//! - so the last range that begins at or before a key decides whether the set contains the key.
 //!
-//! `list` is what callers see. `near` finds what lies next to a key, and `replace_overlapped` puts a range in the place of those that
-//! begin in it. `pivot` parts and joins ranges at a key, and `segment` says up to where they hold all keys or none.
+//! `list` is the public interface. `near` finds the ranges next to a key, and `replace_overlapped` replaces the ranges that
+//! begin within a range by it. `pivot` splits and merges sets at a key, and `segment` finds the segment of keys after a key
+//! that are all deleted or all not.
 #![tactic(auto)]
 
 pub mod list;

@@ -1,4 +1,4 @@
-//! The ranges that callers see.
+//! The range set, as callers see it.
 ghost use Rattle.std.specs.Prelude.{◌≡◌, ◌≢◌, ◌+◌, ◌≤◌, ◌<◌, ◌^◌, ◌++◌, List, ℕ, true, false, [], length, take, drop, Some, None, OnOk, OnErr, IfOk};
 ghost use Rattle.std.specs.Option.{option_map, option_copied};
 ghost use Rattle.std.specs.List.{slice_get};
@@ -19,7 +19,7 @@ use pathkey::{Key, KeyRange, NoMemory};
 use std::alloc::Global;
 use std::marker::Model;
 
-/// Ranges by their low ends, each with its high end; `None` is no end. Contracts see the list of them.
+/// A set of disjoint ranges: each low end with its high end; `None` is unbounded. Contracts see the list of them.
 #[derive(Drop)]
 pub struct RangeSet {
     rows: CowMap<Option<Key>>,
@@ -38,7 +38,7 @@ impl Model for RangeSet {
 }
 
 impl RangeSet {
-    /// No ranges. It takes no memory.
+    /// An empty set. It allocates nothing.
     pub fn new(alloc: Global) -> RangeSet
         ensures { result ≡ [] }
     {
@@ -48,14 +48,14 @@ impl RangeSet {
         }
     }
 
-    /// Says that the ranges lie apart. It does nothing.
+    /// Brings the invariant, that the ranges are disjoint, into a proof. It does nothing at run time.
     pub fn assert_invariant(&self)
         ensures { AreApart self.now }
     {
         let _ = &self.rows;
     }
 
-    /// How many ranges there are.
+    /// The number of ranges.
     pub fn len(&self) -> usize
         ensures { result ≡ length self.now }
     {
@@ -69,7 +69,7 @@ impl RangeSet {
         self.rows.cursor().peek()
     }
 
-    /// Takes the first ranges away. It takes no memory.
+    /// Drops the first ranges. It allocates nothing.
     pub fn drop_front(&mut self, count: usize)
         requires { count ≤ length self.old }
         ensures { self.new ≡ drop count self.old }
@@ -78,7 +78,7 @@ impl RangeSet {
         self.count -= count;
     }
 
-    /// Whether one of the ranges holds the key.
+    /// Whether one of the ranges contains the key.
     pub fn is_covered(&self, key: &Key) -> bool
         ensures { result ≡ covered self.now key.now }
     {
@@ -88,7 +88,7 @@ impl RangeSet {
         is_covered(&self.rows, key)
     }
 
-    /// Where the ranges next begin or end to hold keys behind `from`, if that is before `end`; else `end`.
+    /// The first key after `from` at which a range begins or ends, if it is before `end`; else `end`.
     pub fn segment_end<'a, U: Update>(&'a self, from: &Key, end: Option<&'a Key>) -> Option<&'a Key>
         requires { is_below from.now (option_copied end) ≡ true }
         ensures { IsStretch (range_msgs {U = U} {V = U.Value} self.now) from.now (option_copied end.entry) (option_copied result) }
@@ -96,8 +96,8 @@ impl RangeSet {
         segment_end::<U>(&self.rows, from, end)
     }
 
-    /// Lays a range over the others: those inside it give way to it, it becomes one with those that reach over its ends or
-    /// meet it, and it is left out where another holds it or it holds no key. On want of memory all are as they were.
+    /// Inserts a range: it replaces the ranges inside it and is merged with those that overlap its ends or touch it; nothing is
+    /// inserted if another range contains it or it is empty. If an allocation fails the set is unchanged.
     pub fn insert(&mut self, alloc: Global, range: &KeyRange) -> Result<(), NoMemory>
         requires { length self.old < 2 ^ 63 }
         ensures covers { OnOk result (CoversMore range.now.lo range.now.hi self.old self.new) }
@@ -110,8 +110,8 @@ impl RangeSet {
         self.insert_between(alloc, &range.lo, range.hi.as_ref())
     }
 
-    /// Lays the first range of another list over these. Where it meets none of them it is handed on as it lies in memory. On want of
-    /// memory both lists are as they were.
+    /// Moves the first range of another set into this one. If it touches no range here, its entry is moved without a copy. If
+    /// an allocation fails both sets are unchanged.
     pub fn take_first(&mut self, alloc: Global, from: &mut RangeSet) -> Result<(), NoMemory>
         requires some { from.old ≢ [] }
         requires few { length self.old < 2 ^ 63 }
@@ -132,7 +132,7 @@ impl RangeSet {
         Ok(())
     }
 
-    /// The same, where the first range fits among these.
+    /// `take_first`, if the first range needs no merge.
     fn move_first(&mut self, from: &mut RangeSet) -> Result<(), NoMemory>
         requires few { length self.old < 2 ^ 63 }
         requires fits { FitsFirst from.old self.old }
@@ -146,7 +146,7 @@ impl RangeSet {
         Ok(())
     }
 
-    /// Whether each range ends at the pivot or before it.
+    /// Whether each range ends at or before the pivot.
     pub fn end_by<U: Update>(&self, pivot: &Key) -> bool
         ensures yes { result ≡ true → LieIn [] (Some pivot.now) (range_msgs {U = U} {V = U.Value} self.now) }
         ensures no { result ≡ false → LieIn [] (Some pivot.now) (range_msgs {U = U} {V = U.Value} self.now) → ⊥ }
@@ -157,7 +157,7 @@ impl RangeSet {
         }
     }
 
-    /// Whether each range begins at the pivot or behind it.
+    /// Whether each range begins at or after the pivot.
     pub fn begin_from<U: Update>(&self, pivot: &Key) -> bool
         ensures yes { result ≡ true → LieIn pivot.now None (range_msgs {U = U} {V = U.Value} self.now) }
         ensures no { result ≡ false → LieIn pivot.now None (range_msgs {U = U} {V = U.Value} self.now) → ⊥ }
@@ -168,7 +168,8 @@ impl RangeSet {
         }
     }
 
-    /// The ranges up to the pivot, and those from it on. One that lies over it is made two.
+    /// Splits the set at the pivot: the ranges before it, and those from it on. A range that contains keys on both sides is
+    /// split.
     pub fn split_at<U: Update>(
         self,
         alloc: Global,
@@ -182,8 +183,7 @@ impl RangeSet {
         Ok((RangeSet::of(front), RangeSet::of(back)))
     }
 
-    /// The ranges of both lists, where these lie before the pivot and the newer ones from it on. Two that meet there become
-    /// one.
+    /// Merges two sets, this one before the pivot and the newer one from it on. Ranges that touch there are merged.
     pub fn merged<U: Update>(
         self,
         alloc: Global,
@@ -199,7 +199,7 @@ impl RangeSet {
         Ok(RangeSet::of(rows))
     }
 
-    /// Copies of the range-deletes, put behind those in `front`, until it has so many.
+    /// Appends copies of the ranges, as range-deletes, to `front`, until it has `count` messages.
     pub fn copy_into<U: Update>(
         &self,
         alloc: Global,
@@ -220,7 +220,7 @@ impl RangeSet {
         Ok(())
     }
 
-    /// Equal ranges, in rows that both then share.
+    /// Clones the set; both then share the chunks.
     pub fn copy(&self) -> Result<RangeSet, NoMemory>
         ensures { IfOk result (λ r. r ≡ self.now) }
     {
@@ -231,7 +231,7 @@ impl RangeSet {
         })
     }
 
-    /// Ranges in these rows.
+    /// The set of these ranges.
     fn of(rows: CowMap<Option<Key>>) -> RangeSet
         requires apart { AreApart rows }
         requires few { length rows < 2 ^ 64 }
@@ -241,7 +241,7 @@ impl RangeSet {
         RangeSet { rows, count }
     }
 
-    /// The same as `insert`, by the ends.
+    /// `insert`, by the ends of the range.
     fn insert_between(&mut self, alloc: Global, lo: &Key, hi: Option<&Key>) -> Result<(), NoMemory>
         requires some { is_below lo.now (option_copied hi) ≡ true }
         requires few { length self.old < 2 ^ 63 }
@@ -256,8 +256,8 @@ impl RangeSet {
         self.replace_overlapped(wide)
     }
 
-    /// Puts a range in the place of those that begin in it, where no other reaches over its ends or meets it. On want of
-    /// memory all are as they were.
+    /// Inserts a range in place of those that begin within it, if no other overlaps its ends or touches it. If an allocation
+    /// fails the set is unchanged.
     fn replace_overlapped(&mut self, range: KeyRange) -> Result<(), NoMemory>
         requires some { is_below range.lo range.hi ≡ true }
         requires low { EndBefore range.lo self.old }

@@ -1,4 +1,4 @@
-//! What lies next to a key.
+//! The ranges next to a key.
 ghost use Rattle.std.specs.Prelude.{◌≡◌, true, false, Some, List, ℕ, IfOk};
 ghost use Rattle.std.specs.Option.{option_copied};
 ghost use Rattle.pathkey.specs.Keys.{is_below};
@@ -10,7 +10,7 @@ use message::ends::{copy_end, ends_by, is_before_end};
 use pathkey::{Key, KeyRange, NoMemory};
 use std::alloc::Global;
 
-/// Whether one of the ranges holds the key.
+/// Whether one of the ranges contains the key.
 pub(crate) fn is_covered(ranges: &CowMap<Option<Key>>, key: &Key) -> bool
     requires { AreApart ranges.now }
     ensures { result ≡ covered ranges.now key.now }
@@ -21,7 +21,7 @@ pub(crate) fn is_covered(ranges: &CowMap<Option<Key>>, key: &Key) -> bool
     }
 }
 
-/// Whether one of the ranges holds every key from `lo` up to and without `hi`; `None` is no end.
+/// Whether one of the ranges contains every key from `lo` up to but excluding `hi`; `None` is unbounded.
 pub(crate) fn is_held(ranges: &CowMap<Option<Key>>, lo: &Key, hi: Option<&Key>) -> bool
     requires { AreApart ranges.now }
     ensures { result ≡ true → AreHeld lo.now (option_copied hi.entry) ranges.now }
@@ -32,7 +32,7 @@ pub(crate) fn is_held(ranges: &CowMap<Option<Key>>, lo: &Key, hi: Option<&Key>) 
     }
 }
 
-/// Where the range begins that begins before the key and ends at it or after it; the key where there is none.
+/// The low end of the range that begins before the key and ends at or after it; the key if there is none.
 pub(crate) fn low_end<'a>(ranges: &'a CowMap<Option<Key>>, key: &'a Key) -> &'a Key
     requires { AreApart ranges.now }
     ensures { IsLowEnd ranges.now key.now result.now }
@@ -47,7 +47,7 @@ pub(crate) fn low_end<'a>(ranges: &'a CowMap<Option<Key>>, key: &'a Key) -> &'a 
     }
 }
 
-/// Where the range ends that holds the end; the end where there is none. `None` is no end.
+/// The high end of the range that contains the end; the end if there is none. `None` is unbounded.
 pub(crate) fn high_end<'a>(ranges: &'a CowMap<Option<Key>>, end: Option<&'a Key>) -> Option<&'a Key>
     requires { AreApart ranges.now }
     ensures { IsHighEnd ranges.now (option_copied end.entry) (option_copied result) }
@@ -63,7 +63,7 @@ pub(crate) fn high_end<'a>(ranges: &'a CowMap<Option<Key>>, end: Option<&'a Key>
     }
 }
 
-/// Whether no range begins before `lo` and reaches there, and none holds `hi` or begins there; `None` is no end.
+/// Whether no range begins before `lo` and ends at or after it, and none contains `hi` or begins at it; `None` is unbounded.
 pub(crate) fn is_apart(ranges: &CowMap<Option<Key>>, lo: &Key, hi: Option<&Key>) -> bool
     requires some { is_below lo.now (option_copied hi) ≡ true }
     requires apart { AreApart ranges.now }
@@ -72,7 +72,7 @@ pub(crate) fn is_apart(ranges: &CowMap<Option<Key>>, lo: &Key, hi: Option<&Key>)
     lo.cmp(low_end(ranges, lo)).is_le() && ends_by(high_end(ranges, hi), hi)
 }
 
-/// The range from `lo` up to and without `hi` and those that reach over its ends or meet them, as one range.
+/// The union of the range from `lo` up to but excluding `hi` and the ranges that overlap its ends or touch it, as one range.
 pub(crate) fn widened(
     ranges: &CowMap<Option<Key>>,
     alloc: Global,

@@ -1,4 +1,4 @@
-//! Ranges that are parted at a pivot, and joined there.
+//! Splits and merges of range sets at a pivot.
 ghost use Rattle.std.specs.Prelude.{◌≡◌, ◌+◌, ◌≤◌, true, [], Some, None, length, OnOk, IfOk};
 ghost use Rattle.message.specs.Cuts.{IsJoined, LieIn};
 ghost use Rattle.range_set.specs.Disjoint.{range_msgs, AreApart};
@@ -11,7 +11,7 @@ use message::ends::{copy_end, is_before_end};
 use pathkey::{Key, KeyRange, NoMemory};
 use std::alloc::Global;
 
-/// The ranges up to the pivot, and those from it on. One that lies over it is made two.
+/// Splits the ranges at the pivot: those before it, and those from it on. A range that contains keys on both sides is split.
 pub(crate) fn split<U: Update>(
     rows: CowMap<Option<Key>>,
     alloc: Global,
@@ -28,7 +28,7 @@ pub(crate) fn split<U: Update>(
     Ok((front, back))
 }
 
-/// Makes two ranges of the last of the front, where it lies over the pivot. The second stands in the back.
+/// Splits the last range of the front if it ends after the pivot. The second half is added to the back.
 fn split_last(
     front: &mut CowMap<Option<Key>>,
     alloc: Global,
@@ -48,7 +48,7 @@ fn split_last(
     Ok(())
 }
 
-/// A copy of the last of the ranges, where it ends behind the pivot.
+/// A copy of the last of the ranges, if it ends after the pivot.
 fn last_over(
     rows: &CowMap<Option<Key>>,
     alloc: Global,
@@ -67,7 +67,7 @@ fn last_over(
     Ok(Some(KeyRange { lo, hi }))
 }
 
-/// The ranges of two lists that lie on both sides of a pivot. Two that meet there become one.
+/// Merges two sets that are on both sides of a pivot. Ranges that touch there are merged.
 pub(crate) fn merge<U: Update>(
     front: CowMap<Option<Key>>,
     alloc: Global,
@@ -88,7 +88,7 @@ pub(crate) fn merge<U: Update>(
     Ok(all)
 }
 
-/// Makes one range of the last of the front and the first of the back, where they meet. It stands in the front.
+/// Merges the last range of the front and the first of the back if they touch. The merged range is in the front.
 fn merge_touching(
     front: &mut CowMap<Option<Key>>,
     alloc: Global,
@@ -104,7 +104,7 @@ fn merge_touching(
     Ok(())
 }
 
-/// The last range of the front and the first of the back as one range, where they meet.
+/// The last range of the front and the first of the back as one range, if they touch.
 fn merged_touching(
     front: &CowMap<Option<Key>>,
     alloc: Global,

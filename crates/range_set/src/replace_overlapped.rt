@@ -1,4 +1,4 @@
-//! A range in the place of those that begin in it.
+//! Replaces the ranges that begin within a range by it.
 ghost use Rattle.std.specs.Prelude.{◌≡◌, ◌+◌, ◌<◌, ◌^◌, true, false, length, OnOk, OnErr, IfOk};
 ghost use Rattle.std.specs.BTreeMap.{insert_entry};
 ghost use Rattle.std.specs.Option.{option_copied};
@@ -12,8 +12,8 @@ use cow_map::CowMap;
 use message::ends::is_before_end;
 use pathkey::{Key, KeyRange, NoMemory};
 
-/// Puts a range in the place of those that begin in it, and answers how many of these there were. On want of memory all are
-/// as they were.
+/// Inserts a range in place of those that begin within it, and returns how many these were. If an allocation fails the set is
+/// unchanged.
 pub(crate) fn replace_overlapped(
     rows: &mut CowMap<Option<Key>>,
     range: KeyRange,
@@ -31,7 +31,7 @@ pub(crate) fn replace_overlapped(
     }
 }
 
-/// Whether a range begins behind the low end of another and before its high end.
+/// Whether a range begins after `lo` and before `hi`; `None` is unbounded.
 pub(crate) fn has_inside(rows: &CowMap<Option<Key>>, lo: &Key, hi: Option<&Key>) -> bool
     requires { is_below lo.now (option_copied hi) ≡ true }
     ensures { result ≡ false → spliced (record { lo = lo.now; hi = option_copied hi.entry }) rows.now ≡ insert_entry by_bytes rows.now lo.now (option_copied hi.entry) }
@@ -43,7 +43,7 @@ pub(crate) fn has_inside(rows: &CowMap<Option<Key>>, lo: &Key, hi: Option<&Key>)
     }
 }
 
-/// Whether a range can be put in as it stands: no other reaches over its ends, meets it, or begins in it behind its low end.
+/// Whether a range can be inserted without a merge: no other overlaps its ends, touches it, or begins in it after its low end.
 pub(crate) fn fits(rows: &CowMap<Option<Key>>, lo: &Key, hi: Option<&Key>) -> bool
     requires some { is_below lo.now (option_copied hi) ≡ true }
     requires apart { AreApart rows.now }
@@ -52,7 +52,7 @@ pub(crate) fn fits(rows: &CowMap<Option<Key>>, lo: &Key, hi: Option<&Key>) -> bo
     is_apart(rows, lo, hi) && !has_inside(rows, lo, hi)
 }
 
-/// Puts a range in, in the place of one that begins where it does, and answers how many such there were.
+/// Inserts a range in place of one with the same low end, and returns how many of these there were.
 pub(crate) fn put(rows: &mut CowMap<Option<Key>>, range: KeyRange) -> Result<usize, NoMemory>
     ensures ok { OnOk result (rows.new ≡ insert_entry by_bytes rows.old range.lo range.hi) }
     ensures counted { IfOk result (λ gone. length rows.new + gone ≡ length rows.old + 1) }
@@ -66,7 +66,7 @@ pub(crate) fn put(rows: &mut CowMap<Option<Key>>, range: KeyRange) -> Result<usi
     }
 }
 
-/// The same as `replace_overlapped`, on rows that are shared until it is done.
+/// `replace_overlapped` on a copy, which shares chunks with the original until this is done.
 fn replace(rows: &mut CowMap<Option<Key>>, range: KeyRange) -> Result<usize, NoMemory>
     requires { length rows.old < 2 ^ 63 }
     ensures ok { OnOk result (rows.new ≡ spliced range rows.old) }

@@ -1,4 +1,4 @@
-//! Up to where ranges hold all keys or none.
+//! The end of a segment of keys that are all in the set or all not.
 ghost use Rattle.std.specs.Prelude.{◌≡◌, true, take};
 ghost use Rattle.std.specs.Option.{option_copied};
 ghost use Rattle.pathkey.specs.Keys.{is_below};
@@ -11,7 +11,7 @@ use message::Update;
 use message::ends::earlier;
 use pathkey::Key;
 
-/// Where the ranges next begin or end to hold keys behind `from`, if that is before `end`; else `end`.
+/// The first key after `from` at which a range begins or ends, if it is before `end`; else `end`.
 pub(crate) fn segment_end<'a, U: Update>(
     ranges: &'a CowMap<Option<Key>>,
     from: &Key,
@@ -27,7 +27,7 @@ pub(crate) fn segment_end<'a, U: Update>(
     )
 }
 
-/// Where the first range begins that begins behind the key.
+/// The low end of the first range that begins after the key.
 fn next_begin<'a>(ranges: &'a CowMap<Option<Key>>, key: &Key) -> Option<&'a Key>
     ensures { option_copied result ≡ next_begin key.now ranges.now }
 {
@@ -37,7 +37,7 @@ fn next_begin<'a>(ranges: &'a CowMap<Option<Key>>, key: &Key) -> Option<&'a Key>
     }
 }
 
-/// The high end of the range that holds the key, if there is one and it has an end.
+/// The high end of the range that contains the key, if there is one and it is bounded.
 fn next_end<'a>(ranges: &'a CowMap<Option<Key>>, key: &Key) -> Option<&'a Key>
     ensures { option_copied result ≡ next_end key.now ranges.now }
 {

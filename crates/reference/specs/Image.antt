@@ -1,5 +1,5 @@
--- The image of a tree: one line for each entry in key order, and for a file the blocks that hold a byte other than zero.
--- It has two versions, of which the second tells moments.
+-- The image of a tree: one line for each entry in key order, and for a file the blocks that contain a nonzero byte. It has two
+-- versions, of which the second records mtimes.
 use Rattle.std.specs.Prelude.{ℕ, zero, suc, ◌+◌, ◌*◌, ◌/◌, ◌%◌, nat_lt, ◌==◌, ◌||◌, List, [], ◌∷◌, ◌++◌, length, take, drop, cond, codes, decimal, flat_map}
 use Rattle.reference.specs.Tree.{Path, Tree, Dir, File, Entries, nothing, entry}
 
@@ -40,7 +40,7 @@ block_lines b zero = []
 block_lines b (suc i) = block_lines b i ++ block_line i (trimmed (take 4096 (drop (4096 * i) b)))
 
 -- ---- versions
--- version 1 of an image tells no moments, version 2 does
+-- version 1 of an image records no mtimes, version 2 does
 pub data Version : Type 0 where
   First : Version
   Second : Version
@@ -54,17 +54,17 @@ abbrev pub file_letter : Version → ℕ
 file_letter First = 102
 file_letter Second = 70
 
--- the end of an entry's line: nothing, or a space and the moment
+-- the end of an entry's line: nothing, or a space and the mtime
 abbrev pub moment_text : Version → ℕ → Text
 moment_text First at = []
 moment_text Second at = 32 ∷ decimal at
 
--- the moment as far as the version tells it: 0 where it does not
+-- the mtime that the version records: 0 if it records none
 abbrev pub reported_moment : Version → ℕ → ℕ
 reported_moment First at = 0
 reported_moment Second at = at
 
--- a tree with its moments as far as the version tells them
+-- a tree with the mtimes that the version records
 abbrev mutual
   pub as_reported : Version → Tree → Tree
   as_reported v (Dir date es) = Dir (reported_moment v date) (as_reported_of v es)
@@ -75,14 +75,14 @@ abbrev mutual
   as_reported_of v (entry n x rest) = entry n (as_reported v x) (as_reported_of v rest)
 
 -- ---- images
--- the line of a directory whose path has the text, and that of a file of so many bytes, without their line feeds
+-- the line of a directory at the path with the text, and that of a file of the given length, without their line feeds
 abbrev pub directory_line : Version → Text → ℕ → Text
 directory_line v text date = directory_letter v ∷ 32 ∷ text ++ moment_text v date
 
 abbrev pub file_line : Version → Text → ℕ → ℕ → Text
 file_line v text n date = file_letter v ∷ 32 ∷ text ++ (32 ∷ decimal n ++ moment_text v date)
 
--- the lines of a tree that stands at the path p, and of the entries of a directory there
+-- the lines of a tree at the path p, and of the entries of a directory there
 abbrev mutual
   pub lines : Version → Path → Tree → Text
   lines v p (Dir date es) = (directory_line v (path_text p) date ++ 10 ∷ []) ++ lines_of v p es

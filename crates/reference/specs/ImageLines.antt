@@ -8,8 +8,8 @@ use Rattle.reference.specs.Image.{Text, two_digits, path_text, trimmed, Version,
 use Rattle.reference.specs.Shape.{AreBytes, IsMoment, IsTree}
 use Rattle.reference.specs.Tree.{Path, Tree, Dir, File, nothing, by_bytes, At, Found, entry_at, over, with_entry, moment, moment_there}
 
--- a line below the root's: of a directory, of a file of so many bytes, each with its moment, or of a block with its
--- number and its bytes
+-- a line below the root's: of a directory, of a file of the given length, each with its mtime, or of a block with its index and
+-- its bytes
 pub data Line : Type 0 where
   DirectoryLine : Path → ℕ → Line
   FileLine : Path → ℕ → ℕ → Line
@@ -21,36 +21,36 @@ Lines = List Line
 
 -- ---- texts
 
--- the one spelling of a line in a version, without its line feed
+-- the only text of a line in a version, without its line feed
 abbrev pub spelled : Version → Line → Text
 spelled v (DirectoryLine p at) = directory_line v (path_text p) at
 spelled v (FileLine p n at) = file_line v (path_text p) n at
 spelled v (BlockLine i b) = codes "b " ++ decimal i ++ 32 ∷ flat_map (two_digits 87) b
 
--- the line of the root, which has that moment, and these lines behind it
+-- the line of the root, which has that mtime, followed by these lines
 abbrev pub image_of_lines : Version → ℕ → Lines → Text
 image_of_lines v root [] = root_line v root ++ 10 ∷ []
 image_of_lines v root (l ∷ ls) = image_of_lines v root ls ++ (spelled v l ++ 10 ∷ [])
 
--- the moments that a line of the version may tell: it is 0 where the version tells none
+-- the mtimes that a line of the version may record: only 0 if the version records none
 abbrev pub IsReported : Version → ℕ → Type 0
 IsReported First at = at ≡ 0
 IsReported Second at = IsMoment at
 
--- what the line of a block tells: 1 to 4,096 bytes, the last of which is not zero
+-- the bytes in the line of a block: 1 to 4,096, the last of which is not zero
 pub record IsBlock (b : List ℕ) : Type 0 where
   pub some : 0 < length b
   pub most : length b ≤ 4096
   pub bytes : AreBytes b
   pub trims : trimmed b ≡ b
 
--- a line that may stand in some image
+-- a line that may occur in an image
 abbrev pub IsLine : Version → Line → Type 0
 IsLine v (DirectoryLine p at) = IsPath p × (p ≢ []) × IsReported v at
 IsLine v (FileLine p n at) = IsPath p × (p ≢ []) × (n ≤ 2 ^ 40) × IsReported v at
 IsLine v (BlockLine i b) = (i < 2 ^ 28) × IsBlock b
 
--- ---- what lines tell
+-- ---- what lines record
 
 -- the path of the last entry; the root's where there is none
 abbrev pub last_path : Lines → Path
@@ -66,7 +66,7 @@ last_len (DirectoryLine p at ∷ ls) = None
 last_len (FileLine p n at ∷ ls) = Some n
 last_len (BlockLine i b ∷ ls) = last_len ls
 
--- the first block that the next line may tell
+-- the least index that the next line of a block may have
 abbrev pub next_block : Lines → ℕ
 next_block [] = 0
 next_block (DirectoryLine p at ∷ ls) = 0
@@ -88,7 +88,7 @@ pub record IsNewEntry (p : Path) (ls : Lines) : Type 0 where
   pub rises : by_bytes (enc (last_path ls)) (enc p) ≡ Less
   pub parent : HasDirectory ls (parent p)
 
--- a block of these bytes may follow the lines: those of its file come last, its number is above those of the blocks
+-- a block of these bytes may follow the lines: those of its file come last, its index is greater than those of the blocks
 -- before it, and its bytes end inside the file
 pub record IsNewBlock (i : ℕ) (b : List ℕ) (ls : Lines) : Type 0 where
   pub len : ℕ
@@ -122,8 +122,8 @@ IsSomeImage text = (v : Version) × IsImage v text
 
 -- ---- the tree of an image
 
--- the tree that lines make, one after the other, under a root with that moment: an entry is put, and a block's bytes
--- are laid over its file, which keeps its moment
+-- the tree that lines make, one after the other, under a root with that mtime: an entry is added, and a block's bytes overwrite
+-- those of its file, which keeps its mtime
 abbrev pub tree_of_lines : ℕ → Lines → Tree
 tree_of_lines root [] = Dir root nothing
 tree_of_lines root (DirectoryLine p at ∷ ls) = with_entry (tree_of_lines root ls) p (Dir at nothing)
@@ -132,7 +132,7 @@ tree_of_lines root (BlockLine i b ∷ ls) =
     let here : At = entry_at (tree_of_lines root ls) (last_path ls) in
     with_entry (tree_of_lines root ls) (last_path ls) (File (moment_there here) (over (bytes_of here) (4096 * i) b))
 
--- every moment of the tree is one that the version may tell
+-- every mtime of the tree is one that the version may record
 abbrev pub AllReported : Version → Tree → Type 0
 AllReported v t = (p : Path) (x : Tree) → entry_at t p ≡ Found x → IsReported v (moment x)
 
@@ -150,7 +150,7 @@ IsBadAt n text = ((n ≡ 1) ⊎ IsSomeImage (first_lines (n - 1) text)) × (IsSo
 
 -- ---- laws
 
--- lines of an image make a directory tree, of which they are the image, with the moments that they tell
+-- lines of an image make a directory tree, of which they are the image, with the mtimes that they record
 abbrev pub LinesLaw : Type 0
 LinesLaw = (v : Version) (root : ℕ) (ls : Lines) → IsReported v root → AreLines v ls
     → IsTree (tree_of_lines root ls) × (image v (tree_of_lines root ls) ≡ image_of_lines v root ls) × AllReported v (tree_of_lines root ls)
@@ -163,7 +163,7 @@ ImageLaw = (v : Version) (text : Text) → IsImage v text ↔ ((t : Tree) × IsT
 abbrev pub OneVersionLaw : Type 0
 OneVersionLaw = (v w : Version) (text : Text) → IsImage v text → IsImage w text → v ≡ w
 
--- lines of an image, and the root's moment, are known from it
+-- lines of an image, and the root's mtime, are determined by it
 abbrev pub OneLineLaw : Type 0
 OneLineLaw = (v : Version) (root top : ℕ) (ls ks : Lines) → IsReported v root → IsReported v top → AreLines v ls → AreLines v ks → image_of_lines v root ls ≡ image_of_lines v top ks → (root ≡ top) × (ls ≡ ks)
 

@@ -1,5 +1,5 @@
--- Laws of the definitions: what an edit changes, what a call keeps, what is seen at the paths of a tree, and
--- which changes of two indexes mean which call.
+-- Laws of the definitions: what an edit changes, what a call preserves, what is visible at the paths of a tree, and which
+-- changes of two indexes mean which call.
 use Rattle.std.specs.Prelude.{◌≡◌, ◌≢◌, ◌↔◌, ℕ, ◌+◌, ◌≤◌, false, length, List, [], ◌∷◌, ◌++◌, Option, Some, None, option_map, Contains}
 use Rattle.pathkey.specs.Enc.{enc}
 use Rattle.pathkey.specs.Names.{IsPath}
@@ -20,29 +20,29 @@ use Rattle.reference.specs.declared.reply.Meta.TheVariants.{Dir as DirMeta, File
 
 -- ---- edits
 
--- what is seen in a tree after one entry was put or taken out, its parent being a directory
+-- what is visible in a tree after one entry was added or removed, if its parent is a directory
 abbrev pub EditLaw : Type 0
 EditLaw = (t : Tree) (p : Path) (o : Option Tree) (q : Path) → p ≢ [] → parent_fault t p ≡ None → sight (edited t p o) q ≡ sight_after (rest_of p q) o (sight t q)
 
--- what is seen in a tree after the moment was set at a path: that moment there, and all else as it was
+-- what is visible in a tree after the mtime was set at a path: that mtime there, and all else unchanged
 abbrev pub TouchedLaw : Type 0
 TouchedLaw = (at : ℕ) (t : Tree) (p q : Path) → sight (touched at t p) q ≡ sight_touched at (rest_of p q) (sight t q)
 
--- an entry that is put keeps the names of each directory rising
+-- adding an entry keeps the names of each directory sorted
 abbrev pub PutRisesLaw : Type 0
 PutRisesLaw = (t : Tree) (p : Path) (x : Tree) → Rising x → Rising t → Rising (edited t p (Some x))
 
--- and so does an entry that is taken out
+-- and so does removing an entry
 abbrev pub OutRisesLaw : Type 0
 OutRisesLaw = (t : Tree) (p : Path) → Rising t → Rising (edited t p None)
 
 -- ---- calls
 
--- each of the eleven calls makes a directory tree of a directory tree
+-- each of the eleven calls maps a directory tree to a directory tree
 abbrev pub CallLaw : Type 0
 CallLaw = (at : ℕ) (t : Tree) (c : Call) → IsMoment at → IsTree t → IsCall c → IsTree (does at t c).0
 
--- a call that is refused changes nothing
+-- a call that fails changes nothing
 abbrev pub FaultLaw : Type 0
 FaultLaw = (at : ℕ) (t : Tree) (c : Call) (e : Errno) → (does at t c).1 ≡ Fault e → (does at t c).0 ≡ t
 
@@ -51,22 +51,22 @@ abbrev pub ReadingLaw : Type 0
 ReadingLaw = (at : ℕ) (t : Tree) (p : Path) (off n : ℕ) →
     ((does at t (Read p off n)).0 ≡ t) × ((does at t (AskStat p)).0 ≡ t) × ((does at t (Readdir p)).0 ≡ t) × ((does at t (Write p off [])).0 ≡ t) × ((does at t (Rename p p)).0 ≡ t)
 
--- the table of calls never answers want of memory: that comes only from memory that was really refused
+-- the table of calls never returns ENOMEM: that comes only from an allocation that failed
 abbrev pub NeverLacksLaw : Type 0
 NeverLacksLaw = (at : ℕ) (t : Tree) (c : Call) → (does at t c).1 ≢ Fault ENOMEM
 
--- a call that is done changes the tree but for its directories' moments, and those get the moment of the call
+-- a call that succeeds changes the tree except for its directories' mtimes, and those become the time of the call
 abbrev pub DoneLaw : Type 0
 DoneLaw = (at : ℕ) (t t' : Tree) (c : Call) → ◌≡◌ {A = Outcome} (does at t c) (t', Done)
     → (u : Tree) × (◌≡◌ {A = Outcome} (changed at t c) (u, Done)) × (t' ≡ all_touched at u (parents_of c))
 
--- ---- what is seen
+-- ---- what is visible
 
--- two trees in order that look alike at each path, moments too, are one
+-- two sorted trees with the same entry visible at each path, mtimes included, are equal
 abbrev pub OneTreeLaw : Type 0
 OneTreeLaw = (t u : Tree) → Rising t → Rising u → ((p : Path) → sight t p ≡ sight u p) → t ≡ u
 
--- what is seen without its moment is seen
+-- what is visible apart from its mtime is visible
 abbrev pub SightLaw : Type 0
 SightLaw = (t : Tree) (p : Path) → look t p ≡ option_map look_of (sight t p)
 
@@ -74,25 +74,25 @@ SightLaw = (t : Tree) (p : Path) → look t p ≡ option_map look_of (sight t p)
 abbrev pub BlockedLaw : Type 0
 BlockedLaw = (t : Tree) (p : Path) (n : Name) (r : Path) (b : List ℕ) → look t p ≡ Some (Bytes b) → entry_at t (p ++ n ∷ r) ≡ Blocked
 
--- at a name that a directory lacks, and below it, nothing stands
+-- at a name that a directory lacks, and below it, there is no entry
 abbrev pub MissingLaw : Type 0
 MissingLaw = (t : Tree) (p : Path) (n : Name) (r : Path) → look t p ≡ Some Directory → look t (p ++ n ∷ []) ≡ None → entry_at t (p ++ n ∷ r) ≡ Missing
 
--- what is seen one name below a directory is its entry of that name
+-- what is visible one name below a directory is its entry of that name
 abbrev pub ChildLaw : Type 0
 ChildLaw = (t : Tree) (p : Path) (date : ℕ) (es : Entries) (n : Name) → entry_at t p ≡ Found (Dir date es) → look t (p ++ n ∷ []) ≡ seen (found (named n es))
 
--- a directory lists exactly the names at which something is seen, each with its kind
+-- a directory lists exactly the names at which an entry is visible, each with its kind
 abbrev pub ListingLaw : Type 0
 ListingLaw = (t : Tree) (p : Path) (date : ℕ) (es : Entries) (k : Kind) (n : Name) → Rising t → entry_at t p ≡ Found (Dir date es) → Contains (listing es) (k, n) ↔ (kind_at t (p ++ n ∷ []) ≡ Some k)
 
 -- ---- images
 
--- two directory trees of one image are one tree, as far as its version tells: in version 1 but for moments
+-- two directory trees with the same image are equal, as far as its version records them: in version 1 except for mtimes
 abbrev pub OneImageLaw : Type 0
 OneImageLaw = (v : Version) (t u : Tree) → IsTree t → IsTree u → image v t ≡ image v u → as_reported v t ≡ as_reported v u
 
--- version 2 tells the whole tree
+-- version 2 records the whole tree
 abbrev pub ReportedLaw : Type 0
 ReportedLaw = (t : Tree) → as_reported Second t ≡ t
 
@@ -106,12 +106,12 @@ OneMeaningLaw = (t u : Tree) (m : Metadata) (d : Blocks) → IndexesMean t m d �
 abbrev pub FreshLaw : Type 0
 FreshLaw = IndexesMean (Dir 0 nothing) (put_at (enc []) (DirMeta 0) (λ k. None)) (λ k. None)
 
--- where two indexes mean a tree, a moment set in the metadata is one set in the tree
+-- if two indexes mean a tree, an mtime set in the metadata is one set in the tree
 abbrev pub TouchLaw : Type 0
 TouchLaw = (at : ℕ) (t : Tree) (p : Path) (m : Metadata) (d : Blocks) → IsMoment at → IndexesMean t m d → IsPath p → IndexesMean (touched at t p) (edit_at (enc p) (touch at) m) d
 
--- where two indexes mean a tree, these changes of them mean these calls when they are done: what the call itself
--- changes, and then the moment of its directories
+-- if two indexes mean a tree, these changes of them mean these calls when they succeed: the change of the call itself, and then
+-- the mtimes of its directories
 abbrev pub MkdirLaw : Type 0
 MkdirLaw = (at : ℕ) (t t' : Tree) (p : Path) (m : Metadata) (d : Blocks) → IsMoment at → IndexesMean t m d → IsCall (Mkdir p) → ◌≡◌ {A = Outcome} (does at t (Mkdir p)) (t', Done)
     → IndexesMean t' (touch_at at (parents_of (Mkdir p)) (put_at (enc p) (DirMeta at) m)) d
@@ -128,7 +128,7 @@ abbrev pub TruncateLaw : Type 0
 TruncateLaw = (at : ℕ) (t t' : Tree) (p : Path) (n : ℕ) (m : Metadata) (d d' : Blocks) → IsMoment at → IndexesMean t m d → IsCall (Truncate p n) → BlocksChange (cut_block n) p d d'
     → ◌≡◌ {A = Outcome} (does at t (Truncate p n)) (t', Done) → IndexesMean t' (edit_at (enc p) (set_len n at) m) d'
 
--- to lengthen a file changes no block
+-- extending a file changes no block
 abbrev pub LengthenLaw : Type 0
 LengthenLaw = (at : ℕ) (t t' : Tree) (p : Path) (n : ℕ) (b : List ℕ) (m : Metadata) (d : Blocks) → IsMoment at → IndexesMean t m d → IsCall (Truncate p n) → look t p ≡ Some (Bytes b) → length b ≤ n
     → ◌≡◌ {A = Outcome} (does at t (Truncate p n)) (t', Done) → IndexesMean t' (edit_at (enc p) (set_len n at) m) d

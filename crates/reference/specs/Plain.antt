@@ -1,4 +1,4 @@
--- How the plain program's values are read: each as what the definitions speak of.
+-- The abstraction of the plain program's values: each as a value of the definitions.
 use Rattle.std.specs.Prelude.{◌≡◌, Result, IfOk, Option, Some, None}
 use Rattle.std.specs.Borrow.{Bor}
 use Rattle.reference.specs.Tree.{Tree, Dir, File, Entries, nothing, entry, At, Found, Missing, Blocked}
@@ -28,22 +28,22 @@ abbrev pub tree_found : Option (Bor PlainTree) → Option Tree
 tree_found None = None
 tree_found (Some x) = Some (tree_of x.now)
 
--- a tree that is given
+-- a tree that is passed in
 abbrev pub tree_given : Option PlainTree → Option Tree
 tree_given None = None
 tree_given (Some x) = Some (tree_of x)
 
--- what stands at a path
+-- what is at a path
 abbrev pub at_of : PlainAt → At
 at_of (PlainFound x) = Found (tree_of x.now)
 at_of PlainMissing = Missing
 at_of PlainBlocked = Blocked
 
--- the tree after a call and the answer, from what the call did to a tree
+-- the tree after a call and the reply, from the effect of the call on a tree
 abbrev pub effect_of : Tree → Effect → Outcome
 effect_of t (Kept r) = (t, r)
 effect_of t (Changed x r) = (tree_of x, r)
 
--- where memory sufficed, the effect on the tree is the outcome
+-- if no allocation failed, the effect on the tree is the outcome
 abbrev pub HasEffect : Result Effect NoMemory → Tree → Outcome → Type 0
 HasEffect r t o = IfOk r (λ e. ◌≡◌ {A = Outcome} (effect_of t e) o)

@@ -1,4 +1,4 @@
--- How a world of the plain program is read.
+-- The abstraction of the plain program's world.
 use Rattle.std.specs.Prelude.{ℕ, List, map}
 use Rattle.std.specs.FinMap as finite
 use Rattle.std.specs.BTreeMap.{BTreeMap}

@@ -1,6 +1,5 @@
--- What is seen of a tree at a path: a directory, or a file with its bytes, but not what a directory holds; and the same
--- with its moment of last change.
--- An edit changes what is seen at its path and below it, and nowhere else.
+-- What is visible of a tree at a path: a directory, or a file with its bytes, but not the entries of a directory; and the same
+-- with its mtime. An edit changes what is visible at its path and below it, and nowhere else.
 use Rattle.std.specs.Prelude.{ℕ, List, [], ◌∷◌, cond, Option, Some, None, option_map, fold}
 use Rattle.reference.specs.Tree.{Path, Tree, Dir, File, At, Found, Missing, Blocked, entry_at, found, onward, same}
 use Rattle.reference.specs.declared.reply.Kind.{Kind}
@@ -16,7 +15,7 @@ seen (Found (File date b)) = Some (Bytes b)
 seen Missing = None
 seen Blocked = None
 
--- what is seen at a path, but for its moment
+-- what is visible at a path, apart from its mtime
 abbrev pub look : Tree → Path → Option Look
 look t p = seen (entry_at t p)
 
@@ -24,23 +23,23 @@ abbrev pub look_kind : Look → Kind
 look_kind Directory = DirKind
 look_kind (Bytes b) = FileKind
 
--- the kind of what is seen at a path
+-- the kind of what is visible at a path
 abbrev pub kind_at : Tree → Path → Option Kind
 kind_at t p = option_map look_kind (look t p)
 
--- what is left of q after p, where q is at or below p
+-- the rest of q after p, if q is at or below p
 abbrev pub rest_of : Path → Path → Option Path
 rest_of [] q = Some q
 rest_of (n ∷ p) [] = None
 rest_of (n ∷ p) (k ∷ q) = cond (same n k) (rest_of p q) None
 
--- what is seen at a path after an edit at or above it by o, and else what was seen before
+-- what is visible at a path after an edit at or above it by o, and else what was visible before
 abbrev pub look_after : Option Path → Option Tree → Option Look → Option Look
 look_after (Some r) o old = seen (fold onward (found o) r)
 look_after None o old = old
 
--- ---- with moments
--- what is seen, and its moment of last change
+-- ---- with mtimes
+-- what is visible, and its mtime
 pub data Sight : Type 0 where
   Seen : Look → ℕ → Sight
 
@@ -56,7 +55,7 @@ sighted (Found (File date b)) = Some (Seen (Bytes b) date)
 sighted Missing = None
 sighted Blocked = None
 
--- what is seen at a path, with its moment
+-- what is visible at a path, with its mtime
 abbrev pub sight : Tree → Path → Option Sight
 sight t p = sighted (entry_at t p)
 
@@ -65,12 +64,12 @@ abbrev pub sight_after : Option Path → Option Tree → Option Sight → Option
 sight_after (Some r) o old = sighted (fold onward (found o) r)
 sight_after None o old = old
 
--- the same with another moment
+-- the same with another mtime
 abbrev pub redated : ℕ → Option Sight → Option Sight
 redated at None = None
 redated at (Some (Seen l date)) = Some (Seen l at)
 
--- the same after the moment was set at the path, or elsewhere
+-- the same after the mtime was set at the path, or elsewhere
 abbrev pub sight_touched : ℕ → Option Path → Option Sight → Option Sight
 sight_touched at (Some []) old = redated at old
 sight_touched at (Some (n ∷ r)) old = old

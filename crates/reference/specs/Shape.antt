@@ -29,17 +29,17 @@ IsDirectory (File date b) = ⊥
 abbrev pub AreBytes : List ℕ → Type 0
 AreBytes b = All (λ x. x < 256) b
 
--- a moment of last change
+-- an mtime
 abbrev pub IsMoment : ℕ → Type 0
 IsMoment at = at < 2 ^ 64
 
--- what a file may hold: at most 2^40 bytes
+-- the content that a file may have: at most 2^40 bytes
 pub record IsContent (b : List ℕ) : Type 0 where
   pub few : length b ≤ 2 ^ 40
   pub bytes : AreBytes b
 
--- a directory tree: its root is a directory, names rise in each directory, every entry's path is a path,
--- every file holds what a file may hold, and every moment is one
+-- a directory tree: its root is a directory, names rise in each directory, every entry's path is a path, every file has content
+-- that a file may have, and every mtime is one
 pub record IsTree (t : Tree) : Type 0 where
   pub root : IsDirectory t
   pub rising : Rising t
@@ -47,7 +47,7 @@ pub record IsTree (t : Tree) : Type 0 where
   pub files : (p : Path) (date : ℕ) (b : List ℕ) → entry_at t p ≡ Found (File date b) → IsContent b
   pub moments : (p : Path) (x : Tree) → entry_at t p ≡ Found x → IsMoment (moment x)
 
--- a call that can be made: its paths are paths and its bytes are bytes
+-- a valid call: its paths are paths and its bytes are bytes
 abbrev pub IsCall : Call → Type 0
 IsCall (Mkdir p) = IsPath p
 IsCall (Create p) = IsPath p

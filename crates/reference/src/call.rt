@@ -6,25 +6,25 @@ use pathkey::Path;
 /// A file call. Offsets and lengths are in bytes.
 #[derive(Debug, Drop)]
 pub enum Call {
-    /// Makes an empty directory (POSIX.1-2017, mkdir).
+    /// Creates an empty directory (POSIX.1-2017, mkdir).
     Mkdir(Path),
-    /// Makes an empty file, where none stands (open with O_CREAT and O_EXCL, without a descriptor).
+    /// Creates an empty file; fails if the path exists (open with O_CREAT and O_EXCL, without a descriptor).
     Create(Path),
-    /// Lays the bytes over a file from the offset on (pwrite).
+    /// Writes bytes to a file at an offset (pwrite).
     Write(Path, u64, Bytes),
-    /// Cuts a file to the length, or lengthens it by zeros (truncate).
+    /// Truncates a file to the length, or extends it with zeros (truncate).
     Truncate(Path, u64),
-    /// Takes a file out (unlink).
+    /// Removes a file (unlink).
     Unlink(Path),
-    /// Takes an empty directory out (rmdir).
+    /// Removes an empty directory (rmdir).
     Rmdir(Path),
-    /// Moves what stands at the first path to the second (rename).
+    /// Moves the entry at the first path to the second (rename).
     Rename(Path, Path),
-    /// Takes a file out, or a directory with all below it.
+    /// Removes a file, or a directory and all entries below it.
     Rmtree(Path),
-    /// Reads from the offset on at most so many bytes (pread).
+    /// Reads at most the given number of bytes at an offset (pread).
     Read(Path, u64, u64),
-    /// Asks what stands at a path (stat).
+    /// Returns the kind, the length and the mtime of an entry (stat).
     Stat(Path),
     /// Lists a directory (readdir, in byte order of names).
     Readdir(Path),

@@ -1,16 +1,16 @@
-//! Bytes as hexadecimal digits, and the percent form of names.
+//! Hexadecimal digits of bytes, and the percent-encoding of names.
 ghost use Rattle.std.specs.Prelude.{◌≡◌, ◌∷◌, [], ◌<◌, MatchOption};
 ghost use Rattle.reference.specs.Image.{digit as digit_of, percent, two_digits};
 
-/// A byte as two lower-case digits.
+/// A byte as two lower-case hexadecimal digits.
 pub fn lower_digits(byte: u8) -> [u8; 2]
     ensures { result ≡ two_digits 87 byte }
 {
     [digit(b'a' - 10, byte / 16), digit(b'a' - 10, byte % 16)]
 }
 
-/// The percent form of a byte that does not stand for itself in a name: a percent sign and two upper-case digits. None
-/// where the byte stands for itself.
+/// The percent-encoding of a byte that is reserved in a name: a percent sign and two upper-case digits. `None` if the byte is
+/// written as itself.
 pub fn escape(byte: u8) -> Option<[u8; 3]>
     ensures { MatchOption result (percent byte ≡ byte ∷ []) (λ form. percent byte ≡ form) }
 {
@@ -24,7 +24,7 @@ pub fn escape(byte: u8) -> Option<[u8; 3]>
     None
 }
 
-// A digit, in letters of which the first stands ten above `letter`.
+// A hexadecimal digit, of which `letter` is the first letter less ten.
 fn digit(letter: u8, value: u8) -> u8
     requires value { value < 16 }
     requires letter { letter < 240 }

@@ -1,9 +1,8 @@
-//! What the file system means: the nested directory tree, the table of the eleven file calls, worlds with
-//! snapshots, when two indexes mean a tree, and the image of a tree as text.
+//! The specification of the file system: the nested directory tree, the table of the eleven file calls, worlds with snapshots,
+//! when two indexes mean a tree, and the image of a tree as text.
 //!
-//! The definitions are in `specs/`, a few lines each; every contract of the layers above cites them. Beside
-//! them stands a plain slow program (`plain`) that computes them, and `laws`, whose public functions carry
-//! the theorems about the definitions alone.
+//! The definitions are in `specs/`, a few lines each; the contracts of the layers above cite them. `plain` is a simple slow
+//! program that computes them, and `laws` has public functions whose contracts are theorems about the definitions alone.
 #![tactic(auto)]
 
 pub mod call;

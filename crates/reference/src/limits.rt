@@ -2,13 +2,13 @@
 ghost use Rattle.std.specs.Prelude.{◌≡◌, ◌+◌, nat_le};
 ghost use Rattle.reference.specs.Calls.{greatest_file};
 
-/// The most bytes of a file.
+/// The maximum length of a file in bytes.
 pub const GREATEST_FILE: u64 = 1_099_511_627_776;
 
-/// The most bytes that one read may ask for.
+/// The maximum number of bytes of one read.
 pub const GREATEST_READ: u64 = 1_048_576;
 
-/// Whether so many bytes fit a file from the offset on.
+/// Whether a file may have that many bytes from the offset on.
 pub fn fits_file(offset: u64, count: usize) -> bool
     ensures { result ≡ nat_le (offset + count) greatest_file }
 {

@@ -1,16 +1,16 @@
-//! The calls that make or remove what is at one path, by their kind alone.
+//! The calls that create or remove an entry at one path, by their kind alone.
 
-/// A call that makes or removes what is at one path, and returns nothing.
+/// A call that creates or removes an entry at one path, and returns nothing.
 #[derive(Clone, Copy, Debug, PartialEq, Eq)]
 pub enum PathCall {
-    /// Makes an empty directory.
+    /// Creates an empty directory.
     Mkdir,
-    /// Makes an empty file.
+    /// Creates an empty file.
     Create,
-    /// Takes a file out.
+    /// Removes a file.
     Unlink,
-    /// Takes an empty directory out.
+    /// Removes an empty directory.
     Rmdir,
-    /// Takes a file out, or a directory with all below it.
+    /// Removes a file, or a directory and all entries below it.
     Rmtree,
 }

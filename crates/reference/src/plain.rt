@@ -1,8 +1,8 @@
-//! The plain program: the same file calls over a tree in ordinary Rust, as small and as slow as they may be.
+//! The plain program: the same file calls on a tree in ordinary Rust, kept as small as possible at the expense of speed.
 //!
-//! Each function computes one definition of `specs/`, and its contract says so. A call that changes the tree
-//! builds a whole new one beside it and puts it in at the end, so that a growth that is refused on the way
-//! leaves the tree as it was. What the fast layers answer is compared with what this program answers.
+//! Each function computes one definition of `specs/`, and its contract says so. A call that changes the tree builds a new tree
+//! and replaces the old one at the end, so that an allocation failure leaves the tree unchanged. The tests compare the replies
+//! of the fast layers with those of this program.
 
 pub mod calls;
 mod contents;

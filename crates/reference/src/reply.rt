@@ -1,10 +1,10 @@
-//! The answers to file calls.
+//! The replies of file calls.
 ghost use Rattle.std.specs.Prelude.{◌≡◌, ◌∷◌, [], map};
 
 use pathkey::Errno;
 use std::marker::Model;
 
-/// What stands at a path: a directory or a file.
+/// The kind of an entry: a directory or a file.
 #[derive(Clone, Copy, Debug, PartialEq, Eq)]
 pub enum Kind {
     /// A directory.
@@ -13,30 +13,30 @@ pub enum Kind {
     File,
 }
 
-/// What is kept of a path beside a file's bytes.
+/// The metadata of a path.
 #[derive(Clone, Copy, Debug, PartialEq, Eq)]
 pub enum Meta {
     /// A directory.
     Dir {
-        /// The moment of last change.
+        /// The mtime.
         modified: u64,
     },
     /// A file of `len` bytes.
     File {
         /// The file's length in bytes.
         len: u64,
-        /// The moment of last change.
+        /// The mtime.
         modified: u64,
     },
 }
 
-/// Bytes that were read. Contracts see them as a list, so that replies are compared by plain equality.
+/// The bytes that a read returned. Contracts see them as a list, so that replies are compared by plain equality.
 #[derive(Debug)]
 pub struct FileBytes {
     bytes: Vec<u8>,
 }
 
-// Written out, as that of `pathkey::Key`.
+// Drop is implemented by hand, as for `pathkey::Key`.
 impl Drop for FileBytes {
     fn drop(self) {
         let FileBytes { bytes: _ } = self;
@@ -52,7 +52,7 @@ impl Model for FileBytes {
 }
 
 impl FileBytes {
-    /// These bytes.
+    /// Wraps the bytes.
     pub fn from_vec(bytes: Vec<u8>) -> FileBytes
         ensures { result ≡ bytes.items }
     {
@@ -66,7 +66,7 @@ impl FileBytes {
         self.bytes.as_slice()
     }
 
-    /// The vector that holds the bytes.
+    /// Converts it into the vector of the bytes.
     pub fn into_vec(self) -> Vec<u8>
         ensures { result.items ≡ self }
     {
@@ -75,13 +75,13 @@ impl FileBytes {
     }
 }
 
-/// The entries of a directory: kind and name of each, in byte order of names. Contracts see a list.
+/// The entries of a directory: kind and name of each, in byte order of names. Contracts see them as a list.
 #[derive(Debug)]
 pub struct Listing {
     entries: Vec<(Kind, Vec<u8>)>,
 }
 
-// Written out, as that of `pathkey::Key`.
+// Drop is implemented by hand, as for `pathkey::Key`.
 impl Drop for Listing {
     fn drop(self) {
         let Listing { entries: _ } = self;
@@ -101,7 +101,7 @@ impl Model for Listing {
 impl Listing {
     ghost use Rattle.reference.specs.Pairs.{pairs_of};
 
-    /// A listing of these kinds and names.
+    /// Wraps the kinds and names.
     pub fn from_vec(entries: Vec<(Kind, Vec<u8>)>) -> Listing
         ensures { result ≡ pairs_of entries.items }
     {
@@ -115,7 +115,7 @@ impl Listing {
         self.entries.as_slice()
     }
 
-    /// The vector that holds the kinds and names.
+    /// Converts it into the vector of the kinds and names.
     pub fn into_vec(self) -> Vec<(Kind, Vec<u8>)>
         ensures { pairs_of result.items ≡ self }
     {
@@ -124,19 +124,19 @@ impl Listing {
     }
 }
 
-/// The answer to a file call.
+/// The reply of a file call.
 #[derive(Debug, Drop)]
 pub enum Reply {
-    /// The call was done, and has nothing to tell.
+    /// The call succeeded, and returns nothing.
     Done,
-    /// So many bytes were written.
+    /// The number of bytes that were written.
     Count(u64),
     /// The bytes that were read.
     Data(FileBytes),
-    /// What stands at the path, a file's length in bytes (0 for a directory), and the moment of last change.
+    /// The kind of the entry, a file's length in bytes (0 for a directory), and the mtime.
     Stat(Kind, u64, u64),
     /// The entries of the directory.
     Names(Listing),
-    /// The call was refused, and changed nothing.
+    /// The call failed, and changed nothing.
     Fault(Errno),
 }

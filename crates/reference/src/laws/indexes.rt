@@ -8,7 +8,7 @@ pub fn fresh_indexes()
     ensures { FreshLaw }
 {}
 
-/// Where two indexes mean a tree, the changes that each law names mean the tree after the call.
+/// If two indexes mean a tree, then after the changes that each law names they mean the tree after the call.
 pub fn calls_on_indexes()
     ensures touch { TouchLaw }
     ensures mkdir { MkdirLaw }
@@ -22,7 +22,7 @@ pub fn calls_on_indexes()
     ensures rename { RenameLaw }
 {}
 
-/// Where two indexes mean a tree, one message plants an entry: an empty directory, or a file of zeros of any length.
+/// If two indexes mean a tree, one message adds an entry: an empty directory, or a file of zeros of any length.
 pub fn planting()
     ensures { PlantLaw }
 {}

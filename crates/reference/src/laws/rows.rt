@@ -1,8 +1,8 @@
-//! Worked rows: what the definitions answer to short scripts of calls.
+//! Worked examples: what the definitions return for short scripts of calls.
 
 ghost use Rattle.reference.specs.Rows.{NewDirectory, AtTheGreatestFile, CutAndLengthenedImage, EmptyImage, CutAndLengthened, FaultsOfEachKind, GapReadsAsZeros, MomentsInImages, MomentsOfCalls, MomentsOfRename, MomentsThatStay, NamesAtTheLimit, PrefixFaults, RenameBelowItself, RenameOntoAncestors, RenameOntoDirectories, ReplacedFile, SnapshotIsRead, SnapshotKeepsItsTree, SnapshotNames, SubtreeIsNotSibling, TooDeepToRename};
 
-/// The definitions give the answers of the worked rows.
+/// The definitions return the answers of the worked examples.
 pub fn rows()
     ensures new_directory { NewDirectory }
     ensures prefix_faults { PrefixFaults }

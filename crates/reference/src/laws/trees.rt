@@ -1,9 +1,9 @@
-//! Laws that speak of trees alone: what an edit changes, what a call keeps, what is seen at the paths of a tree, and
-//! that a tree is known from its image.
+//! Laws about trees alone: what an edit changes, what a call preserves, what is visible at the paths of a tree, and that a tree
+//! is determined by its image.
 
 ghost use Rattle.reference.specs.Laws.{BlockedLaw, CallLaw, ChildLaw, DoneLaw, EditLaw, FaultLaw, ListingLaw, MissingLaw, NeverLacksLaw, OneImageLaw, OneTreeLaw, OutRisesLaw, PutRisesLaw, ReadingLaw, SightLaw, ReportedLaw, TouchedLaw};
 
-/// What is seen at each path after one entry was put or taken out, or its moment was set, and that names still rise in
+/// What is visible at each path after one entry was added or removed, or its mtime was set, and that names remain sorted in
 /// each directory.
 pub fn edits()
     ensures seen { EditLaw }
@@ -12,8 +12,8 @@ pub fn edits()
     ensures out { OutRisesLaw }
 {}
 
-/// Each call makes a directory tree of a directory tree; a call that is refused, or that reads, changes nothing;
-/// and none is answered by want of memory in the table itself.
+/// Each call maps a directory tree to a directory tree; a call that fails, or that reads, changes nothing; and the table itself
+/// never returns `ENOMEM`.
 pub fn calls()
     ensures trees { CallLaw }
     ensures faults { FaultLaw }
@@ -22,7 +22,7 @@ pub fn calls()
     ensures done { DoneLaw }
 {}
 
-/// What is seen at the paths decides a tree, and what stands at each path; a directory lists what is seen in it.
+/// What is visible at the paths determines a tree, and what is at each path; a directory lists what is visible in it.
 pub fn sight()
     ensures one_tree { OneTreeLaw }
     ensures sight { SightLaw }
@@ -32,8 +32,8 @@ pub fn sight()
     ensures listing { ListingLaw }
 {}
 
-/// Two directory trees of one image are one tree: the image shows every entry, every length and every byte, and in
-/// version 2 every moment. Of version 1 they are one but for moments.
+/// Two directory trees with the same image are equal: the image contains every entry, every length and every byte, and in
+/// version 2 every mtime. With the same version 1 image they are equal except for mtimes.
 pub fn one_image()
     ensures one { OneImageLaw }
     ensures reported { ReportedLaw }

@@ -15,7 +15,7 @@ use crate::reply::Reply;
 use pathkey::NoMemory;
 use std::alloc::Global;
 
-/// What a call at a moment changes of a tree, but for the moments of its directories.
+/// What a call at a time changes of a tree, except for the mtimes of its directories.
 #[tactic(auto, unfolding(crate::specs::Calls::changed))]
 fn change(alloc: Global, tree: &Tree, call: &Call, at: u64) -> Result<Effect, NoMemory>
     ensures { HasEffect result (tree_of tree.now) (changed at (tree_of tree.now) call.now) }
@@ -37,7 +37,7 @@ fn change(alloc: Global, tree: &Tree, call: &Call, at: u64) -> Result<Effect, No
     }
 }
 
-/// What a call at a moment does to a tree.
+/// The effect of a call at a time on a tree.
 #[tactic(auto, unfolding(crate::specs::Calls::does))]
 fn effect_on(alloc: Global, tree: &Tree, call: &Call, at: u64) -> Result<Effect, NoMemory>
     ensures { HasEffect result (tree_of tree.now) (outcome at (tree_of tree.now) call.now) }
@@ -54,7 +54,7 @@ fn effect_on(alloc: Global, tree: &Tree, call: &Call, at: u64) -> Result<Effect,
     }
 }
 
-/// Does a call at a moment on a tree, and answers it. Where memory is refused the tree stays as it was.
+/// Applies a call at a time to a tree, and returns the reply. If an allocation fails the tree is unchanged.
 pub fn does(alloc: Global, tree: &mut Tree, call: &Call, at: u64) -> Result<Reply, NoMemory>
     ensures value { IfOk result (λ r. ◌≡◌ {A = Outcome} (tree_of tree.new, r) (outcome at (tree_of tree.old) call.now)) }
     ensures unchanged { OnErr result (tree.new ≡ tree.old) }

@@ -1,11 +1,11 @@
-//! The bytes of a file: cut, lengthened, laid over, and read.
+//! The bytes of a file: truncated, extended, overwritten, and read.
 ghost use Rattle.std.specs.Prelude.{◌≡◌, ◌+◌, ◌<◌, ◌^◌, length, take, drop, IfOk};
 ghost use Rattle.reference.specs.Tree.{over, sized as first_bytes};
 
 use pathkey::NoMemory;
 use std::alloc::Global;
 
-/// The bytes from a place on; none past the end.
+/// The bytes from an index on; none past the end.
 pub fn bytes_from(bytes: &[u8], from: usize) -> &[u8]
     ensures { result.now ≡ drop from bytes.now }
 {
@@ -16,7 +16,7 @@ pub fn bytes_from(bytes: &[u8], from: usize) -> &[u8]
     }
 }
 
-/// At most so many of the first bytes.
+/// The first bytes, at most the given number of them.
 pub fn bytes_up_to(bytes: &[u8], count: usize) -> &[u8]
     ensures { result.now ≡ take count bytes.now }
 {
@@ -27,7 +27,7 @@ pub fn bytes_up_to(bytes: &[u8], count: usize) -> &[u8]
     }
 }
 
-/// At most `count` bytes from a place on, and none past the end.
+/// At most `count` bytes from an index on, and none past the end.
 pub fn copy_part(
     alloc: Global,
     bytes: &[u8],
@@ -40,7 +40,7 @@ pub fn copy_part(
     Ok(Vec::from_slice(alloc, part)?)
 }
 
-/// The first bytes of a file, lengthened by zeros where there are fewer.
+/// The first bytes of a file, padded with zeros if there are fewer.
 pub fn copy_sized(alloc: Global, bytes: &[u8], len: usize) -> Result<Vec<u8>, NoMemory>
     ensures { IfOk result (λ v. v.items ≡ first_bytes bytes.now len) }
 {
@@ -49,7 +49,7 @@ pub fn copy_sized(alloc: Global, bytes: &[u8], len: usize) -> Result<Vec<u8>, No
     Ok(copy)
 }
 
-/// A file's bytes, lengthened by zeros where it ends before the offset, with the new bytes laid over them there.
+/// A file's bytes, extended with zeros if it ends before the offset, and overwritten there with the new bytes.
 pub fn copy_over(
     alloc: Global,
     bytes: &[u8],

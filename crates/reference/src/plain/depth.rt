@@ -1,11 +1,11 @@
-//! How long the texts below a tree are.
+//! The lengths of the texts below a tree.
 ghost use Rattle.std.specs.Prelude.{◌≡◌, nat_le};
 ghost use Rattle.reference.specs.Calls.{deepest, deepest_of};
 ghost use Rattle.reference.specs.Plain.{tree_of, entries_of};
 
 use super::tree::{Entries, Tree};
 
-/// Whether no text from the tree down to what it holds is longer than the room.
+/// Whether no text from the tree down to an entry below it is longer than the limit.
 #[cycle(depth)]
 pub fn is_within(tree: &Tree, room: usize) -> bool
     ensures { result ≡ nat_le (deepest (tree_of tree.now)) room }
@@ -16,7 +16,7 @@ pub fn is_within(tree: &Tree, room: usize) -> bool
     }
 }
 
-/// Whether no text from the entries down to what they hold, each with the slash before it, is longer than the room.
+/// Whether no text from the entries down to an entry below them, each with its leading slash, is longer than the limit.
 #[cycle(depth)]
 fn are_within(entries: &Entries, room: usize) -> bool
     ensures { result ≡ nat_le (deepest_of (entries_of entries.now)) room }

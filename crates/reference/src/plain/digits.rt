@@ -1,4 +1,4 @@
-//! Numbers and bytes written as text.
+//! Numbers and bytes as text.
 ghost use Rattle.std.specs.Prelude.{◌≡◌, ◌++◌, OnOk, decimal, flat_map};
 ghost use Rattle.reference.specs.Image.{two_digits, percent};
 
@@ -6,7 +6,7 @@ use crate::digits::{escape, lower_digits};
 use pathkey::NoMemory;
 use std::alloc::Global;
 
-/// A byte of a name, in percent form.
+/// A byte of a name, percent-encoded if it must be.
 fn put_percent(out: &mut Vec<u8>, byte: u8) -> Result<(), NoMemory>
     ensures { OnOk result (out.new.items ≡ out.old.items ++ percent byte) }
 {
@@ -17,7 +17,7 @@ fn put_percent(out: &mut Vec<u8>, byte: u8) -> Result<(), NoMemory>
     Ok(())
 }
 
-/// A name, byte after byte.
+/// A name, byte by byte.
 pub fn put_name(out: &mut Vec<u8>, name: &[u8]) -> Result<(), NoMemory>
     ensures { OnOk result (out.new.items ≡ out.old.items ++ flat_map percent name.now) }
 {
@@ -27,7 +27,7 @@ pub fn put_name(out: &mut Vec<u8>, name: &[u8]) -> Result<(), NoMemory>
     Ok(())
 }
 
-/// Bytes in lower-case digits.
+/// Bytes in lower-case hexadecimal digits.
 pub fn put_bytes(out: &mut Vec<u8>, bytes: &[u8]) -> Result<(), NoMemory>
     ensures { OnOk result (out.new.items ≡ out.old.items ++ flat_map (two_digits 87) bytes.now) }
 {

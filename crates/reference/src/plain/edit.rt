@@ -1,4 +1,4 @@
-//! One entry of a tree put in or taken out.
+//! Adds or removes one entry of a tree.
 ghost use Rattle.std.specs.Prelude.{◌≡◌, ◌∷◌, IfOk};
 ghost use Rattle.reference.specs.Tree.{set_entry, edited};
 ghost use Rattle.reference.specs.Plain.{tree_of, entries_of, tree_given};
@@ -8,7 +8,7 @@ use super::tree::{Entries, Tree, copy_tree};
 use pathkey::{Names, NoMemory, Path};
 use std::alloc::Global;
 
-/// The entries with the tree put under the name, or with the name taken out.
+/// The entries with the tree inserted at the name, or with the name removed.
 fn set_name(
     alloc: Global,
     entries: &Entries,
@@ -23,7 +23,7 @@ fn set_name(
     }
 }
 
-/// The tree with the entry at a name and those after it put in or taken out.
+/// The tree with the entry at a name and the names after it inserted or removed.
 fn edit_below(
     alloc: Global,
     tree: &Tree,
@@ -52,7 +52,7 @@ fn edit_below(
     }
 }
 
-/// A tree with the entry at a path put in or taken out; as it was at the root, and where no directory stands above the path.
+/// A tree with the entry at a path inserted or removed; unchanged at the root, and if the path's parent is not a directory.
 pub fn edit(alloc: Global, tree: &Tree, path: &Path, entry: Option<Tree>) -> Result<Tree, NoMemory>
     ensures { IfOk result (λ t. tree_of t ≡ edited (tree_of tree.now) path.now (tree_given entry)) }
 {

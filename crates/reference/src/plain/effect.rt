@@ -1,21 +1,21 @@
-//! What a call does to a tree.
+//! The effect of a call on a tree.
 ghost use Rattle.std.specs.Prelude.{◌≡◌};
 
 use super::tree::Tree;
 use crate::reply::Reply;
 use pathkey::Errno;
 
-/// What a call does: it answers, and leaves the tree or makes a new one of it.
+/// The effect of a call: it returns a reply, and keeps the tree or replaces it by a new one.
 #[derive(Drop)]
 pub enum Effect {
-    /// The tree stays.
+    /// The tree is unchanged.
     Kept(Reply),
-    /// The tree becomes this one.
+    /// The tree is replaced by this one.
     Changed(Tree, Reply),
 }
 
 impl Effect {
-    /// The call is refused.
+    /// The call fails.
     pub fn refused(fault: Errno) -> Effect
         ensures { result ≡ Effect.Kept (Reply.Fault fault) }
     {

@@ -1,4 +1,4 @@
-//! The entries of one directory: one is looked up, put in, or taken out, and all are listed.
+//! The entries of one directory: lookup, insertion, removal and listing.
 ghost use Rattle.std.specs.Prelude.{◌≡◌, ◌++◌, IfOk};
 ghost use Rattle.reference.specs.Tree.{named, put, take_out};
 ghost use Rattle.reference.specs.Calls.{listing};
@@ -11,7 +11,7 @@ use pathkey::NoMemory;
 use std::alloc::Global;
 use std::cmp::Ordering;
 
-/// The entry of that name.
+/// Looks up an entry by its name.
 pub fn entry_named<'a>(entries: &'a Entries, name: &[u8]) -> Option<&'a Tree>
     ensures { tree_found result ≡ named name.now (entries_of entries.now) }
 {
@@ -27,7 +27,7 @@ pub fn entry_named<'a>(entries: &'a Entries, name: &[u8]) -> Option<&'a Tree>
     }
 }
 
-/// The entries with the tree under the name, in byte order; what stood under the name is left out.
+/// The entries with the tree at the name, in byte order; it replaces an entry of that name.
 pub fn put_entry(
     alloc: Global,
     entries: &Entries,
@@ -56,7 +56,7 @@ pub fn put_entry(
     }
 }
 
-/// The entries without the name.
+/// The entries without that of the name.
 pub fn without_entry(alloc: Global, entries: &Entries, name: &[u8]) -> Result<Entries, NoMemory>
     ensures { IfOk result (λ es. entries_of es ≡ take_out name.now (entries_of entries.now)) }
 {
@@ -74,7 +74,7 @@ pub fn without_entry(alloc: Global, entries: &Entries, name: &[u8]) -> Result<En
     }
 }
 
-/// Puts the kind and name of each entry after what the list holds.
+/// Appends the kind and name of each entry to the list.
 fn put_names(
     entries: &Entries,
     names: &mut Vec<(Kind, Vec<u8>)>,

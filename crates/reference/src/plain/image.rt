@@ -1,5 +1,5 @@
-//! The image of a tree as text: one line for each entry in byte order of its key, and for a file the blocks
-//! that hold a byte other than zero.
+//! The image of a tree as text: one line for each entry in byte order of its key, and for a file the blocks that contain a
+//! nonzero byte.
 ghost use Rattle.std.specs.Prelude.{◌≡◌, ◌≤◌, ◌∷◌, [], ◌++◌, ◌+◌, ◌/◌, length, take, flat_map, IfOk, OnOk};
 ghost use Rattle.reference.specs.Tree.{Path};
 ghost use Rattle.reference.specs.Image.{percent, path_text, trimmed, block_line, block_lines, Second, directory_line, file_line, lines, lines_of, image};
@@ -11,10 +11,10 @@ use super::tree::{Entries, Tree};
 use pathkey::NoMemory;
 use std::alloc::Global;
 
-/// How many bytes a block holds.
+/// The block size in bytes.
 const BLOCK: usize = 4_096;
 
-/// How many bytes there are up to the last that is not zero.
+/// The length of the bytes without trailing zeros.
 fn kept_len(bytes: &[u8]) -> usize
     ensures kept { take result bytes.now ≡ trimmed bytes.now }
     ensures fits { result ≤ length bytes.now }
@@ -32,7 +32,7 @@ fn kept_len(bytes: &[u8]) -> usize
     }
 }
 
-/// The line of a block; none where all its bytes are zero.
+/// The line of a block; `None` if all its bytes are zero.
 fn put_block(alloc: Global, out: &mut Vec<u8>, index: usize, block: &[u8]) -> Result<(), NoMemory>
     ensures { OnOk result (out.new.items ≡ out.old.items ++ block_line index (trimmed block.now)) }
 {
@@ -59,7 +59,7 @@ fn put_blocks(alloc: Global, out: &mut Vec<u8>, bytes: &[u8]) -> Result<(), NoMe
     Ok(())
 }
 
-/// The line of a file of so many bytes, and those of its blocks.
+/// The line of a file of that length, and those of its blocks.
 fn put_file(
     alloc: Global,
     out: &mut Vec<u8>,
@@ -101,7 +101,7 @@ fn text_below(alloc: Global, text: &[u8], name: &[u8]) -> Result<Vec<u8>, NoMemo
     Ok(below)
 }
 
-/// The lines of a tree whose path has the text.
+/// The lines of a tree at the path with this text.
 #[cycle(image)]
 fn put_tree(alloc: Global, out: &mut Vec<u8>, text: &[u8], tree: &Tree) -> Result<(), NoMemory>
     ensures { (p : Path) → text.now ≡ path_text p → OnOk result (out.new.items ≡ out.old.items ++ lines Second p (tree_of tree.now)) }
@@ -115,7 +115,7 @@ fn put_tree(alloc: Global, out: &mut Vec<u8>, text: &[u8], tree: &Tree) -> Resul
     }
 }
 
-/// The lines of the entries of a directory whose path has the text.
+/// The lines of the entries of a directory at the path with this text.
 #[cycle(image)]
 fn put_entries(
     alloc: Global,

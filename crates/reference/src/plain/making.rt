@@ -1,4 +1,4 @@
-//! The calls that put something in: `mkdir`, `create`, `write`, `truncate`.
+//! The calls that create or write: `mkdir`, `create`, `write`, `truncate`.
 ghost use Rattle.std.specs.Prelude.{◌≡◌, []};
 ghost use Rattle.reference.specs.Tree.{Dir, File, nothing, with_entry};
 ghost use Rattle.reference.specs.Calls.{faults_of_new, first_fault, made, truncated, written};
@@ -29,7 +29,7 @@ fn put_at(
     Ok(Effect::Changed(after, reply))
 }
 
-/// Why no new entry can be made at the path.
+/// The error if no new entry can be created at the path.
 fn fault_of_new(tree: &Tree, path: &Path) -> Option<Errno>
     ensures { result ≡ first_fault (faults_of_new (tree_of tree.now) path.now) }
 {
@@ -45,7 +45,7 @@ fn fault_of_new(tree: &Tree, path: &Path) -> Option<Errno>
     }
 }
 
-/// A new entry, where its parent is a directory and nothing stands there.
+/// A new entry, if its parent is a directory and nothing is at the path.
 fn make(alloc: Global, tree: &Tree, path: &Path, new: Tree) -> Result<Effect, NoMemory>
     ensures { HasEffect result (tree_of tree.now) (made (tree_of tree.now) path.now (tree_of new)) }
 {
@@ -55,7 +55,7 @@ fn make(alloc: Global, tree: &Tree, path: &Path, new: Tree) -> Result<Effect, No
     }
 }
 
-/// `mkdir` at a moment: a new empty directory.
+/// `mkdir` at a time: a new empty directory.
 pub fn make_directory(alloc: Global, tree: &Tree, path: &Path, at: u64) -> Result<Effect, NoMemory>
     ensures { HasEffect result (tree_of tree.now) (made (tree_of tree.now) path.now (Dir at nothing)) }
 {
@@ -63,14 +63,14 @@ pub fn make_directory(alloc: Global, tree: &Tree, path: &Path, at: u64) -> Resul
     make(alloc, tree, path, new)
 }
 
-/// `create` at a moment: a new empty file.
+/// `create` at a time: a new empty file.
 pub fn make_file(alloc: Global, tree: &Tree, path: &Path, at: u64) -> Result<Effect, NoMemory>
     ensures { HasEffect result (tree_of tree.now) (made (tree_of tree.now) path.now (File at [])) }
 {
     make(alloc, tree, path, Tree::File(at, Vec::new(alloc)))
 }
 
-/// `write` at a moment: the bytes laid over the file from the offset on; no bytes change nothing.
+/// `write` at a time: overwrites the file with the bytes at the offset; a write of no bytes changes nothing.
 pub fn write_file(
     alloc: Global,
     tree: &Tree,
@@ -111,7 +111,7 @@ pub fn write_file(
     }
 }
 
-/// `truncate` at a moment: the file cut to a length, or lengthened by zeros to it.
+/// `truncate` at a time: cuts the file to a length, or extends it with zeros.
 pub fn truncate_file(
     alloc: Global,
     tree: &Tree,

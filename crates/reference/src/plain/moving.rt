@@ -13,10 +13,10 @@ use crate::reply::{Kind, Reply};
 use pathkey::{Errno, NoMemory, Path};
 use std::alloc::Global;
 
-/// The greatest length of a path's text.
+/// The maximum length of a path's text.
 const GREATEST_TEXT: usize = 1_023;
 
-/// Why an entry cannot take the place of what stands there.
+/// The error if an entry cannot replace what is at the new path.
 fn fault_of_replacing(from: &Tree, to: &At<'_>) -> Option<Errno>
     ensures { result ≡ first_fault (faults_of_replacing (Found (tree_of from.now)) (at_of to.now)) }
 {
@@ -35,7 +35,7 @@ fn fault_of_replacing(from: &Tree, to: &At<'_>) -> Option<Errno>
     }
 }
 
-/// Whether a path at or below the new one would have too long a text.
+/// Whether the text of a path at or below the new one would be too long.
 fn is_too_long(from: &Tree, new: &Path) -> bool
     ensures { result ≡ nat_lt 1023 (text_len new.now + deepest (tree_of from.now)) }
 {
@@ -43,7 +43,7 @@ fn is_too_long(from: &Tree, new: &Path) -> bool
     !is_within(from, GREATEST_TEXT - len)
 }
 
-/// Why what stands at the old path cannot be moved to the new one.
+/// The error if the entry at the old path cannot be moved to the new one.
 fn fault_of_move(tree: &Tree, from: &Tree, old: &Path, new: &Path) -> Option<Errno>
     ensures { entry_at (tree_of tree.now) old.now ≡ Found (tree_of from.now) → result ≡ first_fault (faults_of_rename (tree_of tree.now) old.now new.now) }
 {
@@ -62,7 +62,7 @@ fn fault_of_move(tree: &Tree, from: &Tree, old: &Path, new: &Path) -> Option<Err
     None
 }
 
-/// The tree with the entry taken out at the old path and put at the new one.
+/// The tree with the entry removed at the old path and added at the new one.
 fn move_entry(
     alloc: Global,
     tree: &Tree,
@@ -78,7 +78,7 @@ fn move_entry(
     Ok(Effect::Changed(after, Reply::Done))
 }
 
-/// What is done with the entry that stands at the old path.
+/// The effect of the rename on the entry at the old path.
 fn rename_entry(
     alloc: Global,
     tree: &Tree,
@@ -97,7 +97,7 @@ fn rename_entry(
     }
 }
 
-/// `rename`: what stands at the old path is moved to the new one, where it replaces a file or an empty directory.
+/// `rename`: moves the entry at the old path to the new one, where it may replace a file or an empty directory.
 pub fn rename(alloc: Global, tree: &Tree, old: &Path, new: &Path) -> Result<Effect, NoMemory>
     ensures { HasEffect result (tree_of tree.now) (renamed (tree_of tree.now) old.now new.now) }
 {

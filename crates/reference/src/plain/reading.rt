@@ -12,7 +12,7 @@ use crate::reply::{FileBytes, Kind, Reply};
 use pathkey::{Errno, NoMemory, Path};
 use std::alloc::Global;
 
-/// `read`: the bytes from the offset on, at most `count`, none past the end.
+/// `read`: at most `count` bytes at the offset, none past the end.
 pub fn read_file(
     alloc: Global,
     tree: &Tree,
@@ -38,7 +38,7 @@ pub fn read_file(
     }
 }
 
-/// `stat`: whether a directory or a file stands there, a file's length, and the moment.
+/// `stat`: the kind of the entry, a file's length, and the mtime.
 pub fn stat(tree: &Tree, path: &Path) -> Reply
     ensures { ◌≡◌ {A = Outcome} (tree_of tree.now, result) (asked (tree_of tree.now) path.now) }
 {

@@ -1,4 +1,4 @@
-//! The calls that take something out: `unlink`, `rmdir`, `rmtree`.
+//! The calls that remove entries: `unlink`, `rmdir`, `rmtree`.
 ghost use Rattle.std.specs.Prelude.{◌≡◌};
 ghost use Rattle.reference.specs.Tree.{without};
 ghost use Rattle.reference.specs.Calls.{directory_removed, faults_of_rmdir, first_fault, removed, unlinked};
@@ -12,7 +12,7 @@ use crate::reply::Reply;
 use pathkey::{Errno, NoMemory, Path};
 use std::alloc::Global;
 
-/// The tree without what stands at the path.
+/// The tree without the entry at the path.
 fn take_out_at(alloc: Global, tree: &Tree, path: &Path) -> Result<Effect, NoMemory>
     ensures { HasEffect result (tree_of tree.now) (without (tree_of tree.now) path.now, Reply.Done) }
 {
@@ -20,7 +20,7 @@ fn take_out_at(alloc: Global, tree: &Tree, path: &Path) -> Result<Effect, NoMemo
     Ok(Effect::Changed(after, Reply::Done))
 }
 
-/// `unlink`: a file is taken out; a directory is refused.
+/// `unlink`: removes a file; fails for a directory.
 pub fn unlink(alloc: Global, tree: &Tree, path: &Path) -> Result<Effect, NoMemory>
     ensures { HasEffect result (tree_of tree.now) (unlinked (tree_of tree.now) path.now) }
 {
@@ -34,7 +34,7 @@ pub fn unlink(alloc: Global, tree: &Tree, path: &Path) -> Result<Effect, NoMemor
     }
 }
 
-/// Why no empty directory can be taken out at the path.
+/// The error if no empty directory can be removed at the path.
 fn fault_of_rmdir(tree: &Tree, path: &Path) -> Option<Errno>
     ensures { result ≡ first_fault (faults_of_rmdir (tree_of tree.now) path.now) }
 {
@@ -54,7 +54,7 @@ fn fault_of_rmdir(tree: &Tree, path: &Path) -> Option<Errno>
     }
 }
 
-/// `rmdir`: an empty directory that is not the root is taken out.
+/// `rmdir`: removes an empty directory that is not the root.
 pub fn remove_directory(alloc: Global, tree: &Tree, path: &Path) -> Result<Effect, NoMemory>
     ensures { HasEffect result (tree_of tree.now) (directory_removed (tree_of tree.now) path.now) }
 {
@@ -64,7 +64,7 @@ pub fn remove_directory(alloc: Global, tree: &Tree, path: &Path) -> Result<Effec
     }
 }
 
-/// `rmtree`: what stands at a path that is not the root is taken out, with all below it.
+/// `rmtree`: removes an entry that is not the root, and all entries below it.
 pub fn remove_tree(alloc: Global, tree: &Tree, path: &Path) -> Result<Effect, NoMemory>
     ensures { HasEffect result (tree_of tree.now) (removed (tree_of tree.now) path.now) }
 {

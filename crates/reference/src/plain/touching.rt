@@ -1,4 +1,4 @@
-//! The moments of the directories in which a call puts or takes out an entry.
+//! The mtimes of the directories in which a call adds or removes an entry.
 ghost use Rattle.std.specs.Prelude.{◌≡◌, IfOk};
 ghost use Rattle.reference.specs.Tree.{Tree as Trees, dated, touched};
 ghost use Rattle.reference.specs.Calls.{Outcome, parent, parents_of, is_done as done, touching, all_touching};
@@ -12,7 +12,7 @@ use crate::reply::Reply;
 use pathkey::{Names, NoMemory, Path};
 use std::alloc::Global;
 
-/// The tree with another moment at the end of the names; as it was where nothing stands there.
+/// The tree with another mtime at the path of these names; unchanged if nothing is there.
 fn touch_below(alloc: Global, tree: &Tree, names: Names<'_>, at: u64) -> Result<Tree, NoMemory>
     ensures { IfOk result (λ t. tree_of t ≡ touched at (tree_of tree.now) names.entry) }
 {
@@ -32,7 +32,7 @@ fn touch_below(alloc: Global, tree: &Tree, names: Names<'_>, at: u64) -> Result<
     }
 }
 
-/// The directory of a path; the root is its own.
+/// The parent directory of a path; the root is its own.
 fn directory_of(alloc: Global, path: &Path) -> Result<Path, NoMemory>
     ensures { IfOk result (λ p. p ≡ parent path.now) }
 {
@@ -42,14 +42,14 @@ fn directory_of(alloc: Global, path: &Path) -> Result<Path, NoMemory>
     }
 }
 
-/// Whether the answer is that a call was done and has nothing to tell.
+/// Whether the reply is that a call succeeded and returns nothing.
 fn is_done(reply: &Reply) -> bool
     ensures { result ≡ done reply.now }
 {
     matches!(reply, Reply::Done)
 }
 
-/// The tree with another moment for the path's directory.
+/// The tree with another mtime for the path's parent directory.
 fn touch_directory(
     alloc: Global,
     tree: &Tree,
@@ -64,7 +64,7 @@ fn touch_directory(
     Ok(Effect::Changed(after, reply))
 }
 
-/// The effect with the moment for the path's directory, where the call was done.
+/// The effect with the mtime set on the path's parent directory, if the call succeeded.
 pub fn touch_parent(
     alloc: Global,
     tree: &Tree,
@@ -90,7 +90,7 @@ pub fn touch_parent(
     }
 }
 
-/// The effect of a rename with the moment for both directories, once where they are one.
+/// The effect of a rename with the mtime set on both parent directories, once if they are the same.
 pub fn touch_parents(
     alloc: Global,
     tree: &Tree,

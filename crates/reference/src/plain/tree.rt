@@ -1,8 +1,7 @@
-//! A tree as the plain program holds it.
+//! The plain program's tree.
 //!
-//! A directory's entries are a linked list, in place of a vector or a map, because the definition's are: the
-//! two are then read one for one, constructor by constructor, and each function below is the definition's
-//! recursion written in Rust.
+//! A directory's entries are a linked list, not a vector or a map, because the definition's are: the two then correspond
+//! constructor by constructor, and each function below is the definition's recursion written in Rust.
 ghost use Rattle.std.specs.Prelude.{◌≡◌, IfOk};
 ghost use Rattle.reference.specs.Tree.{Dir, entry, dated};
 ghost use Rattle.reference.specs.Calls.{kind_of};
@@ -12,7 +11,7 @@ use crate::reply::Kind;
 use pathkey::NoMemory;
 use std::alloc::Global;
 
-/// A directory of entries, or a file of bytes, each with its moment of last change.
+/// A directory of entries, or a file of bytes, each with its mtime.
 #[derive(Drop)]
 #[cycle(tree)]
 pub enum Tree {
@@ -26,14 +25,14 @@ pub enum Tree {
 #[derive(Drop)]
 #[cycle(tree)]
 pub enum Entries {
-    /// No entry.
+    /// No entries.
     Nothing,
-    /// A name, what stands under it, and the entries after it.
+    /// A name, the tree of that name, and the entries after it.
     Entry(Vec<u8>, Box<Tree>, Box<Entries>),
 }
 
 impl Tree {
-    /// A directory of these entries, with that moment.
+    /// A directory of these entries, with that mtime.
     pub fn directory(alloc: Global, date: u64, entries: Entries) -> Result<Tree, NoMemory>
         ensures { IfOk result (λ t. tree_of t ≡ Dir date (entries_of entries)) }
     {
@@ -51,7 +50,7 @@ impl Tree {
     }
 }
 
-/// An equal tree.
+/// Clones the tree.
 #[cycle(copy)]
 pub fn copy_tree(alloc: Global, tree: &Tree) -> Result<Tree, NoMemory>
     ensures { IfOk result (λ t. tree_of t ≡ tree_of tree.now) }
@@ -65,7 +64,7 @@ pub fn copy_tree(alloc: Global, tree: &Tree) -> Result<Tree, NoMemory>
     }
 }
 
-/// Equal entries.
+/// Clones the entries.
 #[cycle(copy)]
 pub fn copy_entries(alloc: Global, entries: &Entries) -> Result<Entries, NoMemory>
     ensures { IfOk result (λ es. entries_of es ≡ entries_of entries.now) }
@@ -80,7 +79,7 @@ pub fn copy_entries(alloc: Global, entries: &Entries) -> Result<Entries, NoMemor
     }
 }
 
-/// An equal tree with another moment.
+/// Clones the tree, with another mtime.
 pub fn copy_dated(alloc: Global, tree: &Tree, at: u64) -> Result<Tree, NoMemory>
     ensures { IfOk result (λ t. tree_of t ≡ dated at (tree_of tree.now)) }
 {
@@ -94,7 +93,7 @@ pub fn copy_dated(alloc: Global, tree: &Tree, at: u64) -> Result<Tree, NoMemory>
 }
 
 impl Entries {
-    /// An entry and those after it.
+    /// An entry followed by other entries.
     pub fn with_first(
         alloc: Global,
         name: &[u8],

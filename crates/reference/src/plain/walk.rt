@@ -8,18 +8,18 @@ use super::entries::entry_named;
 use super::tree::Tree;
 use pathkey::{Errno, Names, Path};
 
-/// What stands at a path.
+/// What is at a path.
 #[derive(Drop)]
 pub enum At<'a> {
     /// An entry, or the root.
     Found(&'a Tree),
-    /// Nothing: the first name that decides is absent from its directory.
+    /// Nothing: the name at which the walk ends is absent from its directory.
     Missing,
-    /// Nothing: a file stands on the way.
+    /// Nothing: a component of the path's prefix is a file.
     Blocked,
 }
 
-/// What stands one name further.
+/// One step of the walk: the entry of a name.
 pub fn step<'a>(at: At<'a>, name: &[u8]) -> At<'a>
     ensures { at_of result ≡ onward (at_of at.entry) name.now }
 {
@@ -36,7 +36,7 @@ pub fn step<'a>(at: At<'a>, name: &[u8]) -> At<'a>
     }
 }
 
-/// What stands at the end of the names.
+/// What is at the end of the names.
 fn walk<'a>(at: At<'a>, names: Names<'_>) -> At<'a>
     ensures { at_of result ≡ fold onward (at_of at.entry) names.entry }
 {
@@ -46,7 +46,7 @@ fn walk<'a>(at: At<'a>, names: Names<'_>) -> At<'a>
     }
 }
 
-/// What stands before the last of the names, of which there is one at least.
+/// What is at the names without the last; there is at least one.
 fn walk_to_parent<'a>(at: At<'a>, name: &[u8], rest: Names<'_>) -> At<'a>
     ensures { at_of result ≡ fold onward (at_of at.entry) (parent (name.now ∷ rest.entry)) }
 {
@@ -56,14 +56,14 @@ fn walk_to_parent<'a>(at: At<'a>, name: &[u8], rest: Names<'_>) -> At<'a>
     }
 }
 
-/// What stands at the path.
+/// What is at the path.
 pub fn find<'a>(tree: &'a Tree, path: &Path) -> At<'a>
     ensures { at_of result ≡ entry_at (tree_of tree.now) path.now }
 {
     walk(At::Found(tree), path.names())
 }
 
-/// Why nothing is found at a path: a name is absent, or a file stands on the way.
+/// The error if a path is not found: a name is absent, or a component of the path's prefix is a file.
 pub fn fault_of_path(at: &At<'_>) -> Option<Errno>
     ensures { result ≡ path_fault (at_of at.now) }
 {
@@ -74,7 +74,7 @@ pub fn fault_of_path(at: &At<'_>) -> Option<Errno>
     }
 }
 
-/// Why a place is no directory.
+/// The error if a path is not a directory.
 fn fault_of_directory(at: &At<'_>) -> Option<Errno>
     ensures { result ≡ no_directory_fault (at_of at.now) }
 {
@@ -88,7 +88,8 @@ fn fault_of_directory(at: &At<'_>) -> Option<Errno>
     }
 }
 
-/// Why an entry cannot be made at a path: its parent is no directory. At the root there is no such fault.
+/// The error if an entry cannot be created at a path, because its parent is not a directory. At the root there is no such
+/// error.
 pub fn fault_of_parent(tree: &Tree, path: &Path) -> Option<Errno>
     ensures { result ≡ parent_fault (tree_of tree.now) path.now }
 {

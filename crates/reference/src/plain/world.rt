@@ -15,7 +15,7 @@ use pathkey::{Errno, NoMemory, SnapName};
 use std::alloc::Global;
 use std::collections::BTreeMap;
 
-/// The most named snapshots.
+/// The maximum number of snapshots.
 const GREATEST_COUNT: usize = 64;
 
 /// A live tree, and the trees of the named snapshots.
@@ -26,7 +26,7 @@ pub struct World {
 }
 
 impl World {
-    /// An empty directory of moment 0, and no snapshots.
+    /// An empty directory with mtime 0, and no snapshots.
     pub fn new(alloc: Global) -> Result<World, NoMemory>
         ensures { IfOk result (λ w. world_of w ≡ record { live = Dir 0 nothing; snapshots = finite.empty }) }
     {
@@ -65,7 +65,7 @@ impl World {
         self.snapshots.len()
     }
 
-    /// Does a file call at a moment on the live tree. Where memory is refused the world stays as it was.
+    /// Applies a file call to the live tree at a time. If an allocation fails the world is unchanged.
     pub fn call(&mut self, alloc: Global, call: &Call, at: u64) -> Result<Reply, NoMemory>
         ensures value { IfOk result (λ r. ◌≡◌ {A = Worlds × Answer} (world_of self.new, Replied r) (outcome (world_of self.old) (Ask call.now at))) }
         ensures unchanged { OnErr result (world_of self.new ≡ world_of self.old) }
@@ -73,7 +73,7 @@ impl World {
         does(alloc, &mut self.live, call, at)
     }
 
-    // Keeps a copy of the live tree under the name.
+    // Stores a copy of the live tree under the name.
     fn keep(&mut self, alloc: Global, name: &SnapName) -> Result<(), NoMemory>
         ensures kept { OnOk result (world_of self.new ≡ record (world_of self.old) { snapshots = finite.insert (world_of self.old).snapshots name.now (world_of self.old).live }) }
         ensures unchanged { OnErr result (world_of self.new ≡ world_of self.old) }
@@ -84,14 +84,14 @@ impl World {
         Ok(())
     }
 
-    // Takes the name out.
+    // Removes the snapshot of that name.
     fn remove(&mut self, name: &SnapName)
         ensures { world_of self.new ≡ record (world_of self.old) { snapshots = finite.remove (world_of self.old).snapshots name.now } }
     {
         let _removed = self.snapshots.remove(name);
     }
 
-    /// Keeps the live tree under the name.
+    /// Takes a snapshot of the live tree under the name.
     pub fn snapshot(&mut self, alloc: Global, name: &SnapName) -> Result<(), Errno>
         ensures answer { IsOrLacksMemory result (snapped (world_of self.old) name.now).1 }
         ensures kept { OnOk result (world_of self.new ≡ (snapped (world_of self.old) name.now).0) }
@@ -119,7 +119,7 @@ impl World {
         Ok(())
     }
 
-    /// The live tree becomes that of the snapshot, which stays.
+    /// Replaces the live tree by that of the snapshot, which is kept.
     pub fn restore(&mut self, alloc: Global, name: &SnapName) -> Result<(), Errno>
         ensures answer { IsOrLacksMemory result (put_back (world_of self.old) name.now).1 }
         ensures restored { OnOk result (world_of self.new ≡ (put_back (world_of self.old) name.now).0) }
