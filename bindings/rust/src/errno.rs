@@ -48,15 +48,15 @@ const TABLE: [(Errno, &str, &str, i32); 12] = [
     (Errno::ENOENT, "ENOENT", "no such file or directory", 2),
     (Errno::ENOTDIR, "ENOTDIR", "not a directory", 20),
     (Errno::EISDIR, "EISDIR", "is a directory", 21),
-    (Errno::EEXIST, "EEXIST", "something stands there", 17),
+    (Errno::EEXIST, "EEXIST", "file exists", 17),
     (Errno::ENOTEMPTY, "ENOTEMPTY", "directory not empty", 39),
     (Errno::EPERM, "EPERM", "operation not permitted", 1),
     (Errno::EINVAL, "EINVAL", "invalid argument", 22),
     (Errno::ENAMETOOLONG, "ENAMETOOLONG", "name or path too long", 36),
     (Errno::EFBIG, "EFBIG", "file too large", 27),
-    (Errno::EBUSY, "EBUSY", "the root cannot be moved or taken out", 16),
-    (Errno::ENOMEM, "ENOMEM", "memory was refused", 12),
-    (Errno::ENOSPC, "ENOSPC", "all 64 names of snapshots are taken", 28),
+    (Errno::EBUSY, "EBUSY", "the root cannot be moved or removed", 16),
+    (Errno::ENOMEM, "ENOMEM", "out of memory", 12),
+    (Errno::ENOSPC, "ENOSPC", "there are already 64 snapshots", 28),
 ];
 
 /// The library's number for a buffer that is too short. It is no error of this crate, which calls again with more capacity.

@@ -22,8 +22,8 @@ use textio::output::put;
 use volume::Frozen;
 
 /// Prints the delta that makes the image of the new tree from that of the old one, whose digest is given (`image_digest`). If
-/// it fails, a prefix of a delta was written. If an allocation failed, this prefix is whole lines: a line that was begun can
-/// only fail because the writer does.
+/// it fails, a prefix of a delta was written. If the error is `Memory`, this prefix is whole lines; within a line the error is
+/// `Write`.
 pub fn print_delta<W: Write>(
     alloc: Global,
     digest: &[u8; 32],

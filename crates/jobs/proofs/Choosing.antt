@@ -1,6 +1,6 @@
 -- Which slot moves the most messages.
-use Rattle.std.proofs.Common.{◌≡◌, ℕ, zero, suc, ◌+◌, ◌<◌, ◌≤◌, Bool, true, false, List, [], ◌∷◌, length, refl, ap, sym, ◌∙◌, subst, arith, Option, None}
-use Rattle.std.specs.Prelude.{◌&&◌, ◌==◌, min, if◌then◌else◌}
+use Rattle.std.proofs.Common.{◌≡◌, ℕ, zero, suc, ◌<◌, ◌≤◌, Bool, true, false, List, [], ◌∷◌, length, refl, sym, ◌∙◌, subst, arith, Option, None}
+use Rattle.std.specs.Prelude.{min, if◌then◌else◌}
 use Rattle.message.specs.declared.msg.Msg.{Msg}
 use Rattle.flush.specs.Sunk.{free_pieces}
 use Rattle.node.specs.declared.node.Slot.{Slot}
@@ -9,41 +9,23 @@ use Rattle.node.specs.Lawful.{IsLawful, IsLawfulRoot, slot_count}
 use Rattle.node.specs.Pure.{PNode, leaf, inner, PSlots, none, more, PTree}
 use Rattle.node.specs.See.{seen_slots}
 use Rattle.node.specs.Site.{slots_from}
-use Rattle.node.specs.StepRows.{can_flush_inner}
 use Rattle.node.proofs.Placing.{slot_count-slots}
 use Rattle.node.proofs.Roots.{small_shape}
 use Rattle.jobs.specs.declared.mark.Mark.{Mark}
-use Rattle.jobs.specs.Heaviest.{AreAtMost, IsFirstGreatest, IsHeaviest, movable, movable_each, movable_in}
-use Rattle.jobs.specs.Marks.{kept_at}
+use Rattle.jobs.specs.Heaviest.{IsFirstGreatest, IsHeaviest, movable_each, movable_in}
 use Rattle.jobs.specs.Replies.{IsBacklog, Movable, can_take_first}
-
--- of these numbers none is more than a greater one
-pub at_most-more : (n m : ℕ) (xs : List ℕ) → n ≤ m → AreAtMost n xs → AreAtMost m xs
-at_most-more n m [] le h = tt
-at_most-more n m (x ∷ xs) le h = (omega (arith, h.0, le), at_most-more n m xs le h.1)
 
 -- a number above 0 is not that of the other case
 chosen : (b : Bool) (m n : ℕ) → (if b then m else 0) ≡ n → 0 < n → (b ≡ true) × (n ≡ m)
 chosen true m n e some = (refl, sym e)
 chosen false m n e some = absurd (omega (arith, e, some))
 
--- nothing in either case
-nothing : (b : Bool) (n : ℕ) → n ≡ 0 → 0 ≡ (if b then n else 0)
-nothing true n e = sym e
-nothing false n e = refl
-
 module _ {U V : Type 0} where
-  -- whether a job can be taken of a slot tells no slot behind it
+  -- whether a job can be taken of a slot depends on no slot after it
   alone : (ms : List Mark) (lo : List ℕ) (msgs : List (Msg U V)) (child : PNode U V) (ss : PSlots U V) → can_take_first ms (more lo msgs child none) ≡ can_take_first ms (more lo msgs child ss)
   alone ms lo [] child ss = refl
   alone ms lo (m ∷ msgs) (leaf es) ss = refl
   alone ms lo (m ∷ msgs) (inner cs) ss = refl
-
-  -- where nothing is pending, and over a leaf, nothing moves
-  pub movable-is : (ms : List Mark) (most : ℕ) (lo : List ℕ) (msgs : List (Msg U V)) (child : PNode U V) → movable ms most lo msgs child ≡ (if kept_at ms lo == 0 then min (length msgs) (free_pieces most child) else 0)
-  movable-is ms most lo [] child = nothing (kept_at ms lo == 0) (min 0 (free_pieces most child)) (omega arith)
-  movable-is ms most lo (m ∷ msgs) (leaf es) = nothing (kept_at ms lo == 0) (min (length (m ∷ msgs)) 0) (omega arith)
-  movable-is ms most lo (m ∷ msgs) (inner cs) = refl
 
   -- the slot of which a job moves n messages
   backlog_first : (ms : List Mark) (most n i : ℕ) (hi : Option (List ℕ)) (ss : PSlots U V) → 0 < n → IsFirstGreatest i n (movable_each ms most ss) → (can_take_first ms (slots_from i ss) ≡ true) × AtSlot (Movable most n) i hi ss

@@ -38,15 +38,15 @@ abbrev pub sentence_of : Errno → List ℕ
 sentence_of ENOENT = codes "no such file or directory"
 sentence_of ENOTDIR = codes "not a directory"
 sentence_of EISDIR = codes "is a directory"
-sentence_of EEXIST = codes "something stands there"
+sentence_of EEXIST = codes "file exists"
 sentence_of ENOTEMPTY = codes "directory not empty"
 sentence_of EPERM = codes "operation not permitted"
 sentence_of EINVAL = codes "invalid argument"
 sentence_of ENAMETOOLONG = codes "name or path too long"
 sentence_of EFBIG = codes "file too large"
-sentence_of EBUSY = codes "the root cannot be moved or taken out"
-sentence_of ENOMEM = codes "memory was refused"
-sentence_of ENOSPC = codes "all 64 names of snapshots are taken"
+sentence_of EBUSY = codes "the root cannot be moved or removed"
+sentence_of ENOMEM = codes "out of memory"
+sentence_of ENOSPC = codes "there are already 64 snapshots"
 
 -- how an error is printed
 abbrev pub shown : Errno → List ℕ

@@ -32,7 +32,7 @@ pub enum Errno {
     EBUSY = 10,
     /// Not enough memory.
     ENOMEM = 11,
-    /// No space left: all 64 names of snapshots are taken.
+    /// No space left: there are already 64 snapshots.
     ENOSPC = 12,
 }
 
@@ -72,15 +72,15 @@ impl Errno {
             Errno::ENOENT => "no such file or directory",
             Errno::ENOTDIR => "not a directory",
             Errno::EISDIR => "is a directory",
-            Errno::EEXIST => "something stands there",
+            Errno::EEXIST => "file exists",
             Errno::ENOTEMPTY => "directory not empty",
             Errno::EPERM => "operation not permitted",
             Errno::EINVAL => "invalid argument",
             Errno::ENAMETOOLONG => "name or path too long",
             Errno::EFBIG => "file too large",
-            Errno::EBUSY => "the root cannot be moved or taken out",
-            Errno::ENOMEM => "memory was refused",
-            Errno::ENOSPC => "all 64 names of snapshots are taken",
+            Errno::EBUSY => "the root cannot be moved or removed",
+            Errno::ENOMEM => "out of memory",
+            Errno::ENOSPC => "there are already 64 snapshots",
         }
     }
 }
@@ -106,7 +106,7 @@ pub struct NoMemory;
 
 impl fmt::Display for NoMemory {
     fn fmt<W: fmt::Write>(&self, f: &mut fmt::Formatter<W>) -> fmt::Result {
-        f.write_str("memory was refused")
+        f.write_str("out of memory")
     }
 }
 

@@ -1,4 +1,4 @@
--- A walk through the keys with messages for them alone.
+-- A cursor over the keys with messages for them alone.
 use Rattle.std.specs.Prelude.{◌≡◌, ℕ, true, false, List, [], ◌∷◌, length, Option, Some, None, IfSome, drop}
 use Rattle.pathkey.specs.Keys.{is_below}
 use Rattle.message.specs.declared.msg.Msg.{Msg}
@@ -9,7 +9,7 @@ use Rattle.range_set.specs.Disjoint.{Span}
 use Rattle.pending.specs.SortedMsgs.{sorted_msgs}
 
 module _ {U V : Type 0} where
-  -- the messages are those of a sorted list, whose entries from `from` on these are
+  -- the messages are those of a sorted list, and these are its entries from `from` on
   pub record AreFrom (ms : List (Msg U V)) (from : List ℕ) (rest : List (List ℕ × List (KeyOp U V))) : Type 0 where
     pub spans : List Span
     pub entries : List (List ℕ × List (KeyOp U V))
@@ -18,16 +18,16 @@ module _ {U V : Type 0} where
     pub runs : AreRuns entries
     pub from_here : rest ≡ drop (place from entries) entries
 
-  -- a walk, where it goes along entries, stands before those from `from` on
+  -- a cursor that iterates over entries is at those from `from` on
   abbrev pub StandsAt : List ℕ → List (Msg U V) × Option (List (List ℕ × List (KeyOp U V))) → Type 0
   StandsAt from walk = IfSome walk.1 (λ rest. AreFrom walk.0 from rest)
 
-  -- how many entries a walk along them has before it
+  -- how many entries remain for a cursor over them
   abbrev pub entries_left : Option (List (List ℕ × List (KeyOp U V))) → ℕ
   entries_left None = 0
   entries_left (Some rest) = length rest
 
-  -- the messages are those of a sorted list, in which these changes wait at the key
+  -- the messages are those of a sorted list, in which these are the pending operations of the key
   pub record WaitAt (ms : List (Msg U V)) (k : List ℕ) (run : List (KeyOp U V)) : Type 0 where
     pub spans : List Span
     pub entries : List (List ℕ × List (KeyOp U V))
@@ -36,11 +36,11 @@ module _ {U V : Type 0} where
     pub runs : AreRuns entries
     pub here : Some run ≡ at_key k entries
 
-  -- a key that was met; where the changes that wait there were met too, they are these
+  -- a key at which the cursor stopped; if its pending operations were read too, they are these
   abbrev pub IsMet : List (Msg U V) → List ℕ × Option (List (KeyOp U V)) → Type 0
   IsMet ms met = IfSome met.1 (λ run. WaitAt ms met.0 run)
 
-  -- a first entry, whose key stands before the end, was met and passed
+  -- a first entry, whose key is before the end, was returned and passed
   pub record IsPassed (end : Option (List ℕ)) (old new : List (List ℕ × List (KeyOp U V))) (met : List ℕ × Option (List (KeyOp U V))) : Type 0 where
     pub run : List (KeyOp U V)
     pub is : met.1 ≡ Some run

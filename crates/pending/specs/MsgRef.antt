@@ -1,4 +1,4 @@
--- The message that is lent.
+-- The borrowed message.
 use Rattle.std.specs.Option.{option_copied}
 use Rattle.message.specs.declared.msg.Msg.{Msg}
 use Rattle.message.specs.declared.msg.Msg.TheVariants as msg

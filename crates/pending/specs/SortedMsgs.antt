@@ -10,7 +10,7 @@ module _ {U V : Type 0} where
   abbrev pub sorted_msgs : List Span → List (List ℕ × List (KeyOp U V)) → List (Msg U V)
   sorted_msgs rs es = range_msgs rs ++ point_msgs es
 
-  -- what holds of the parts of a sorted list, where so many of the first key's messages are gone
+  -- the invariant of the parts of a sorted list in which the given number of the first key's messages are consumed
   pub record IsSorted (rs : List Span) (es : List (List ℕ × List (KeyOp U V))) (consumed : ℕ) : Type 0 where
     pub some : IsLeft consumed es
     pub small : length rs + point_count (left consumed es) ≤ 2 ^ 62

@@ -1,6 +1,6 @@
-//! One message of a tail, or the part of one that was cut.
+//! One message of a tail, or a part of a message that was split.
 //!
-//! Invariant: wherever it lies, in a place that several lists share or alone, it is the same message.
+//! Invariant: however it is stored, in an allocation that several lists share or inline, it is the same message.
 ghost use Rattle.std.specs.Prelude.{◌≡◌, true, is_some, [], Some, None, IfOk, MatchResult};
 ghost use Rattle.message.specs.Cuts.{cut_to};
 ghost use Rattle.pending.specs.MsgRef.{borrowed_msg};
@@ -15,20 +15,20 @@ use std::alloc::Global;
 use std::marker::Model;
 use std::sync::Arc;
 
-/// A message that came, or the part of one that was cut. Contracts see the message.
+/// A message as it was added, or a part of one that was split. Contracts see the message.
 #[derive(Drop)]
 pub struct BufferedMsg<U: UpdateTarget> {
     place: MsgStorage<U>,
 }
 
-/// Where a message lies.
+/// How a message is stored.
 #[derive(Drop)]
 pub enum MsgStorage<U: UpdateTarget> {
-    /// In a place of its own, which other lists may share.
+    /// In an allocation of its own, which other lists may share.
     Shared(Arc<Msg<U>>),
     /// A range-delete, whose range other lists may share.
     Range(SharedRange),
-    /// Without one, where memory for it was refused.
+    /// Inline, if an allocation of its own failed.
     Alone(Msg<U>),
 }
 
@@ -43,7 +43,7 @@ impl<U: UpdateTarget> Model for BufferedMsg<U> {
 }
 
 impl<U: Update> BufferedMsg<U> {
-    /// The message, in a place of its own where memory is there.
+    /// Stores the message in an allocation of its own if memory is available, else inline.
     pub(crate) fn new(alloc: Global, msg: Msg<U>) -> BufferedMsg<U>
         ensures { result ≡ msg }
     {
@@ -54,7 +54,7 @@ impl<U: Update> BufferedMsg<U> {
         BufferedMsg { place }
     }
 
-    /// The message, where it lies.
+    /// Borrows the message.
     pub(crate) fn as_msg(&self) -> MsgRef<'_, U>
         ensures { borrowed_msg result ≡ self.now }
     {
@@ -65,7 +65,7 @@ impl<U: Update> BufferedMsg<U> {
         }
     }
 
-    /// The same message for another list. It is copied only where it has no place of its own.
+    /// Another reference to the message, for another list. It is copied only if it is stored inline.
     pub(crate) fn share(&self, alloc: Global) -> Result<BufferedMsg<U>, NoMemory>
         ensures { IfOk result (λ w. w ≡ self.now) }
     {
@@ -77,8 +77,8 @@ impl<U: Update> BufferedMsg<U> {
         Ok(BufferedMsg { place })
     }
 
-    /// The parts of the message before the pivot, and from it on. A message for one key goes as it lies to its side, and a range
-    /// is shared by both. What is copied is a range-delete over the pivot that has no place of its own.
+    /// The parts of the message before the pivot, and from it on. A message for one key is moved to its side without being
+    /// copied, and a range is shared by both. Only a range-delete across the pivot that is stored inline is copied.
     pub(crate) fn split_at(
         self,
         alloc: Global,
@@ -98,7 +98,7 @@ impl<U: Update> BufferedMsg<U> {
         }
     }
 
-    /// The two parts of a message that has some on either side of the pivot.
+    /// The two parts of a message that has keys on both sides of the pivot.
     fn split_msg(
         self,
         alloc: Global,
@@ -132,7 +132,8 @@ impl<U: Update> BufferedMsg<U> {
         }
     }
 
-    /// The message, out of its place. Where other lists hold it, it is copied; where memory for that is refused it comes back.
+    /// Takes the message out of its allocation. If other lists share it, it is copied; if this fails to allocate, the buffered
+    /// message is returned as the error.
     pub(crate) fn into_msg(self, alloc: Global) -> Result<Msg<U>, BufferedMsg<U>>
         ensures { MatchResult result (λ m. m ≡ self) (λ w. w ≡ self) }
     {
@@ -147,7 +148,7 @@ impl<U: Update> BufferedMsg<U> {
     }
 }
 
-/// A place of its own for a message, where memory is there.
+/// The storage of a message: an allocation of its own if memory is available, else inline.
 fn position<U: Update>(alloc: Global, msg: Msg<U>) -> MsgStorage<U>
     ensures { msg_at result ≡ msg }
 {
@@ -157,7 +158,7 @@ fn position<U: Update>(alloc: Global, msg: Msg<U>) -> MsgStorage<U>
     }
 }
 
-/// The same for a range-delete.
+/// The storage of a range-delete, likewise.
 fn place_of_range<U: Update>(alloc: Global, range: KeyRange) -> MsgStorage<U>
     ensures { msg_at result ≡ msg.DelRange range }
 {
@@ -181,7 +182,7 @@ fn split_copies<U: Update>(
     Ok((wait_for(alloc, before), wait_for(alloc, behind)))
 }
 
-/// The message in a place of its own, if there is one.
+/// Stores the message, if there is one.
 fn wait_for<U: Update>(alloc: Global, msg: Option<Msg<U>>) -> Option<BufferedMsg<U>>
     ensures { result ≡ msg }
 {
@@ -191,7 +192,7 @@ fn wait_for<U: Update>(alloc: Global, msg: Option<Msg<U>>) -> Option<BufferedMsg
     }
 }
 
-/// A message out of the place that it shares with others, or a copy of it.
+/// Takes the message out of a shared allocation, or copies it if others share it.
 fn out_of<U: Update>(alloc: Global, shared: Arc<Msg<U>>) -> Result<Msg<U>, BufferedMsg<U>>
     ensures { MatchResult result (λ m. m ≡ shared.value) (λ w. w ≡ shared.value) }
 {

@@ -1,7 +1,8 @@
-//! A message is inserted into range-deletes and point messages, newer than all of them.
+//! Inserts a message into range-deletes and point messages, newer than all of them.
 //!
 //! Invariant: no range-delete is newer than a point message that it touches: a new one removes each such message before it is
-//! added itself. Where its place finds no memory it comes back, and means behind the others what it would have meant.
+//! added itself. If its insertion fails to allocate, the message is returned, and applied after the remaining ones it has the
+//! effect that it would have had.
 ghost use Rattle.std.specs.Prelude.{◌≡◌, ◌+◌, ◌^◌, ◌<◌, ◌++◌, [], ◌∷◌, length, IfErr, OnOk, OnErr};
 ghost use Rattle.message.specs.Effects.{Takes};
 ghost use Rattle.message.specs.declared.msg.Msg.TheVariants as msg;
@@ -15,7 +16,8 @@ use point_ops::PointOps;
 use range_set::RangeSet;
 use std::alloc::Global;
 
-/// Lays a message over the others. Where memory is refused it comes back, and what is left then means with it what all meant.
+/// Inserts a message. On allocation failure it is returned as the error, and the remaining messages followed by it have the
+/// effect that all of them had.
 #[inline(always)]
 pub(crate) fn insert<U: Update>(
     ranges: &mut RangeSet,
@@ -55,8 +57,8 @@ pub(crate) fn insert<U: Update>(
     }
 }
 
-/// Lays a range-delete: the older point messages and range-deletes inside it go, and older range-deletes that reach over its ends
-/// or meet them become one with it. Where memory for that is refused, the point messages may be gone.
+/// Inserts a range-delete: it removes the older point messages and range-deletes inside it, and is merged with older
+/// range-deletes that overlap its ends or touch them. On allocation failure the point messages may already be removed.
 fn del_range<U: Update>(
     ranges: &mut RangeSet,
     points: &mut PointOps<U>,

@@ -1,6 +1,6 @@
-//! Questions about messages of a tail, and copies of them.
+//! Queries on the messages of a tail, and copies of them.
 //!
-//! Invariant: the messages stand in the order in which they came, the oldest first, and their keys in none.
+//! Invariant: the messages are in the order of their arrival, the oldest first, and not sorted by key.
 ghost use Rattle.std.specs.Prelude.{◌≡◌, true, ◌≤◌, ◌++◌, length, IfOk, OnOk};
 ghost use Rattle.std.specs.Option.{option_copied};
 ghost use Rattle.message.specs.Cuts.{LieIn};
@@ -19,14 +19,14 @@ pub(crate) fn is_touched<U: Update>(msgs: &[BufferedMsg<U>], key: &Key) -> bool
     msgs.iter().any(|waiting| waiting.as_msg().touches(key))
 }
 
-/// Whether a range-delete among the messages holds the key.
+/// Whether a range-delete among the messages covers the key.
 pub(crate) fn is_range_deleted<U: Update>(msgs: &[BufferedMsg<U>], key: &Key) -> bool
     ensures { result ≡ is_cleared msgs.now key.now }
 {
     msgs.iter().any(|waiting| waiting.as_msg().deletes_key(key))
 }
 
-/// How many of the messages are range-deletes.
+/// The number of range-deletes among the messages.
 pub(crate) fn ranges_in<U: Update>(msgs: &[BufferedMsg<U>]) -> usize
     ensures count { result ≡ range_count msgs.now }
     ensures few { result ≤ length msgs.now }
@@ -40,7 +40,7 @@ pub(crate) fn ranges_in<U: Update>(msgs: &[BufferedMsg<U>]) -> usize
     count
 }
 
-/// The value at `key` after the messages, the oldest first, where `old` was there.
+/// Applies the messages, the oldest first, to `old`, the older value at `key`, and returns the resulting value.
 pub(crate) fn apply_msgs<U: Update>(
     alloc: Global,
     msgs: &[BufferedMsg<U>],
@@ -56,7 +56,7 @@ pub(crate) fn apply_msgs<U: Update>(
     Ok(value)
 }
 
-/// Copies of messages, put behind those in `front`.
+/// Appends copies of the messages to `front`.
 pub(crate) fn copy_behind<U: Update>(
     alloc: Global,
     msgs: &[BufferedMsg<U>],
@@ -70,7 +70,7 @@ pub(crate) fn copy_behind<U: Update>(
     Ok(())
 }
 
-/// The same messages for another list, put behind those in `back`.
+/// Appends the messages to `back`, for another list that shares them.
 pub(crate) fn share_behind<U: Update>(
     alloc: Global,
     msgs: &[BufferedMsg<U>],
@@ -84,7 +84,7 @@ pub(crate) fn share_behind<U: Update>(
     Ok(())
 }
 
-/// Whether each message lies whole from `lo` up to and without `hi`; `None` is no end.
+/// Whether each message is entirely within the keys from `lo` up to, but excluding, `hi`; `None` means no upper bound.
 pub(crate) fn lie_in<U: Update>(msgs: &[BufferedMsg<U>], lo: &Key, hi: Option<&Key>) -> bool
     ensures { result ≡ true → LieIn lo.now (option_copied hi.entry) msgs.now }
 {

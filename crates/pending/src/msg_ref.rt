@@ -1,6 +1,7 @@
-//! A message, borrowed from where it lies.
+//! A borrowed message.
 //!
-//! Invariant: it is made of parts of what is stored, so a message at a key, one of a tail and part of a range-delete answer alike.
+//! Invariant: it consists of references to stored parts, so the operations on a message at a key, one of a tail and part of a
+//! range-delete give the same results.
 ghost use Rattle.std.specs.Prelude.{◌≡◌, ◌∷◌, [], is_some, not, true, Some, IfOk};
 ghost use Rattle.std.specs.Option.{option_copied};
 ghost use Rattle.message.specs.Cuts.{cut_to};
@@ -18,7 +19,7 @@ use message::{Msg, Update, UpdateTarget, edited};
 use pathkey::{Key, KeyRange, NoMemory};
 use std::alloc::Global;
 
-/// A message, lent from where it stands.
+/// A message, borrowed from where it is stored.
 #[derive(Drop)]
 pub enum MsgRef<'a, U: UpdateTarget> {
     /// A put.
@@ -32,7 +33,7 @@ pub enum MsgRef<'a, U: UpdateTarget> {
 }
 
 impl<'a, U: Update> MsgRef<'a, U> {
-    /// A message that stands alone.
+    /// A borrow of a message that is stored as a whole.
     pub(crate) fn of(msg: &'a Msg<U>) -> MsgRef<'a, U>
         ensures { borrowed_msg result ≡ msg.now }
     {
@@ -44,7 +45,7 @@ impl<'a, U: Update> MsgRef<'a, U> {
         }
     }
 
-    /// A change that waits at the key.
+    /// A borrow of a pending operation of the key.
     pub(crate) fn at(key: &'a Key, change: point_ops::KeyOpRef<'a, U>) -> MsgRef<'a, U>
         ensures { borrowed_msg result ≡ msg_at key.now (borrowed_change change.entry) }
     {
@@ -88,7 +89,7 @@ impl<'a, U: Update> MsgRef<'a, U> {
         }
     }
 
-    /// Whether it has a part from `lo` up to and without `hi`; `None` is no end.
+    /// Whether it has a part in the keys from `lo` up to, but excluding, `hi`; `None` means no upper bound.
     pub(crate) fn overlaps_range(&self, lo: &Key, hi: Option<&Key>) -> bool
         ensures { result ≡ is_some (cut_to lo.now (option_copied hi.entry) (borrowed_msg self.now)) }
     {
@@ -100,7 +101,7 @@ impl<'a, U: Update> MsgRef<'a, U> {
         }
     }
 
-    /// Whether it lies whole from `lo` up to and without `hi`; `None` is no end.
+    /// Whether it is entirely within the keys from `lo` up to, but excluding, `hi`; `None` means no upper bound.
     pub(crate) fn lies_in(&self, lo: &Key, hi: Option<&Key>) -> bool
         ensures { result ≡ true → cut_to lo.now (option_copied hi.entry) (borrowed_msg self.now) ≡ Some (borrowed_msg self.now) }
     {
@@ -112,7 +113,7 @@ impl<'a, U: Update> MsgRef<'a, U> {
         }
     }
 
-    /// Whether it is a range-delete of every key from `lo` up to and without `hi`; `None` is no end.
+    /// Whether it is a range-delete of every key from `lo` up to, but excluding, `hi`; `None` means no upper bound.
     pub(crate) fn covers(&self, lo: &Key, hi: Option<&Key>) -> bool
         ensures { result ≡ covers_first lo.now (option_copied hi.entry) (borrowed_msg self.now ∷ []) }
     {
@@ -154,7 +155,7 @@ impl<'a, U: Update> MsgRef<'a, U> {
         }
     }
 
-    /// Whether it is a range-delete that holds the key.
+    /// Whether it is a range-delete that covers the key.
     pub(crate) fn deletes_key(&self, key: &Key) -> bool
         ensures { result ≡ clears (borrowed_msg self.now) key.now }
     {
@@ -164,7 +165,7 @@ impl<'a, U: Update> MsgRef<'a, U> {
         }
     }
 
-    /// The value at `key` after it, where `old` was there.
+    /// Applies it to `old`, the older value at `key`, and returns the resulting value.
     pub(crate) fn insert(
         &self,
         alloc: Global,

@@ -1,8 +1,8 @@
-//! The messages that wait in one slot, the oldest first.
+//! The pending messages of one slot, the oldest first.
 //!
-//! Contracts see a list of messages and for how many more there is room. What is added is promised by its
-//! meaning alone (`Takes`): the list is sorted and condenses, so that it holds fewer messages that mean the same, and
-//! callers that rely on the contract do not notice. No call lends a message or asks for one by its number.
+//! Contracts see a list of messages and the number of messages for which capacity is reserved. An insertion promises only its
+//! effect (`Takes`): the list is sorted and condensed, so that it holds fewer messages with the same effect, and callers that
+//! rely on the contract do not notice. No call returns a reference to a message or takes the index of one.
 ghost use Rattle.std.specs.Prelude.{◌≡◌, ◌+◌, ◌≤◌, ◌<◌, ◌++◌, [], ◌∷◌, true, false, length, take, drop, Some, None, IfOk, IfNone, IfSome, OnOk, OnErr, MatchOption};
 ghost use Rattle.std.specs.Option.{option_copied, option_map};
 ghost use Rattle.std.specs.List.{All, slice_get};
@@ -26,13 +26,14 @@ use pathkey::{Key, NoMemory};
 use std::alloc::Global;
 use std::marker::Model;
 
-/// So many messages of a tail are folded at once: as many as a node may hold.
+/// The most messages of a tail that are condensed in one call: as many as a node may hold.
 const CONDENSE_AT: usize = 1024;
 
-/// A pending list: a sorted part, and a tail of newer messages as they came.
+/// A pending list: a sorted part, and a tail of newer messages in the order of their arrival.
 ///
-/// A message comes into the tail where the slot has a mark, or where it found no memory for its place. The next message that
-/// comes without a mark first folds the tail into the sorted part, so a list whose mark is gone condenses again.
+/// A message is appended to the tail if the slot has a mark, or if inserting it into the sorted part failed to allocate. The
+/// next message that is added without a mark first condenses the tail into the sorted part, so a list whose mark is gone is
+/// condensed again.
 pub struct Pending<U: UpdateTarget> {
     sorted: SortedMsgs<U>,
     tail_msgs: Tail<U>,
@@ -57,10 +58,10 @@ impl<U: UpdateTarget> Model for Pending<U> {
     ghost view = { λ p. (p.sorted ++ p.tail_msgs.0, p.tail_msgs.1) };
 }
 
-// ---- what comes in
+// ---- insertion
 
 impl<U: Update> Pending<U> {
-    /// A list without messages. It takes no memory.
+    /// An empty list. It allocates no memory.
     pub fn new(alloc: Global) -> Pending<U>
         ensures { result.0 ≡ [] }
     {
@@ -70,8 +71,8 @@ impl<U: Update> Pending<U> {
         }
     }
 
-    /// Makes room for so many messages more. The messages and the room that was there stay, whatever it
-    /// answers, and it is refused only where it needed more room.
+    /// Reserves capacity for `more` more messages. The messages and the existing capacity stay, whatever it returns, and it
+    /// fails only if it needed more capacity.
     pub fn reserve(&mut self, more: usize) -> Result<(), NoMemory>
         ensures messages { self.new.0 ≡ self.old.0 }
         ensures kept { self.old.1 ≤ self.new.1 }
@@ -81,8 +82,8 @@ impl<U: Update> Pending<U> {
         self.tail_msgs.reserve(more)
     }
 
-    /// Adds a message, newer than all others, into reserved room. What it makes idle goes, and an update joins those of its key
-    /// where it can.
+    /// Adds a message, newer than all others, within the reserved capacity. It removes the messages that it makes redundant,
+    /// and an update is joined to those of its key if possible.
     #[inline(always)]
     pub fn push_reserved(&mut self, msg: Msg<U>)
         requires { 0 < self.old.1 }
@@ -99,8 +100,8 @@ impl<U: Update> Pending<U> {
         }
     }
 
-    /// Adds all messages of `newer`, in their order and newer than all others, into reserved room, and
-    /// leaves `newer` empty.
+    /// Adds all messages of `newer`, in their order and newer than all others, within the reserved capacity, and leaves `newer`
+    /// empty.
     pub fn append_reserved(&mut self, newer: &mut Vec<Msg<U>>)
         requires { length newer.old.items ≤ self.old.1 }
         ensures takes { Takes U.means self.old.0 newer.old.items self.new.0 }
@@ -114,7 +115,7 @@ impl<U: Update> Pending<U> {
         }
     }
 
-    /// The same, with the messages that were there and the new ones left as they are, for a slot with a mark.
+    /// Like [`Pending::append_reserved`], but leaves the old and the new messages as they are, for a slot with a mark.
     pub fn append_uncondensed(&mut self, newer: &mut Vec<Msg<U>>)
         requires { length newer.old.items ≤ self.old.1 }
         ensures messages { self.new.0 ≡ self.old.0 ++ newer.old.items }
@@ -124,7 +125,7 @@ impl<U: Update> Pending<U> {
         self.tail_msgs.append(newer);
     }
 
-    /// The same for one message.
+    /// Like [`Pending::push_reserved`], but leaves the old messages and the new one as they are.
     pub fn push_uncondensed(&mut self, msg: Msg<U>)
         requires { 0 < self.old.1 }
         ensures messages { self.new.0 ≡ self.old.0 ++ msg ∷ [] }
@@ -133,7 +134,7 @@ impl<U: Update> Pending<U> {
         self.tail_msgs.push_reserved(msg);
     }
 
-    // ---- what is counted
+    // ---- counts
 
     /// How many messages the list holds.
     #[inline(always)]
@@ -195,7 +196,7 @@ impl<U: Update> Pending<U> {
         }
     }
 
-    /// Whether there is an oldest message and it has a part from `lo` up to and without `hi`.
+    /// Whether there is an oldest message and it has a part in the keys from `lo` up to, but excluding, `hi`.
     pub fn oldest_meets(&self, lo: &Key, hi: Option<&Key>) -> bool
         ensures { result ≡ meets_first lo.now (option_copied hi.entry) self.now.0 }
     {
@@ -205,7 +206,7 @@ impl<U: Update> Pending<U> {
         }
     }
 
-    /// Whether there is an oldest message and it is a range-delete of every key from `lo` up to and without `hi`.
+    /// Whether there is an oldest message and it is a range-delete of every key from `lo` up to, but excluding, `hi`.
     pub fn oldest_covers(&self, lo: &Key, hi: Option<&Key>) -> bool
         ensures { result ≡ covers_first lo.now (option_copied hi.entry) self.now.0 }
     {
@@ -215,7 +216,7 @@ impl<U: Update> Pending<U> {
         }
     }
 
-    // ---- what goes out
+    // ---- copies, splits, moves and removal
 
     /// Copies of the `count` oldest messages.
     pub fn copy_front(&self, alloc: Global, count: usize) -> Result<Vec<Msg<U>>, NoMemory>
@@ -229,7 +230,7 @@ impl<U: Update> Pending<U> {
         Ok(front)
     }
 
-    /// A list of the same messages.
+    /// A copy that shares its messages with this list.
     pub fn copy(&self, alloc: Global) -> Result<Pending<U>, NoMemory>
         ensures { IfOk result (λ p. p.0 ≡ self.now.0) }
     {
@@ -238,7 +239,7 @@ impl<U: Update> Pending<U> {
         Ok(Pending { sorted, tail_msgs })
     }
 
-    /// A list of the messages but the `consumed` oldest, cut from `lo` up to and without `hi`.
+    /// A list of the messages without the `consumed` oldest, clipped to the keys from `lo` up to, but excluding, `hi`.
     pub fn copy_between(
         &self,
         alloc: Global,
@@ -256,7 +257,7 @@ impl<U: Update> Pending<U> {
         Ok(list)
     }
 
-    /// Leaves the parts of the messages before the end alone, if there is one. On want of memory any may be gone.
+    /// Keeps only the parts of the messages before `end`, if it is given. On allocation failure any message may be lost.
     fn keep_before(&mut self, alloc: Global, end: Option<&Key>) -> Result<(), NoMemory>
         ensures { OnOk result (IsUpTo (option_copied end.entry) self.old.0 self.new.0) }
     {
@@ -269,7 +270,8 @@ impl<U: Update> Pending<U> {
         Ok(())
     }
 
-    /// The parts of the messages before the pivot, and those from it on. No message is copied but a range-delete over the pivot.
+    /// The parts of the messages before the pivot, and those from it on. No message is copied except a range-delete across the
+    /// pivot.
     fn split_at(self, alloc: Global, pivot: &Key) -> Result<(Pending<U>, Pending<U>), NoMemory>
         ensures front { IfOk result (λ r. r.0.0 ≡ pieces [] (Some pivot.now) self.0) }
         ensures back { IfOk result (λ r. r.1.0 ≡ pieces pivot.now None self.0) }
@@ -288,8 +290,9 @@ impl<U: Update> Pending<U> {
         Ok((front, back))
     }
 
-    /// Cuts the list at the pivot, without its `consumed` oldest messages: it keeps what lies from `lo` up to the pivot, and answers
-    /// what lies from the pivot on. A range-delete over the pivot is cut too. On want of memory the list is as it was.
+    /// Splits the list at the pivot, without its `consumed` oldest messages: it keeps the parts from `lo` up to the pivot, and
+    /// returns those from the pivot on. A range-delete across the pivot is split too. On allocation failure the list is
+    /// unchanged.
     pub fn split_off(
         &mut self,
         alloc: Global,
@@ -313,7 +316,8 @@ impl<U: Update> Pending<U> {
         Ok(back)
     }
 
-    /// The same by moves, where that can be: where the list has no tail and no range-delete, and no message lies before `lo`.
+    /// Does the same by moving messages, if possible: if the list has no tail and no range-delete, and no message is before
+    /// `lo`.
     fn move_tail_off(
         &mut self,
         alloc: Global,
@@ -340,9 +344,9 @@ impl<U: Update> Pending<U> {
         Ok(Some(back))
     }
 
-    /// Moves the oldest messages to another list, where they are newer than all others, and counts them: all of one key as they
-    /// lie in memory, where there are at most `most` and that can be, else the first. On want of memory both lists are as they
-    /// were.
+    /// Moves the oldest messages to another list, in which they are newer than all others, and returns how many: all messages
+    /// of one key without copying them, if there are at most `most` and this is possible, else only the oldest. On allocation
+    /// failure both lists are unchanged.
     pub fn flush_oldest(&mut self, to: &mut Pending<U>, most: usize) -> Result<usize, NoMemory>
         ensures takes { IfOk result (λ n. Takes U.means to.old.0 (take n self.old.0) to.new.0) }
         ensures left { IfOk result (λ n. self.new.0 ≡ drop n self.old.0) }
@@ -361,8 +365,8 @@ impl<U: Update> Pending<U> {
         }
     }
 
-    /// Moves the oldest messages, those of one key and at most `most`, as they lie in memory, and counts them. None move where
-    /// the other list has a tail, or where its sorted part takes none.
+    /// Moves the oldest messages, those of one key and at most `most`, without copying them, and returns how many. It moves
+    /// none if the other list has a tail, or if its sorted part accepts none.
     fn flush_key(&mut self, to: &mut Pending<U>, most: usize) -> Option<usize>
         ensures takes { IfSome result (λ n. Takes U.means to.old.0 (take n self.old.0) to.new.0) }
         ensures left { IfSome result (λ n. self.new.0 ≡ drop n self.old.0) }
@@ -378,7 +382,7 @@ impl<U: Update> Pending<U> {
         Some(count)
     }
 
-    /// Moves the oldest message, if there is one, and answers how many moved.
+    /// Moves the oldest message, if there is one, and returns how many were moved.
     fn flush_one(&mut self, to: &mut Pending<U>) -> Result<usize, NoMemory>
         ensures takes { IfOk result (λ n. Takes U.means to.old.0 (take n self.old.0) to.new.0) }
         ensures left { IfOk result (λ n. self.new.0 ≡ drop n self.old.0) }
@@ -407,12 +411,12 @@ impl<U: Update> Pending<U> {
         }
     }
 
-    /// Moves all messages to another list, where they are newer than all that are there. On want of memory some may have moved,
-    /// and both lists together mean the same.
+    /// Moves all messages to another list, in which they are newer than all that are there. On allocation failure some may have
+    /// moved, and both lists together have the same effect.
     ///
-    /// An empty list takes the other as it is. Else most messages move as they lie in memory. Copied are those of the other list's
-    /// tail that further lists share; those in rows that further lists share; updates of a key that has messages in the other list;
-    /// and a range-delete that holds a key with messages there.
+    /// An empty list takes over the other as it is. Otherwise most messages move without being copied. The exceptions are those
+    /// of the other list's tail that further lists share; those in rows that further lists share; updates of a key that has
+    /// messages in the other list; and a range-delete that covers a key with messages there.
     pub fn flush_all(&mut self, to: &mut Pending<U>) -> Result<(), NoMemory>
         ensures ok { OnOk result (Takes U.means to.old.0 self.old.0 to.new.0) }
         ensures moved { OnOk result (self.new.0 ≡ []) }
@@ -427,8 +431,8 @@ impl<U: Update> Pending<U> {
         Ok(())
     }
 
-    /// Moves the oldest messages of the sorted part, or where it has none the tail, and says whether that was all. On want of
-    /// memory both lists are as they were.
+    /// Moves the oldest messages of the sorted part, or of the tail if the sorted part is empty, and returns whether that was
+    /// all. On allocation failure both lists are unchanged.
     fn flush_more(&mut self, to: &mut Pending<U>) -> Result<bool, NoMemory>
         ensures same { OnOk result (Takes U.means (to.old.0 ++ self.old.0) [] (to.new.0 ++ self.new.0)) }
         ensures all { IfOk result (λ all. all ≡ true → self.new.0 ≡ []) }
@@ -444,8 +448,8 @@ impl<U: Update> Pending<U> {
         Ok(true)
     }
 
-    /// A list of the messages of both lists, those of `newer` newer than all others. Where one list lies before the pivot and the
-    /// newer one from it on, the messages are moved as they lie in memory; else they sink as [`Pending::flush_all`] lets them.
+    /// Merges both lists, with the messages of `newer` newer than all others. If one list is before the pivot and the newer one
+    /// from it on, the messages are moved without being copied; otherwise they move as [`Pending::flush_all`] moves them.
     pub fn merged(
         self,
         alloc: Global,
@@ -463,21 +467,21 @@ impl<U: Update> Pending<U> {
         Ok(all)
     }
 
-    /// Whether each message lies whole before the pivot.
+    /// Whether each message is entirely before the pivot.
     fn lies_before(&self, alloc: Global, pivot: &Key) -> bool
         ensures { result ≡ true → LieIn [] (Some pivot.now) self.now.0 }
     {
         self.sorted.lies_before(pivot) && self.tail_msgs.lies_before(alloc, pivot)
     }
 
-    /// Whether each message lies whole from the pivot on.
+    /// Whether each message is entirely from the pivot on.
     fn lies_from(&self, pivot: &Key) -> bool
         ensures { result ≡ true → LieIn pivot.now None self.now.0 }
     {
         self.sorted.lies_from(pivot) && self.tail_msgs.lies_from(pivot)
     }
 
-    /// A list of the messages of both lists, as they lie in memory.
+    /// Merges both lists without copying their messages.
     fn joined_at(
         self,
         alloc: Global,
@@ -501,7 +505,7 @@ impl<U: Update> Pending<U> {
         Ok(Pending { sorted, tail_msgs })
     }
 
-    /// Takes the `count` oldest messages away.
+    /// Removes the `count` oldest messages.
     pub fn drop_front(&mut self, count: usize)
         requires { count ≤ length self.old.0 }
         ensures messages { self.new.0 ≡ drop count self.old.0 }
@@ -512,10 +516,10 @@ impl<U: Update> Pending<U> {
         self.tail_msgs.drop_oldest(count - sorted);
     }
 
-    // ---- what is asked
+    // ---- queries
 
-    /// What the list says of the value at the key. It copies nothing but a value that it settles. Where a message of
-    /// the tail touches the key, it settles none.
+    /// What the list says of the value at the key. It copies only a value that it determines. If a message of the tail touches
+    /// the key, it determines none.
     pub fn resolve(&self, alloc: Global, key: &Key) -> Result<Resolution<U::Value>, NoMemory>
         ensures { IfOk result (IsResolved U.means self.now.0 key.now) }
     {
@@ -525,7 +529,7 @@ impl<U: Update> Pending<U> {
         self.sorted.resolve(alloc, key)
     }
 
-    /// The value at `key` after the messages, where `old` was there.
+    /// Applies the messages to `old`, the older value at `key`, and returns the resulting value.
     pub fn value_after(
         &self,
         alloc: Global,
@@ -538,8 +542,8 @@ impl<U: Update> Pending<U> {
         self.tail_msgs.apply_msgs(alloc, key, value)
     }
 
-    /// Where the stretch of keys that begins at `from` ends: up to there, at `end` or before it, each message touches all
-    /// keys or none.
+    /// The end of the segment of keys that begins at `from`: from there to its end, which is at `end` or before it, each
+    /// message touches all keys or none.
     pub fn segment_end(
         &self,
         alloc: Global,
@@ -555,7 +559,7 @@ impl<U: Update> Pending<U> {
         }
     }
 
-    /// The first key from `from` up to and without `end` that has a message for it alone, if there is one.
+    /// The first key from `from` up to, but excluding, `end` that has a message for it alone, if there is one.
     pub fn next_point<'a>(&'a self, from: &'a Key, end: Option<&'a Key>) -> Option<&'a Key>
         ensures { IsNextPoint self.now.0 from.now (option_copied end.entry) (option_copied result) }
     {
@@ -569,7 +573,7 @@ impl<U: Update> Pending<U> {
         Some(key)
     }
 
-    /// A walk through the keys from `from` on that have messages for them alone.
+    /// A cursor over the keys from `from` on that have messages for them alone.
     pub fn walk_points(&self, from: &Key) -> PointCursor<'_, U>
         ensures list { result.0 ≡ self.now.0 }
         ensures stands { StandsAt from.now result }
@@ -582,14 +586,14 @@ impl<U: Update> Pending<U> {
         PointCursor { list: self, rest }
     }
 
-    /// Whether a range-delete holds the key: then no older value is left there.
+    /// Whether a range-delete covers the key: then no older value remains there.
     pub fn is_range_deleted(&self, key: &Key) -> bool
         ensures { result ≡ is_cleared self.now.0 key.now }
     {
         self.sorted.is_range_deleted(key) || self.tail_msgs.is_range_deleted(key)
     }
 
-    /// Up to where the range-deletes hold all keys from `from` on, or none: at `end` or before it.
+    /// The key up to which the range-deletes cover either all keys from `from` on or none of them: at `end` or before it.
     pub fn range_deleted_until(
         &self,
         alloc: Global,
@@ -604,8 +608,8 @@ impl<U: Update> Pending<U> {
     }
 }
 
-/// Folds the tail into the sorted part, the oldest message first, up to one that finds no place there, and at most [`CONDENSE_AT`]
-/// messages.
+/// Condenses the tail into the sorted part, the oldest message first, up to one that cannot be inserted there, and at most
+/// [`CONDENSE_AT`] messages.
 fn condense<U: Update>(sorted: &mut SortedMsgs<U>, tail_msgs: &mut Tail<U>)
     ensures same { Takes U.means (sorted.old ++ tail_msgs.old.0) [] (sorted.new ++ tail_msgs.new.0) }
     ensures room { tail_msgs.old.1 ≤ tail_msgs.new.1 }
@@ -619,14 +623,14 @@ fn condense<U: Update>(sorted: &mut SortedMsgs<U>, tail_msgs: &mut Tail<U>)
     }
 }
 
-/// Folds the tail into the sorted part, the oldest message first, up to one that finds no place there.
+/// Condenses the tail into the sorted part, the oldest message first, up to one that cannot be inserted there.
 fn condense_all<U: Update>(sorted: &mut SortedMsgs<U>, tail_msgs: &mut Tail<U>)
     ensures same { Takes U.means (sorted.old ++ tail_msgs.old.0) [] (sorted.new ++ tail_msgs.new.0) }
 {
     while condense_oldest(sorted, tail_msgs) {}
 }
 
-/// Lays the oldest message of the tail over the sorted part, and says whether it did; else both stay.
+/// Inserts the oldest message of the tail into the sorted part, and returns whether it did; otherwise both are unchanged.
 fn condense_oldest<U: Update>(sorted: &mut SortedMsgs<U>, tail_msgs: &mut Tail<U>) -> bool
     ensures same { Takes U.means (sorted.old ++ tail_msgs.old.0) [] (sorted.new ++ tail_msgs.new.0) }
     ensures room { tail_msgs.old.1 ≤ tail_msgs.new.1 }

@@ -1,7 +1,7 @@
-//! A walk through the keys of a list that have messages for them alone.
+//! A cursor over the keys of a list that have messages for them alone.
 //!
-//! Invariant: where it goes along entries of the sorted part, these are all from the walk's key on; the list then has no tail, and
-//! no message of its first key is consumed. Else it has no entries, and each key is searched for.
+//! Invariant: if it has entries of the sorted part, these are all from the cursor's key on; the list then has no tail, and no
+//! message of its first key is consumed. Otherwise it has no entries, and each key is searched for.
 ghost use Rattle.std.specs.Prelude.{◌≡◌, ◌<◌, List, ℕ, true, None, if◌then◌else◌, IfOk, IfSome, IfNone};
 ghost use Rattle.std.specs.Option.{option_copied, option_map, is_some};
 ghost use Rattle.pathkey.specs.Keys.{next_key};
@@ -19,8 +19,8 @@ use point_ops::KeyOps;
 use std::alloc::Global;
 use std::marker::Model;
 
-/// A walk through the keys with messages for them alone. Contracts see the messages of the list, and the entries that are left where it
-/// goes along these.
+/// A cursor over the keys with messages for them alone. Contracts see the messages of the list, and the remaining entries if
+/// the cursor iterates over entries.
 #[derive(Drop)]
 pub struct PointCursor<'a, U: UpdateTarget> {
     pub(crate) list: &'a Pending<U>,
@@ -37,7 +37,7 @@ impl<'a, U: UpdateTarget> Model for PointCursor<'a, U> {
     ghost view = { λ a. (a.list.now.0, a.rest) };
 }
 
-/// A key that a walk met. Contracts see the key, and the changes that wait there where these were met too.
+/// A key at which a cursor stopped. Contracts see the key, and its pending operations if the cursor iterates over entries.
 #[derive(Drop)]
 pub struct PointHit<'a, U: UpdateTarget> {
     key: &'a Key,
@@ -64,14 +64,15 @@ impl<'a, U: Update> PointHit<'a, U> {
 }
 
 impl<'a, U: Update> PointCursor<'a, U> {
-    /// Whether it goes along the entries. It then knows where it stands, and [`PointCursor::next_along`] needs no key to go on from.
+    /// Whether the cursor iterates over entries. It then keeps its position, and [`PointCursor::next_along`] needs no key from
+    /// which to continue.
     pub fn goes_along(&self) -> bool
         ensures { result ≡ is_some self.now.1 }
     {
         self.rest.is_some()
     }
 
-    /// The next key that a walk along the entries meets, if there is one before the end. The walk then stands behind it.
+    /// The next key of a cursor that iterates over entries, if there is one before `end`. The cursor then moves past it.
     pub fn next_along(&mut self, end: Option<&Key>) -> Option<PointHit<'a, U>>
         requires { is_some self.old.1 ≡ true }
         ensures same { self.new.0 ≡ self.old.0 }
@@ -87,7 +88,7 @@ impl<'a, U: Update> PointCursor<'a, U> {
         pass_before(rest, end)
     }
 
-    /// The value at the key after the messages, where `old` was there.
+    /// Applies the messages to `old`, the older value at the key, and returns the resulting value.
     pub fn value_after(
         &self,
         alloc: Global,
@@ -104,7 +105,7 @@ impl<'a, U: Update> PointCursor<'a, U> {
         run.apply(alloc, 0, below)
     }
 
-    /// What the range-deletes leave of the old value. They are searched only where there is one.
+    /// The old value, or none if a range-delete covers the key. The range-deletes are searched only if there is a value.
     fn left_below(&self, met: &PointHit<'_, U>, old: Option<U::Value>) -> Option<U::Value>
         ensures { result ≡ (if is_cleared self.now.0 met.now.0 then None else old) }
     {
@@ -115,7 +116,8 @@ impl<'a, U: Update> PointCursor<'a, U> {
     }
 }
 
-/// The first key from `from` up to and without `end` that has a message for it alone, if there is one. The walk then stands behind it.
+/// The first key from `from` up to, but excluding, `end` that has a message for it alone, if there is one. The cursor then
+/// moves past it.
 pub fn advance<'a: 'b, 'b, U: Update>(
     ahead: &mut PointCursor<'a, U>,
     from: &'b Key,
@@ -137,7 +139,7 @@ pub fn advance<'a: 'b, 'b, U: Update>(
     }
 }
 
-/// Goes past the first entry that is left, if its key stands before the end.
+/// Moves past the first remaining entry, if its key is before `end`.
 fn pass_before<'a, U: Update>(
     rest: &mut Cursor<'a, KeyOps<U>>,
     end: Option<&Key>,

@@ -1,6 +1,6 @@
-//! Segments: keys in a row of which each message touches all or none, and the next key with a message for it alone.
+//! Segments: intervals of keys of which each message touches all or none, and the next key with a message for it alone.
 //!
-//! Invariant: a segment ends behind the key at which it begins, at the given end or before it.
+//! Invariant: a segment ends after the key at which it begins, at the given end or before it.
 ghost use Rattle.std.specs.Prelude.{◌≡◌, IfOk, true};
 ghost use Rattle.std.specs.Option.{option_copied};
 ghost use Rattle.pathkey.specs.Keys.{is_below};
@@ -15,7 +15,7 @@ use message::ends::{copy_end, earlier, is_within};
 use pathkey::{Key, NoMemory};
 use std::alloc::Global;
 
-/// The end, where it lies after `from`.
+/// The end, if it is after `from`.
 pub(crate) fn ahead_of<'a>(from: &Key, end: Option<&'a Key>) -> Option<&'a Key>
     ensures { option_copied result ≡ ahead_of from.now (option_copied end.entry) }
 {
@@ -25,7 +25,7 @@ pub(crate) fn ahead_of<'a>(from: &Key, end: Option<&'a Key>) -> Option<&'a Key>
     }
 }
 
-/// Where the range from `lo` up to `hi` next begins or ends after `from`; `None` is no end.
+/// The first key after `from` at which the range from `lo` up to `hi` begins or ends; `None` means no upper bound.
 fn range_end<'a>(from: &Key, lo: &'a Key, hi: Option<&'a Key>) -> Option<&'a Key>
     ensures { option_copied result ≡ range_end from.now (record { lo = lo.now; hi = option_copied hi.entry }) }
 {
@@ -35,7 +35,7 @@ fn range_end<'a>(from: &Key, lo: &'a Key, hi: Option<&'a Key>) -> Option<&'a Key
     ahead_of(from, hi)
 }
 
-/// The next key after `from` where the message begins or ceases to touch keys, unless it is for `from` alone.
+/// The next key after `from` at which the message begins or ceases to touch keys, unless it is for `from` alone.
 fn next_end<'a, U: Update>(from: &Key, msg: MsgRef<'a, U>) -> Option<&'a Key>
     ensures { IsNextEnd from.now (borrowed_msg msg.entry) (option_copied result) }
 {
@@ -47,7 +47,7 @@ fn next_end<'a, U: Update>(from: &Key, msg: MsgRef<'a, U>) -> Option<&'a Key>
     }
 }
 
-/// Where the stretch that begins at `from` ends: at `end` or before it.
+/// The end of the segment that begins at `from`: at `end` or before it.
 pub(crate) fn segment_end<U: Update>(
     alloc: Global,
     msgs: &[BufferedMsg<U>],
@@ -68,7 +68,7 @@ pub(crate) fn segment_end<U: Update>(
     copy_end(alloc, stop)
 }
 
-/// The key, where it lies from `from` up to and without `end`; else `end`.
+/// The key, if it is from `from` up to, but excluding, `end`; otherwise `end`.
 pub(crate) fn point_stop<'a>(
     at: Option<&'a Key>,
     from: &Key,
@@ -82,7 +82,7 @@ pub(crate) fn point_stop<'a>(
     }
 }
 
-/// The first key from `from` on that has a message for it alone, if it stands before `end`; else `end`.
+/// The first key from `from` on that has a message for it alone, if it is before `end`; otherwise `end`.
 pub(crate) fn next_point<'a, U: Update>(
     msgs: &'a [BufferedMsg<U>],
     from: &Key,

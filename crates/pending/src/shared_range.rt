@@ -1,6 +1,6 @@
 //! A range-delete, or part of one, whose ends several lists may share.
 //!
-//! Invariant: a part shares the range that came and the keys at which that was cut, and copies no key.
+//! Invariant: a part shares the original range and the keys at which it was cut, and copies no key.
 ghost use Rattle.std.specs.Prelude.{◌≡◌, Some, IfOk, IfErr, MatchResult};
 ghost use Rattle.std.specs.Arc.{arc_value};
 ghost use Rattle.std.specs.Option.{option_copied, option_map};
@@ -11,8 +11,8 @@ use std::alloc::Global;
 use std::marker::Model;
 use std::sync::Arc;
 
-/// A range of keys: one that came, or what lies of it from a key on and before another. Contracts see the range. A part takes no
-/// copy of a key: it shares the range that came, and the keys at which it was cut.
+/// A range of keys: the original one, or its part from one key on and before another. Contracts see the range. A part copies no
+/// key: it shares the original range and the keys at which it was cut.
 #[derive(Drop)]
 pub struct SharedRange {
     whole: Arc<KeyRange>,
@@ -32,7 +32,7 @@ impl Model for SharedRange {
 }
 
 impl SharedRange {
-    /// All of a range. Where memory for it is refused the range comes back.
+    /// The whole of a range. On allocation failure the range is returned as the error.
     pub(crate) fn new(alloc: Global, range: KeyRange) -> Result<SharedRange, KeyRange>
         ensures ok { IfOk result (λ p. p ≡ range) }
         ensures back { IfErr result (λ r. r ≡ range) }
@@ -47,7 +47,7 @@ impl SharedRange {
         }
     }
 
-    /// Where the range begins.
+    /// The lower bound of the range.
     pub(crate) fn lo(&self) -> &Key
         ensures { result.now ≡ self.now.lo }
     {
@@ -57,7 +57,7 @@ impl SharedRange {
         }
     }
 
-    /// Where it ends, if it does.
+    /// The upper bound of the range, if there is one.
     pub(crate) fn hi(&self) -> Option<&Key>
         ensures { option_copied result ≡ self.now.hi }
     {
@@ -77,7 +77,7 @@ impl SharedRange {
         Ok(SharedRange { whole, low, high })
     }
 
-    /// The range up to the key.
+    /// The part of the range before the key.
     pub(crate) fn truncate_to(self, end: &Arc<Key>) -> Result<SharedRange, NoMemory>
         ensures lo { IfOk result (λ p. p.lo ≡ self.lo) }
         ensures hi { IfOk result (λ p. p.hi ≡ Some end.now.value) }
@@ -87,7 +87,7 @@ impl SharedRange {
         Ok(part)
     }
 
-    /// The range from the key on.
+    /// The part of the range from the key on.
     pub(crate) fn truncate_from(self, begin: &Arc<Key>) -> Result<SharedRange, NoMemory>
         ensures lo { IfOk result (λ p. p.lo ≡ begin.now.value) }
         ensures hi { IfOk result (λ p. p.hi ≡ self.hi) }
@@ -97,8 +97,8 @@ impl SharedRange {
         Ok(part)
     }
 
-    /// The range with ends of its own: they are copied where the range was cut or other lists share it. On want of memory the part
-    /// comes back.
+    /// The range with keys of its own: they are copied if the range was cut or other lists share it. On allocation failure the
+    /// part is returned as the error.
     pub(crate) fn into_range(self, alloc: Global) -> Result<KeyRange, SharedRange>
         ensures { MatchResult result (λ r. r ≡ self) (λ p. p ≡ self) }
     {
@@ -112,7 +112,7 @@ impl SharedRange {
         }
     }
 
-    /// The range as it came, where it was not cut and no other list shares it. Else the part comes back.
+    /// The original range, if it was not cut and no other list shares it. Otherwise the part is returned as the error.
     fn into_whole(self) -> Result<KeyRange, SharedRange>
         ensures { MatchResult result (λ r. r ≡ self) (λ p. p ≡ self) }
     {
@@ -143,7 +143,7 @@ fn own_range(part: &SharedRange, alloc: Global) -> Result<KeyRange, NoMemory>
     Ok(KeyRange { lo, hi })
 }
 
-/// The same key, if there is one, for another part.
+/// Another reference to the key, if there is one, for another part.
 fn share_key(key: &Option<Arc<Key>>) -> Result<Option<Arc<Key>>, NoMemory>
     ensures { IfOk result (λ k. option_map arc_value k ≡ option_map arc_value key.now) }
 {

@@ -1,7 +1,8 @@
 //! The sorted part of a list: range-deletes by their low ends, and then point messages by their keys.
 //!
-//! Invariant: no range-delete is newer than a point message that it touches, so this order is the oldest first at every key.
-//! Of the first key some of the oldest messages may be consumed (`consumed`), never all. All are at most 2^62.
+//! Invariant: no range-delete is newer than a point message that it touches, so this order is the oldest first at every key. Of
+//! the first key some of the oldest messages may be consumed (`consumed`), but never all. There are at most 2^62 messages in
+//! all.
 ghost use Rattle.std.specs.Prelude.{◌≡◌, ◌+◌, ◌^◌, ◌<◌, ◌≤◌, ◌++◌, [], ◌∷◌, true, false, length, take, drop, Some, None, if◌then◌else◌, IfOk, IfErr, IfNone, IfSome, OnOk, OnErr, MatchOption};
 ghost use Rattle.std.specs.Option.{option_copied, option_map};
 ghost use Rattle.std.specs.List.{All, slice_get};
@@ -34,11 +35,12 @@ use std::marker::Model;
 /// The most messages of a sorted list.
 const MOST: usize = 1 << 62;
 
-/// A sorted list of messages, from whose front messages leave one by one.
+/// A sorted list of messages, which are removed one by one from the front.
 ///
-/// Contracts see the range-deletes by their low ends, and then the point messages by their keys without the `consumed` oldest of the
-/// first key. A range-delete that comes in takes away each point message that it touches, so none in the list is newer than a
-/// point message inside it. What other lists share is not taken apart: it is counted how many messages of the first key have left.
+/// Contracts see the range-deletes by their low ends, and then the point messages by their keys without the `consumed` oldest
+/// of the first key. An inserted range-delete removes each point message that it touches, so none in the list is newer than a
+/// point message inside it. Chunks that other lists share are not changed: a counter records how many messages of the first key
+/// are consumed.
 #[derive(Drop)]
 pub struct SortedMsgs<U: UpdateTarget> {
     ranges: RangeSet,
@@ -61,7 +63,7 @@ impl<U: UpdateTarget> Model for SortedMsgs<U> {
 }
 
 impl<U: Update> SortedMsgs<U> {
-    /// A list without messages. It takes no memory.
+    /// An empty list. It allocates no memory.
     pub(crate) fn new(alloc: Global) -> SortedMsgs<U>
         ensures { result ≡ [] }
     {
@@ -103,10 +105,11 @@ impl<U: Update> SortedMsgs<U> {
         }
     }
 
-    // ---- what comes in
+    // ---- insertion
 
-    /// Adds a message, newer than all others. It comes back where memory is refused, or where the list holds [`MOST`] messages.
-    /// What is left of the list then means with it what the list and it meant: a range-delete may have taken away what it touches.
+    /// Adds a message, newer than all others. On allocation failure, or if the list holds [`MOST`] messages, it is returned as
+    /// the error. The remaining list followed by the message then has the effect that it should have: a range-delete may
+    /// already have removed what it touches.
     #[inline(always)]
     pub(crate) fn push(&mut self, alloc: Global, msg: Msg<U>) -> Result<(), Msg<U>>
         ensures takes { OnOk result (Takes U.means self.old (msg ∷ []) self.new) }
@@ -124,8 +127,9 @@ impl<U: Update> SortedMsgs<U> {
         answer
     }
 
-    /// Moves the oldest messages of another list, a range-delete or those of one key and at most `most`, into their place, newer
-    /// than all that are here, and counts them. None come where [`SortedMsgs::take_range`] or [`PointOps::take_first`] takes none.
+    /// Moves the oldest messages of another list, a range-delete or those of one key and at most `most`, into this one, newer
+    /// than all that are here, and returns how many. It moves none if [`SortedMsgs::take_range`] or [`PointOps::take_first`]
+    /// moves none.
     pub(crate) fn take_first(
         &mut self,
         alloc: Global,
@@ -160,8 +164,8 @@ impl<U: Update> SortedMsgs<U> {
         Some(came)
     }
 
-    /// Moves the first range-delete of another list here, newer than all that are here, as it lies in memory. It says whether it
-    /// did: there may be none, it may hold a key that has messages here, or memory is refused.
+    /// Moves the first range-delete of another list here, newer than all that are here, without copying it, and returns whether
+    /// it did. It does not if there is none, if it covers a key that has messages here, or on allocation failure.
     fn take_range(&mut self, alloc: Global, from: &mut SortedMsgs<U>) -> bool
         requires { length self.old < 2 ^ 62 }
         ensures takes { result ≡ true → Takes U.means self.old (take 1 from.old) self.new }
@@ -183,21 +187,21 @@ impl<U: Update> SortedMsgs<U> {
         true
     }
 
-    // ---- what goes out
+    // ---- removal and copies
 
-    /// Takes the `count` oldest messages away. It takes no memory.
+    /// Removes the `count` oldest messages. It allocates no memory.
     pub(crate) fn drop_front(&mut self, count: usize)
         requires { count ≤ length self.old }
         ensures { self.new ≡ drop count self.old }
     {
-        // What `len` promises says that the sum below is a number.
+        // The postcondition of `len` shows that the sum below does not overflow.
         let _ = self.points.len();
         let first = count.min(self.ranges.len());
         self.ranges.drop_front(first);
         self.consumed = self.points.drop_oldest(self.consumed + (count - first));
     }
 
-    /// Copies of the `count` oldest messages, or of all where there are fewer.
+    /// Copies of the `count` oldest messages, or of all if there are fewer.
     pub(crate) fn copy_front(&self, alloc: Global, count: usize) -> Result<Vec<Msg<U>>, NoMemory>
         ensures { IfOk result (λ front. front.items ≡ take count self.now) }
     {
@@ -209,7 +213,7 @@ impl<U: Update> SortedMsgs<U> {
         Ok(front)
     }
 
-    /// A list of the same messages, which both then share.
+    /// A copy that shares its messages with this list.
     pub(crate) fn copy(&self) -> Result<SortedMsgs<U>, NoMemory>
         ensures { IfOk result (λ p. p ≡ self.now) }
     {
@@ -222,10 +226,10 @@ impl<U: Update> SortedMsgs<U> {
         })
     }
 
-    // ---- cuts and joins
+    // ---- splits and merges
 
-    /// Moves the messages from the pivot on out of the list. None come where that can't be: where there is a range-delete, or a
-    /// message before `lo`.
+    /// Moves the messages from the pivot on out of the list. It returns none if this is not possible: if there is a
+    /// range-delete, or a message before `lo`.
     pub(crate) fn split_off(
         &mut self,
         alloc: Global,
@@ -247,8 +251,8 @@ impl<U: Update> SortedMsgs<U> {
         }))
     }
 
-    /// The parts of the messages before the pivot, and those from it on. The messages are the same; a range-delete over the pivot
-    /// is made two.
+    /// The parts of the messages before the pivot, and those from it on. The messages are the same, but a range-delete across
+    /// the pivot is split in two.
     pub(crate) fn split_at(
         self,
         alloc: Global,
@@ -273,22 +277,22 @@ impl<U: Update> SortedMsgs<U> {
         Ok((front, back))
     }
 
-    /// Whether each message lies whole before the pivot.
+    /// Whether each message is entirely before the pivot.
     pub(crate) fn lies_before(&self, pivot: &Key) -> bool
         ensures { result ≡ true → LieIn [] (Some pivot.now) self.now }
     {
         self.ranges.end_by::<U>(pivot) && self.points.end_before(pivot)
     }
 
-    /// Whether each message lies whole from the pivot on.
+    /// Whether each message is entirely from the pivot on.
     pub(crate) fn lies_from(&self, pivot: &Key) -> bool
         ensures { result ≡ true → LieIn pivot.now None self.now }
     {
         self.ranges.begin_from::<U>(pivot) && self.points.begin_from(pivot)
     }
 
-    /// A list of the messages of both lists, where one lies before the pivot and the newer one from it on. There is none where they
-    /// are more than [`MOST`].
+    /// Merges both lists, if one is before the pivot and the newer one from it on. It returns none if there are more than
+    /// [`MOST`] messages.
     pub(crate) fn merged(
         self,
         alloc: Global,
@@ -313,9 +317,9 @@ impl<U: Update> SortedMsgs<U> {
         })
     }
 
-    // ---- what is asked
+    // ---- queries
 
-    /// The value at the key after the messages, where `old` was there.
+    /// Applies the messages to `old`, the older value at the key, and returns the resulting value.
     pub(crate) fn value_after(
         &self,
         alloc: Global,
@@ -332,7 +336,7 @@ impl<U: Update> SortedMsgs<U> {
         }
     }
 
-    /// What the list says of the value at the key. It copies nothing but a value that it settles.
+    /// What the list says of the value at the key. It copies only a value that it determines.
     pub(crate) fn resolve(&self, alloc: Global, key: &Key) -> Result<Resolution<U::Value>, NoMemory>
         ensures { IfOk result (IsResolved U.means self.now key.now) }
     {
@@ -348,7 +352,7 @@ impl<U: Update> SortedMsgs<U> {
         }
     }
 
-    /// Where the stretch of keys that begins at `from` ends, at `end` or before it; none where a message is for `from` alone.
+    /// The end of the segment of keys that begins at `from`, at `end` or before it; none if a message is for `from` alone.
     pub(crate) fn segment_end<'a>(
         &'a self,
         from: &Key,
@@ -366,7 +370,7 @@ impl<U: Update> SortedMsgs<U> {
         Some(earlier(stop, next))
     }
 
-    /// The first key from `from` on that has a message for it alone, if it stands before `end`; else `end`.
+    /// The first key from `from` on that has a message for it alone, if it is before `end`; otherwise `end`.
     pub(crate) fn next_point<'a>(&'a self, from: &'a Key, end: Option<&'a Key>) -> Option<&'a Key>
         ensures { IsPointStop self.now from.now (option_copied end.entry) (option_copied result) }
     {
@@ -374,7 +378,7 @@ impl<U: Update> SortedMsgs<U> {
         point_stop(self.points.first_from(from), from, end)
     }
 
-    /// The entries from the key on, where no message of the first key is gone.
+    /// The entries from the key on, if no message of the first key is consumed.
     pub(crate) fn walk_from(&self, from: &Key) -> Option<Cursor<'_, KeyOps<U>>>
         ensures { IfSome result (λ rest. AreFrom self.now from.now rest) }
     {
@@ -385,14 +389,14 @@ impl<U: Update> SortedMsgs<U> {
         Some(self.points.walk_from(from))
     }
 
-    /// Whether a range-delete holds the key.
+    /// Whether a range-delete covers the key.
     pub(crate) fn is_range_deleted(&self, key: &Key) -> bool
         ensures { result ≡ is_cleared self.now key.now }
     {
         self.ranges.is_covered(key)
     }
 
-    /// Up to where the range-deletes hold all keys from `from` on, or none: at `end` or before it.
+    /// The key up to which the range-deletes cover either all keys from `from` on or none of them: at `end` or before it.
     pub(crate) fn range_deleted_until<'a>(
         &'a self,
         from: &Key,
@@ -405,7 +409,7 @@ impl<U: Update> SortedMsgs<U> {
     }
 }
 
-/// Takes the messages of the first key away that are gone. On want of memory all is as it was.
+/// Removes the consumed messages of the first key from storage. On allocation failure everything is unchanged.
 fn make_whole<U: Update>(
     points: &mut PointOps<U>,
     alloc: Global,
@@ -424,7 +428,7 @@ fn make_whole<U: Update>(
     Ok(())
 }
 
-/// The messages without those of the first key that are gone.
+/// The messages without the consumed ones of the first key.
 fn whole<U: Update>(
     points: PointOps<U>,
     alloc: Global,
@@ -441,7 +445,7 @@ fn whole<U: Update>(
     Ok(points)
 }
 
-/// How many of the oldest messages at a key are gone: of the first key alone some may be.
+/// How many of the oldest messages at a key are consumed: only the first key may have consumed messages.
 fn consumed_at<U: Update>(points: &PointOps<U>, consumed: usize, key: &Key) -> usize
     requires { IsLeft consumed points.now }
     ensures left { at_key key.now (left consumed points.now) ≡ option_map (λ cs. drop result cs) (at_key key.now points.now) }
@@ -457,7 +461,7 @@ fn consumed_at<U: Update>(points: &PointOps<U>, consumed: usize, key: &Key) -> u
     }
 }
 
-/// Whether there is a key and it is this one.
+/// Whether there is a key in `at` and it is this one.
 fn is_key(at: Option<&Key>, key: &Key) -> bool
     ensures { result ≡ is_key (option_copied at.entry) key.now }
 {
@@ -467,14 +471,14 @@ fn is_key(at: Option<&Key>, key: &Key) -> bool
     }
 }
 
-/// The value, unless it is gone.
+/// The value, or none if `is_gone`.
 pub(crate) fn unless<V: Drop>(is_gone: bool, old: Option<V>) -> Option<V>
     ensures { result ≡ (if is_gone then None else old) }
 {
     if is_gone { None } else { old }
 }
 
-/// What is told of a key that no point message touches.
+/// The resolution of a key that no point message touches.
 fn untouched<V>(is_covered: bool) -> Resolution<V>
     ensures { result ≡ (if is_covered then resolution.Value None else resolution.Untouched) }
 {

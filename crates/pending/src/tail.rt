@@ -1,7 +1,7 @@
-//! The tail of a list: messages as they came, the oldest first, which leave at the front.
+//! The tail of a list: messages in the order of their arrival, the oldest first, which are removed from the front.
 //!
-//! Invariant: the order is that in which they came, and reserved room stays until it is used. A queue holds them, so that the
-//! oldest leaves without moving the others. Several tails may share a message.
+//! Invariant: the order is that of arrival, and reserved capacity stays until it is used. The messages are in a queue, so that
+//! the oldest can be removed without moving the others. Several tails may share a message.
 ghost use Rattle.std.specs.Prelude.{◌≡◌, ◌+◌, ◌^◌, ◌≤◌, ◌<◌, ◌++◌, [], ◌∷◌, true, length, take, drop, Some, None, IfOk, IfNone, IfSome, OnOk, OnErr};
 ghost use Rattle.std.specs.Option.{option_copied, option_map, option_to_list};
 ghost use Rattle.std.specs.List.{slice_get};
@@ -25,7 +25,7 @@ use std::collections::VecDeque;
 use std::marker::Model;
 use std::sync::Arc;
 
-/// Messages as they came, and room for more.
+/// Messages in the order of their arrival, and capacity for more.
 #[derive(Drop)]
 pub struct Tail<U: UpdateTarget> {
     msgs: VecDeque<BufferedMsg<U>>,
@@ -42,7 +42,7 @@ impl<U: UpdateTarget> Model for Tail<U> {
 }
 
 impl<U: Update> Tail<U> {
-    /// A tail without messages. It takes no memory.
+    /// An empty tail. It allocates no memory.
     pub(crate) fn new(alloc: Global) -> Tail<U>
         ensures { result.0 ≡ [] }
     {
@@ -51,12 +51,12 @@ impl<U: Update> Tail<U> {
         }
     }
 
-    /// The allocator of its room.
+    /// The allocator of its buffer.
     pub(crate) fn allocator(&self) -> Global {
         *self.msgs.allocator()
     }
 
-    /// How many messages it holds.
+    /// The number of messages.
     #[inline(always)]
     pub(crate) fn len(&self) -> usize
         ensures len { result ≡ length self.now.0 }
@@ -65,7 +65,7 @@ impl<U: Update> Tail<U> {
         self.msgs.len()
     }
 
-    /// Makes room for so many messages more, where memory is not refused.
+    /// Reserves capacity for `more` more messages; fails on allocation failure.
     pub(crate) fn reserve(&mut self, more: usize) -> Result<(), NoMemory>
         ensures messages { self.new.0 ≡ self.old.0 }
         ensures kept { self.old.1 ≤ self.new.1 }
@@ -76,7 +76,7 @@ impl<U: Update> Tail<U> {
         Ok(())
     }
 
-    /// Puts a message behind the others into reserved room.
+    /// Appends a message within the reserved capacity.
     pub(crate) fn push_reserved(&mut self, msg: Msg<U>)
         requires { 0 < self.old.1 }
         ensures messages { self.new.0 ≡ self.old.0 ++ msg ∷ [] }
@@ -85,7 +85,7 @@ impl<U: Update> Tail<U> {
         self.push_waiting(BufferedMsg::new(self.allocator(), msg));
     }
 
-    /// Puts a message as it lies in memory behind the others into reserved room.
+    /// Appends a stored message, without copying it, within the reserved capacity.
     fn push_waiting(&mut self, waiting: BufferedMsg<U>)
         requires { 0 < self.old.1 }
         ensures messages { self.new.0 ≡ self.old.0 ++ waiting ∷ [] }
@@ -94,7 +94,7 @@ impl<U: Update> Tail<U> {
         self.msgs.push_back_reserved(waiting);
     }
 
-    /// Puts a message before the others into reserved room.
+    /// Prepends a message within the reserved capacity.
     pub(crate) fn push_front_reserved(&mut self, msg: Msg<U>)
         requires { 0 < self.old.1 }
         ensures messages { self.new.0 ≡ msg ∷ self.old.0 }
@@ -104,7 +104,7 @@ impl<U: Update> Tail<U> {
         self.msgs.push_front_reserved(waiting);
     }
 
-    /// Puts all messages of `newer` behind the others into reserved room.
+    /// Appends all messages of `newer` within the reserved capacity.
     pub(crate) fn append(&mut self, newer: &mut Vec<Msg<U>>)
         requires { length newer.old.items ≤ self.old.1 }
         ensures messages { self.new.0 ≡ self.old.0 ++ newer.old.items }
@@ -118,7 +118,7 @@ impl<U: Update> Tail<U> {
         }
     }
 
-    /// Takes the oldest message out as it lies in memory.
+    /// Removes the oldest message and returns it as it is stored.
     fn take(&mut self) -> Option<BufferedMsg<U>>
         ensures moved { self.old.0 ≡ option_to_list result ++ self.new.0 }
         ensures end { IfNone result (self.old.0 ≡ []) }
@@ -128,8 +128,8 @@ impl<U: Update> Tail<U> {
         self.msgs.pop_front()
     }
 
-    /// Takes the oldest message out. None comes where there is none, and where other lists share it and memory for a copy is
-    /// refused.
+    /// Removes the oldest message and returns it. It returns none if the tail is empty, or if other lists share the message and
+    /// copying it fails to allocate.
     pub(crate) fn pop(&mut self) -> Option<Msg<U>>
         ensures moved { self.old.0 ≡ option_to_list result ++ self.new.0 }
         ensures room { self.old.1 ≤ self.new.1 }
@@ -145,7 +145,7 @@ impl<U: Update> Tail<U> {
         }
     }
 
-    /// Takes the `count` oldest messages away.
+    /// Removes the `count` oldest messages.
     pub(crate) fn drop_oldest(&mut self, count: usize)
         requires { count ≤ length self.old.0 }
         ensures messages { self.new.0 ≡ drop count self.old.0 }
@@ -177,7 +177,7 @@ impl<U: Update> Tail<U> {
         ranges_in(&near[first..]) + ranges_in(&far[consumed - first..])
     }
 
-    /// Puts copies of the `count` oldest messages behind those in `front`.
+    /// Appends copies of the `count` oldest messages to `front`.
     pub(crate) fn copy_oldest(
         &self,
         alloc: Global,
@@ -194,7 +194,7 @@ impl<U: Update> Tail<U> {
         Ok(())
     }
 
-    /// A tail of the same messages, which both share.
+    /// A copy that shares its messages with this tail.
     pub(crate) fn copy(&self, alloc: Global) -> Result<Tail<U>, NoMemory>
         ensures { IfOk result (λ t. t.0 ≡ self.now.0) }
     {
@@ -233,7 +233,7 @@ impl<U: Update> Tail<U> {
         }
     }
 
-    /// Moves the messages of a newer tail behind these. On want of memory both stay.
+    /// Moves the messages of a newer tail to the end of this one. On allocation failure both are unchanged.
     pub(crate) fn join(&mut self, newer: &mut Tail<U>) -> Result<(), NoMemory>
         ensures ok { OnOk result (self.new.0 ≡ self.old.0 ++ newer.old.0) }
         ensures moved { OnOk result (newer.new.0 ≡ []) }
@@ -246,7 +246,7 @@ impl<U: Update> Tail<U> {
         Ok(())
     }
 
-    /// Whether each message lies whole before the pivot.
+    /// Whether each message is entirely before the pivot.
     pub(crate) fn lies_before(&self, alloc: Global, pivot: &Key) -> bool
         ensures { result ≡ true → LieIn [] (Some pivot.now) self.now.0 }
     {
@@ -255,7 +255,7 @@ impl<U: Update> Tail<U> {
         lie_in(near, &first, Some(pivot)) && lie_in(far, &first, Some(pivot))
     }
 
-    /// Whether each message lies whole from the pivot on.
+    /// Whether each message is entirely from the pivot on.
     pub(crate) fn lies_from(&self, pivot: &Key) -> bool
         ensures { result ≡ true → LieIn pivot.now None self.now.0 }
     {
@@ -271,7 +271,7 @@ impl<U: Update> Tail<U> {
         is_touched(near, key) || is_touched(far, key)
     }
 
-    /// The value at `key` after the messages, where `old` was there.
+    /// Applies the messages to `old`, the older value at `key`, and returns the resulting value.
     pub(crate) fn apply_msgs(
         &self,
         alloc: Global,
@@ -285,7 +285,7 @@ impl<U: Update> Tail<U> {
         apply_msgs(alloc, far, key, value)
     }
 
-    /// Where the stretch that begins at `from` ends: at `end` or before it.
+    /// The end of the segment that begins at `from`: at `end` or before it.
     pub(crate) fn stretch_stop(
         &self,
         alloc: Global,
@@ -300,7 +300,7 @@ impl<U: Update> Tail<U> {
         segment_end(alloc, far, from, stop.as_ref())
     }
 
-    /// The first key from `from` on that has a message for it alone, if it stands before `end`; else `end`.
+    /// The first key from `from` on that has a message for it alone, if it is before `end`; otherwise `end`.
     pub(crate) fn next_point<'a>(&'a self, from: &Key, end: Option<&'a Key>) -> Option<&'a Key>
         ensures { IsPointStop self.now.0 from.now (option_copied end.entry) (option_copied result) }
     {
@@ -309,7 +309,7 @@ impl<U: Update> Tail<U> {
         next_point(far, from, stop)
     }
 
-    /// Whether a range-delete holds the key.
+    /// Whether a range-delete covers the key.
     pub(crate) fn is_range_deleted(&self, key: &Key) -> bool
         ensures { result ≡ is_cleared self.now.0 key.now }
     {
@@ -318,7 +318,7 @@ impl<U: Update> Tail<U> {
     }
 }
 
-/// Puts a message behind others, if there is one.
+/// Appends a message to others, if there is one.
 fn push_some<U: Update>(
     msgs: &mut Vec<BufferedMsg<U>>,
     msg: Option<BufferedMsg<U>>,

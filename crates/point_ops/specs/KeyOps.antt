@@ -1,4 +1,4 @@
--- What waits at one key, where it lies.
+-- The pending operations of one key, as they are stored.
 use Rattle.std.specs.Prelude.{◌≡◌, ◌≤◌, ◌<◌, ◌+◌, ℕ, List, [], ◌∷◌, length, map, Option, Result, OnOk, OnErr, IfOk, IfErr}
 use Rattle.std.specs.List.{fold}
 use Rattle.message.specs.declared.resolution.Resolution.{Resolution}
@@ -16,7 +16,7 @@ module _ {U V : Type 0} where
   changes_in (waits.Edit u) = Edit u ∷ []
   changes_in (waits.Edits us) = map Edit us.items
 
-  -- the change that is lent
+  -- the borrowed operation
   abbrev pub borrowed_change : KeyOpRef U V → KeyOp U V
   borrowed_change (op_at.Put v) = Put v.now
   borrowed_change op_at.Del = Del
@@ -27,8 +27,8 @@ module _ {U V : Type 0} where
     abbrev pub edits_effect : List U → Option V → Option V
     edits_effect us o = fold (λ w u. means u w) o us
 
-    -- an update was laid over the changes cs, which gave ds; r is how many they were and are, or the update where memory was
-    -- refused
+    -- an update was appended to the operations cs, which gave ds; r is how many there were and are, or the update on allocation
+    -- failure
     pub record IsInserted (u : U) (cs ds : List (KeyOp U V)) (r : Result (ℕ × ℕ) U) : Type 0 where
       pub meaning : OnOk r ((o : Option V) → run_effect means ds o ≡ means u (run_effect means cs o))
       pub counted : IfOk r (λ n. (n.0 ≡ length cs) × (n.1 ≡ length ds))

@@ -1,4 +1,4 @@
--- What waits at single keys, by the keys.
+-- The pending operations at single keys, by key.
 use Rattle.std.specs.Prelude.{◌≡◌, ℕ, ◌+◌, ◌^◌, ◌<◌, ◌≤◌, Bool, false, if◌then◌else◌, List, [], ◌∷◌, ◌++◌, length, drop, Option, Some, None}
 use Rattle.std.specs.List.{sum_by, All}
 use Rattle.std.specs.BTreeMap.{insert_entry}
@@ -8,7 +8,7 @@ use Rattle.cow_map.specs.Places.{at_key, reaches}
 use Rattle.point_ops.specs.Changes.{KeyOp, run_msgs, run_effect}
 
 module _ {U V : Type 0} where
-  -- the messages that wait at keys
+  -- the pending messages at the keys
   abbrev pub point_msgs : List (List ℕ × List (KeyOp U V)) → List (Msg U V)
   point_msgs [] = []
   point_msgs (e ∷ es) = run_msgs e.0 e.1 ++ point_msgs es
@@ -17,28 +17,28 @@ module _ {U V : Type 0} where
   abbrev pub point_count : List (List ℕ × List (KeyOp U V)) → ℕ
   point_count es = sum_by (λ e. length e.1) es
 
-  -- a change waits at each key
+  -- each key has a pending operation
   abbrev pub AreRuns : List (List ℕ × List (KeyOp U V)) → Type 0
   AreRuns es = All (λ e. 0 < length e.1) es
 
-  -- the entries without so many of the oldest changes at the first key
+  -- the entries without the given number of oldest operations of the first key
   abbrev pub left : ℕ → List (List ℕ × List (KeyOp U V)) → List (List ℕ × List (KeyOp U V))
   left n [] = []
   left n (e ∷ es) = (e.0, drop n e.1) ∷ es
 
-  -- there are more than so many
+  -- n is less than the number of operations of the first key, or 0 if there are no entries
   abbrev pub IsLeft : ℕ → List (List ℕ × List (KeyOp U V)) → Type 0
   IsLeft n [] = n ≡ 0
   IsLeft n (e ∷ es) = n < length e.1
 
-  -- what holds of a list with so many messages
+  -- the invariant of a list with `count` messages
   pub record ArePoints (es : List (List ℕ × List (KeyOp U V))) (count : ℕ) : Type 0 where
     pub runs : AreRuns es
     pub counted : count ≡ point_count es
     pub small : count ≤ 2 ^ 62
 
   module _ (means : U → Option V → Option V) where
-    -- the value after the changes, where there are any
+    -- the value after the operations, if there are any
     abbrev pub found_effect : Option (List (KeyOp U V)) → Option V → Option V
     found_effect None o = o
     found_effect (Some cs) o = run_effect means cs o
@@ -48,12 +48,12 @@ module _ {U V : Type 0} where
       pub meaning : (q : List ℕ) (o : Option V) → found_effect (at_key q fs) o ≡ (if same k q then f (found_effect (at_key q es) o) else found_effect (at_key q es) o)
       pub touched : (q : List ℕ) → same k q ≡ false → at_key q es ≡ None → at_key q fs ≡ None
 
-    -- the changes may come in the place of these, where there are any: they do not ask for them
+    -- the operations may replace these, if there are any: they do not depend on them
     abbrev pub IsFree : List (KeyOp U V) → Option (List (KeyOp U V)) → Type 0
     IsFree cs found = (o : Option V) → run_effect means cs (found_effect found o) ≡ run_effect means cs o
 
-    -- the changes of the first key, which are `came` and at most `most`, have left a list and stand in another in the place of
-    -- others that they do not ask for
+    -- the operations of the first key, which are `came` and at most `most`, were moved out of a list into another, where they
+    -- replaced others that they do not depend on
     pub record TakesFirst (came most : ℕ) (from old rest new : List (List ℕ × List (KeyOp U V))) : Type 0 where
       pub key : List ℕ
       pub run : List (KeyOp U V)
@@ -65,7 +65,7 @@ module _ {U V : Type 0} where
       pub inserts : Inserts key (run_effect means run) old new
       pub bound : point_count new ≤ point_count old + came
 
-    -- the others are `consumed`
+    -- `consumed` operations were replaced
     pub record IsMoved (came consumed most : ℕ) (from old rest new : List (List ℕ × List (KeyOp U V))) : Type 0 where
       pub takes : TakesFirst came most from old rest new
       pub counted : point_count new + consumed ≡ point_count old + came
@@ -75,6 +75,6 @@ abbrev pub first_where : {X : Type 0} → (List ℕ → Bool) → List (List ℕ
 first_where p [] = None
 first_where p (e ∷ es) = if p e.0 then Some e.0 else first_where p es
 
--- the first key at this one or behind it
+-- the first key at or after this one
 abbrev pub first_from : {X : Type 0} → List ℕ → List (List ℕ × X) → Option (List ℕ)
 first_from k es = first_where (reaches k) es

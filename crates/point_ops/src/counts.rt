@@ -1,4 +1,4 @@
-//! Walks through the map, key by key, that count or copy messages.
+//! Passes over the map, key by key, that count or copy messages.
 //!
 //! Invariant: the oldest messages come first, and only those of the first key may be consumed in part.
 ghost use Rattle.std.specs.Prelude.{◌≡◌, ◌+◌, ◌<◌, ◌≤◌, ◌^◌, ◌++◌, length, take, drop, OnOk};
@@ -23,7 +23,8 @@ pub(crate) fn count_of<U: Update>(rows: &CowMap<KeyOps<U>>) -> usize
     count
 }
 
-/// How many of the first keys have only messages among the `count` oldest, and how many of these are then left.
+/// How many of the first keys have all their messages among the `count` oldest, and how many of these `count` belong to the
+/// next key.
 pub(crate) fn whole_keys<U: Update>(rows: &CowMap<KeyOps<U>>, count: usize) -> (usize, usize)
     requires { count ≤ point_count rows.now }
     ensures keys { result.0 ≤ length rows.now }
@@ -44,7 +45,7 @@ pub(crate) fn whole_keys<U: Update>(rows: &CowMap<KeyOps<U>>, count: usize) -> (
     (keys, left)
 }
 
-/// Copies of the messages but the `consumed` oldest of the first key, put behind those in `front`, until it has so many.
+/// Appends copies of the messages, without the `consumed` oldest of the first key, to `front` until it holds `count` messages.
 pub(crate) fn copy_msgs<U: Update>(
     rows: &CowMap<KeyOps<U>>,
     alloc: Global,

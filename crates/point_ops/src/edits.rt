@@ -1,4 +1,4 @@
-//! Updates of one key that did not join, the oldest first: what they make of a value, and one more behind them.
+//! Updates of one key that could not be joined, the oldest first: applying them to a value, and appending another.
 //!
 //! Invariant: an allocation failure leaves the updates as they were, and returns the one that was to be added.
 ghost use Rattle.std.specs.Prelude.{◌≡◌, ◌+◌, ◌<◌, ◌≤◌, ◌++◌, ◌∷◌, [], Option, length, drop, take, map, OnOk, OnErr, IfOk, IfErr, vec_capacity};
@@ -10,7 +10,7 @@ use message::{Msg, Update};
 use pathkey::{Key, NoMemory};
 use std::alloc::Global;
 
-/// The value after the updates, where `old` was there.
+/// Applies the updates to `old`, and returns the resulting value.
 pub(crate) fn apply_all<U: Update>(
     alloc: Global,
     updates: &[U],
@@ -25,7 +25,7 @@ pub(crate) fn apply_all<U: Update>(
     Ok(value)
 }
 
-/// The updates from this number on.
+/// The updates without the `older` oldest.
 pub(crate) fn later<U: Update>(updates: &[U], older: usize) -> &[U]
     requires { older ≤ length updates.now }
     ensures { result.now ≡ drop older updates.now }
@@ -50,7 +50,7 @@ pub(crate) fn msg_of<U: Update>(alloc: Global, key: &Key, update: &U) -> Result<
     Ok(Msg::Edit(key, update.copy(alloc)?))
 }
 
-/// Copies of the updates as messages at the key, put behind those in `front`, until it has so many.
+/// Appends copies of the updates, as messages at the key, to `front` until it holds `count` messages.
 pub(crate) fn copy_msgs<U: Update>(
     alloc: Global,
     key: &Key,
@@ -69,7 +69,7 @@ pub(crate) fn copy_msgs<U: Update>(
     Ok(())
 }
 
-/// Equal updates.
+/// Copies the updates.
 pub(crate) fn copy_all<U: Update>(alloc: Global, updates: &[U]) -> Result<Vec<U>, NoMemory>
     ensures { IfOk result (λ copy. copy.items ≡ updates.now) }
 {
@@ -80,8 +80,8 @@ pub(crate) fn copy_all<U: Update>(alloc: Global, updates: &[U]) -> Result<Vec<U>
     Ok(copy)
 }
 
-/// Adds an update, which is joined to the one before it where that can be. On want of memory it comes back, and the updates are
-/// as they were.
+/// Appends an update, joined to the newest one if possible. On allocation failure the update is returned as the error, and the
+/// updates are unchanged.
 pub(crate) fn push<U: Update>(updates: &mut Vec<U>, alloc: Global, later: U) -> Result<(), U>
     ensures meaning { OnOk result ((o : Option U.Value) → edits_effect U.means updates.new.items o ≡ U.means later (edits_effect U.means updates.old.items o)) }
     ensures bound { length updates.new.items ≤ length updates.old.items + 1 }
@@ -99,7 +99,7 @@ pub(crate) fn push<U: Update>(updates: &mut Vec<U>, alloc: Global, later: U) -> 
     }
 }
 
-/// Takes the first updates out.
+/// Removes the `count` oldest updates.
 pub(crate) fn drop_first<U: Update>(updates: &mut Vec<U>, count: usize)
     requires { count ≤ length updates.old.items }
     ensures { updates.new.items ≡ drop count updates.old.items }
@@ -107,7 +107,7 @@ pub(crate) fn drop_first<U: Update>(updates: &mut Vec<U>, count: usize)
     updates.drain(..count);
 }
 
-/// Makes one of the newest update and `later`, where that can be.
+/// Joins `later` to the newest update if possible, and returns whether it did.
 fn join_in_place<U: Update>(updates: &mut Vec<U>, alloc: Global, later: &U) -> bool
     ensures meaning { OnTrue result ((o : Option U.Value) → edits_effect U.means updates.new.items o ≡ U.means later.now (edits_effect U.means updates.old.items o)) }
     ensures len { length updates.new.items ≡ length updates.old.items }
@@ -122,7 +122,7 @@ fn join_in_place<U: Update>(updates: &mut Vec<U>, alloc: Global, later: &U) -> b
     updates[count - 1].join_in_place(alloc, later)
 }
 
-/// Makes one of the two newest updates, where that can be.
+/// Joins the two newest updates if possible, and returns whether it did.
 fn join_last<U: Update>(updates: &mut Vec<U>, alloc: Global) -> bool
     ensures meaning { (o : Option U.Value) → edits_effect U.means updates.new.items o ≡ edits_effect U.means updates.old.items o }
     ensures shorter { OnTrue result (length updates.new.items < length updates.old.items) }

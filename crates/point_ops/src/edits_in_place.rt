@@ -1,7 +1,7 @@
-//! Changes of the operations of a key in their chunk, as `cow_map` makes them.
+//! In-place edits of the operations of one key, which `cow_map` runs within their chunk.
 //!
-//! Invariant: each leaves at least one operation. Where an update finds no memory it comes back, and the operations are as they
-//! were.
+//! Invariant: each leaves at least one operation. On allocation failure the update is returned, and the operations are
+//! unchanged.
 ghost use Rattle.std.specs.Prelude.{◌≡◌, ◌<◌, drop, length};
 ghost use Rattle.point_ops.specs.KeyOps.{IsInserted};
 
@@ -10,7 +10,8 @@ use cow_map::Edit;
 use message::Update;
 use std::alloc::Global;
 
-/// An update is laid over the changes. It answers how many they were and are, or the update where memory was refused.
+/// Appends an update to the operations. The answer is how many there were and how many there are now, or the update on
+/// allocation failure.
 #[derive(Drop)]
 pub(crate) struct PushOp<U> {
     pub(crate) alloc: Global,
@@ -27,7 +28,7 @@ impl<U: Update> Edit<KeyOps<U>> for PushOp<U> {
     }
 }
 
-/// The oldest changes leave, so many of more.
+/// Removes the `consumed` oldest operations of a key that has more.
 #[derive(Drop)]
 pub(crate) struct DropOldestOps {
     pub(crate) consumed: usize,

@@ -1,16 +1,16 @@
 //! One operation of a key, borrowed.
 //!
-//! Invariant: it has no key of its own; the entry in which it lies has the key.
+//! Invariant: it does not hold a key; the key is that of the entry in which the operation is stored.
 
 use message::UpdateTarget;
 
-/// A change of one value, where it lies.
+/// A borrowed operation on one value.
 #[derive(Drop)]
 pub enum KeyOpRef<'a, U: UpdateTarget> {
-    /// The key gets the value.
+    /// Sets the key's value.
     Put(&'a U::Value),
-    /// The key has no value any more.
+    /// Removes the key's value.
     Del,
-    /// The key's value, or its absence, is changed by the update.
+    /// Applies the update to the key's value, or to its absence.
     Edit(&'a U),
 }

@@ -1,6 +1,6 @@
 //! The operations of one key, the oldest first.
 //!
-//! Invariant: there is at least one. A put or a delete has no older and no newer one beside it.
+//! Invariant: there is at least one. A put or a delete is the only operation of its key.
 ghost use Rattle.std.specs.Prelude.{true, false, ◌≡◌, ◌+◌, ◌-◌, ◌<◌, ◌≤◌, [], ◌∷◌, ◌++◌, Option, None, Some, if◌then◌else◌, length, take, drop, OnOk, OnErr, IfOk, IfErr};
 ghost use Rattle.std.specs.List.{slice_get};
 ghost use Rattle.point_ops.specs.Changes.{Put, Del, Edit, is_whole, run_effect, run_msgs};
@@ -15,7 +15,7 @@ use pathkey::{Key, NoMemory};
 use std::alloc::Global;
 use std::marker::Model;
 
-/// The changes that wait at one key. Contracts see them as a list, the oldest first.
+/// The pending operations of one key. Contracts see them as a list, the oldest first.
 #[derive(Drop)]
 pub struct KeyOps<U: UpdateTarget> {
     waits: KeyOpsRepr<U>,
@@ -69,7 +69,7 @@ impl<U: Update> KeyOps<U> {
         }
     }
 
-    /// How many changes they are.
+    /// The number of operations.
     pub fn len(&self) -> usize
         ensures len { result ≡ length self.now }
         ensures some { 0 < result }
@@ -80,7 +80,7 @@ impl<U: Update> KeyOps<U> {
         }
     }
 
-    /// Whether it is one change that does not ask what was there.
+    /// Whether it is a single operation that does not depend on the old value.
     pub fn is_whole(&self) -> bool
         ensures whole { result ≡ is_whole self.now }
         ensures alone { result ≡ true → length self.now ≡ 1 }
@@ -91,7 +91,7 @@ impl<U: Update> KeyOps<U> {
         }
     }
 
-    /// The change that has so many older ones.
+    /// The operation with `older` operations before it.
     pub fn op_at(&self, older: usize) -> KeyOpRef<'_, U>
         requires { older < length self.now }
         ensures { Some (borrowed_change result) ≡ slice_get self.now older }
@@ -104,7 +104,7 @@ impl<U: Update> KeyOps<U> {
         }
     }
 
-    /// The value after the changes but the `consumed` oldest, where `old` was there.
+    /// Applies the operations, without the `consumed` oldest, to `old`, and returns the resulting value.
     pub fn apply(
         &self,
         alloc: Global,
@@ -122,8 +122,8 @@ impl<U: Update> KeyOps<U> {
         }
     }
 
-    /// What the changes but the `consumed` oldest tell of the value at their key, where a range-delete before them holds the key or
-    /// does not.
+    /// What the operations, without the `consumed` oldest, say of the value at their key, given whether an older range-delete
+    /// covers the key.
     pub fn resolve(
         &self,
         alloc: Global,
@@ -146,7 +146,8 @@ impl<U: Update> KeyOps<U> {
         }
     }
 
-    /// Copies of the changes but the `consumed` oldest, as messages at the key, put behind those in `front`, until it has so many.
+    /// Appends copies of the operations, without the `consumed` oldest, as messages at the key, to `front` until it holds
+    /// `count` messages.
     pub fn copy_into(
         &self,
         alloc: Global,
@@ -172,7 +173,8 @@ impl<U: Update> KeyOps<U> {
         Ok(())
     }
 
-    /// Lays an update over the changes, and answers how many they were and are. On want of memory it comes back.
+    /// Appends an update to the operations, and returns how many there were and how many there are now. On allocation failure
+    /// the update is returned as the error.
     pub(crate) fn edit(&mut self, alloc: Global, update: U) -> Result<(usize, usize), U>
         ensures { IsInserted U.means update self.old self.new result }
     {
@@ -186,7 +188,7 @@ impl<U: Update> KeyOps<U> {
         }
     }
 
-    /// Takes the `consumed` oldest changes away, or all but the newest where they are no more.
+    /// Removes the `consumed` oldest operations. If there are no more than that, it keeps the newest.
     pub(crate) fn drop_oldest(&mut self, consumed: usize)
         ensures dropped { consumed < length self.old → self.new ≡ drop consumed self.old }
     {
@@ -204,7 +206,7 @@ impl<U: Update> KeyOps<U> {
         }
     }
 
-    /// The update of a lone update.
+    /// The update that is the only operation.
     pub(crate) fn into_update(self) -> U
         requires { (u : U) × (self ≡ Edit u ∷ []) }
         ensures { self ≡ Edit result ∷ [] }

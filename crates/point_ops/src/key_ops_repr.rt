@@ -1,7 +1,7 @@
-//! How the operations of one key lie in memory.
+//! The in-memory representation of the operations of one key.
 //!
-//! Invariant: a put, a delete and a lone update take no allocation of their own; only updates that did not join are in a vector,
-//! which holds at least one.
+//! Invariant: a put, a delete and a single update need no allocation of their own. Only updates that could not be joined are in
+//! a vector, and it holds at least one.
 ghost use Rattle.std.specs.Prelude.{◌≡◌, ◌∷◌, [], ◌+◌, ◌<◌, ◌≤◌, Option, None, Some, drop, length, OnOk, OnErr, IfOk, IfErr};
 ghost use Rattle.point_ops.specs.Changes.{Put, Del, Edit, run_effect};
 ghost use Rattle.point_ops.specs.KeyOps.{changes_in, edits_effect};
@@ -11,21 +11,21 @@ use message::{Update, UpdateTarget};
 use pathkey::NoMemory;
 use std::alloc::Global;
 
-/// The changes that wait at one key: one, or updates that do not join.
+/// The pending operations of one key: a single one, or updates that could not be joined.
 #[derive(Drop)]
 pub enum KeyOpsRepr<U: UpdateTarget> {
-    /// The key gets the value.
+    /// Sets the key's value.
     Put(U::Value),
-    /// The key has no value any more.
+    /// Removes the key's value.
     Del,
-    /// The key's value, or its absence, is changed by the update.
+    /// Applies the update to the key's value, or to its absence.
     Edit(U),
-    /// It is changed by one update after the other.
+    /// Applies the updates one after another, the oldest first.
     Edits(Vec<U>),
 }
 
 impl<U: Update> KeyOpsRepr<U> {
-    /// What leaves this value.
+    /// The operation that gives the key this value, or removes its value if there is none.
     fn of_value(value: Option<U::Value>) -> KeyOpsRepr<U>
         ensures meaning { (o : Option U.Value) → run_effect U.means (changes_in result) o ≡ value }
         ensures len { length (changes_in result) ≡ 1 }
@@ -36,7 +36,7 @@ impl<U: Update> KeyOpsRepr<U> {
         }
     }
 
-    /// The same with an update laid over it. On want of memory the update comes back.
+    /// Appends an update to the operations. On allocation failure they are unchanged, and the update is returned as the error.
     pub(crate) fn edited(self, alloc: Global, later: U) -> (KeyOpsRepr<U>, Result<(), U>)
         requires { 0 < length (changes_in self) }
         ensures meaning { OnOk result.1 ((o : Option U.Value) → run_effect U.means (changes_in result.0) o ≡ U.means later (run_effect U.means (changes_in self) o)) }
@@ -53,7 +53,7 @@ impl<U: Update> KeyOpsRepr<U> {
         }
     }
 
-    /// The value with an update laid over it in its place.
+    /// A put followed by an update, which is applied to the value in place.
     fn edited_put(alloc: Global, value: U::Value, later: U) -> (KeyOpsRepr<U>, Result<(), U>)
         ensures meaning { OnOk result.1 ((o : Option U.Value) → run_effect U.means (changes_in result.0) o ≡ U.means later (Some value)) }
         ensures len { length (changes_in result.0) ≡ 1 }
@@ -68,7 +68,7 @@ impl<U: Update> KeyOpsRepr<U> {
         }
     }
 
-    /// What an update makes where there is no value.
+    /// A delete followed by an update, which is applied to no value.
     fn edited_del(alloc: Global, later: U) -> (KeyOpsRepr<U>, Result<(), U>)
         ensures meaning { OnOk result.1 ((o : Option U.Value) → run_effect U.means (changes_in result.0) o ≡ U.means later None) }
         ensures len { length (changes_in result.0) ≡ 1 }
@@ -82,7 +82,7 @@ impl<U: Update> KeyOpsRepr<U> {
         }
     }
 
-    /// One update of two where they join, else both.
+    /// One update followed by another: a single update if they can be joined, else both.
     fn edited_edit(alloc: Global, first: U, later: U) -> (KeyOpsRepr<U>, Result<(), U>)
         ensures meaning { OnOk result.1 ((o : Option U.Value) → run_effect U.means (changes_in result.0) o ≡ U.means later (U.means first o)) }
         ensures bound { length (changes_in result.0) ≤ 2 }
@@ -104,7 +104,7 @@ impl<U: Update> KeyOpsRepr<U> {
         }
     }
 
-    /// The updates, and one more.
+    /// Appends one more update to the updates.
     fn edited_edits(alloc: Global, updates: Vec<U>, later: U) -> (KeyOpsRepr<U>, Result<(), U>)
         requires { 0 < length updates.items }
         ensures meaning { OnOk result.1 ((o : Option U.Value) → run_effect U.means (changes_in result.0) o ≡ U.means later (edits_effect U.means updates.items o)) }
@@ -118,7 +118,7 @@ impl<U: Update> KeyOpsRepr<U> {
         (KeyOpsRepr::Edits(updates), answer)
     }
 
-    /// Takes the `consumed` oldest changes away, or all but the newest where they are no more.
+    /// Removes the `consumed` oldest operations. If there are no more than that, it keeps the newest.
     pub(crate) fn drop_oldest(&mut self, consumed: usize)
         requires { 0 < length (changes_in self.old) }
         ensures dropped { consumed < length (changes_in self.old) → changes_in self.new ≡ drop consumed (changes_in self.old) }
@@ -131,7 +131,7 @@ impl<U: Update> KeyOpsRepr<U> {
         edits::drop_first(updates, count);
     }
 
-    /// An equal one.
+    /// Copies the operations.
     pub(crate) fn copy(&self, alloc: Global) -> Result<KeyOpsRepr<U>, NoMemory>
         ensures { IfOk result (λ w. changes_in w ≡ changes_in self.now) }
     {

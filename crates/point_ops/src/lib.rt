@@ -1,17 +1,18 @@
 //! The point messages of a slot, by key: puts, deletes and updates that are pending.
 //!
-//! What it stands for: a list of pairs of a key and the operations of that key, the oldest first. The keys rise.
+//! What it stands for: a list of pairs of a key and the operations of that key, the oldest first. The keys are in ascending
+//! order.
 //!
 //! What it relies on:
 //!
 //! - each key has at least one operation;
-//! - a put or a delete stands alone: it needs no older operation, and an update that is applied over it makes it another one.
-//!   Updates that do not join stand one behind the other;
-//! - the list knows how many messages it has.
+//! - a put or a delete is the only operation of its key: it needs no older one, and an update that follows is applied to it,
+//!   which gives another put or delete. Updates that cannot be joined are kept one after another;
+//! - the list stores the number of its messages.
 //!
-//! `points` is what callers see. `key_ops` is the operations of one key, `key_ops_repr` how they lie in memory, `edits` updates one
-//! behind the other, and `key_op_ref` one operation, borrowed. `edits_in_place` changes the operations of a key where they lie,
-//! `one_key` changes the map at one key, and `counts` goes through it.
+//! `points` has the public interface. `key_ops` has the operations of one key, `key_ops_repr` their in-memory representation,
+//! `edits` updates in sequence, and `key_op_ref` a borrowed operation. `edits_in_place` edits the operations of a key in place,
+//! `one_key` changes the map at one key, and `counts` iterates over it.
 #![tactic(auto)]
 
 pub(crate) mod counts;

@@ -1,7 +1,7 @@
-//! What is done at one key of the map, and how many messages were added and removed by it.
+//! Operations at one key of the map, and the numbers of messages that they add and remove.
 //!
-//! Invariant: the caller's count stays true, since each call answers the number of what it removed and added, and an allocation
-//! failure leaves the map as it was.
+//! Invariant: the caller's count stays correct, since each call returns the number of messages that it removed and added, and
+//! an allocation failure leaves the map unchanged.
 ghost use Rattle.std.specs.Prelude.{◌≡◌, ◌+◌, ◌<◌, ◌≤◌, true, None, length, IfOk, IfErr, OnOk, OnErr, IfSome, IfNone};
 ghost use Rattle.std.specs.BTreeMap.{insert_entry};
 ghost use Rattle.std.specs.Option.{option_map, unwrap_or};
@@ -16,7 +16,7 @@ use message::Update;
 use pathkey::{Key, NoMemory};
 use std::alloc::Global;
 
-/// How many changes wait, where any do.
+/// The number of pending operations, 0 if there are none.
 pub(crate) fn len_of<U: Update>(run: &Option<KeyOps<U>>) -> usize
     ensures { result ≡ unwrap_or (option_map length run.now) 0 }
 {
@@ -26,9 +26,9 @@ pub(crate) fn len_of<U: Update>(run: &Option<KeyOps<U>>) -> usize
     }
 }
 
-/// Moves what waits at the first key of other rows, at most `most` messages, to its place in these, and answers how many came and
-/// how many went there. None come where there are none, where they are more, where memory is refused, or where they ask for what
-/// waits there.
+/// Moves the operations of the first key of `from` into `rows`, where they replace those of the same key. Returns how many it
+/// moved and how many they replaced. It moves nothing if `from` is empty, if its first key has more than `most` operations, if
+/// they depend on operations that they would replace, or on allocation failure.
 pub(crate) fn move_first<U: Update>(
     rows: &mut CowMap<KeyOps<U>>,
     from: &mut CowMap<KeyOps<U>>,
@@ -49,14 +49,14 @@ pub(crate) fn move_first<U: Update>(
     Some((came, len_of(&was)))
 }
 
-/// Whether a run can come in the place of what waits at its key: nothing does, or it does not ask for it.
+/// Whether the operations can replace those of their key: there are none, or the new ones do not depend on them.
 fn is_free<U: Update>(rows: &CowMap<KeyOps<U>>, key: &Key, run: &KeyOps<U>) -> bool
     ensures { result ≡ true → IsFree U.means run.now (at_key key.now rows.now) }
 {
     run.is_whole() || rows.get(key).is_none()
 }
 
-/// Takes the `consumed` oldest changes at the first key away. On want of memory all is as it was.
+/// Removes the `consumed` oldest operations of the first key. On allocation failure the map is unchanged.
 pub(crate) fn shorten_first<U: Update>(
     rows: &mut CowMap<KeyOps<U>>,
     alloc: Global,

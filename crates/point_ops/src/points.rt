@@ -1,7 +1,7 @@
-//! The point messages of a slot: a map from each key to its operations, and how many they are.
+//! The point messages of a slot: a map from each key to its operations, and the number of all operations.
 //!
-//! Invariant: the keys rise, each has at least one operation, and `count` is the number of operations of all keys, at most 2^62.
-//! A call that fails for want of memory leaves all as it was.
+//! Invariant: the keys are in ascending order, each has at least one operation, and `count` is the number of operations of all
+//! keys, at most 2^62. A call that fails to allocate leaves everything unchanged.
 ghost use Rattle.std.specs.Prelude.{◌≡◌, ◌+◌, ◌≤◌, ◌<◌, ◌^◌, ◌++◌, ◌∷◌, [], not, true, false, length, drop, take, IfOk, IfErr, OnOk, OnErr, IfSome, IfNone};
 ghost use Rattle.std.specs.BTreeMap.{insert_entry};
 ghost use Rattle.std.specs.List.{filter, list_any, slice_get};
@@ -23,8 +23,8 @@ use pathkey::{Key, KeyRange, NoMemory};
 use std::alloc::Global;
 use std::marker::Model;
 
-/// The messages that wait at single keys, those of each key in one place. Contracts see the keys, which rise, each with the
-/// changes that wait there.
+/// The pending messages at single keys, grouped by key. Contracts see the keys in ascending order, each with its pending
+/// operations.
 #[derive(Drop)]
 pub struct PointOps<U: UpdateTarget> {
     rows: CowMap<KeyOps<U>>,
@@ -44,10 +44,10 @@ impl<U: UpdateTarget> Model for PointOps<U> {
     ghost invariant = { λ p. ArePoints p.rows p.count };
 }
 
-// ---- what is asked
+// ---- queries
 
 impl<U: Update> PointOps<U> {
-    /// No messages. It takes no memory.
+    /// An empty list. It allocates no memory.
     pub fn new(alloc: Global) -> PointOps<U>
         ensures { result ≡ [] }
     {
@@ -57,7 +57,8 @@ impl<U: Update> PointOps<U> {
         }
     }
 
-    /// Says that the keys rise, that some change waits at each, and that all are not too many. It does nothing.
+    /// Asserts that the keys are in ascending order, that each has a pending operation, and that the total is within its bound.
+    /// It does nothing at run time.
     pub fn assert_invariant(&self)
         ensures rises { Rises self.now }
         ensures runs { AreRuns self.now }
@@ -74,28 +75,28 @@ impl<U: Update> PointOps<U> {
         self.count
     }
 
-    /// What waits at the first key.
+    /// The first key and its pending operations.
     pub fn first(&self) -> Option<(&Key, &KeyOps<U>)>
         ensures { option_map (λ p. (p.0.now, p.1.now)) result ≡ slice_get self.now 0 }
     {
         self.rows.cursor().peek()
     }
 
-    /// What waits at the key.
+    /// The pending operations of the key.
     pub fn run_at(&self, key: &Key) -> Option<&KeyOps<U>>
         ensures { option_copied result ≡ at_key key.now self.now }
     {
         self.rows.get(key)
     }
 
-    /// What waits at the key and behind it, key by key.
+    /// A cursor over the pending operations of the key and of the keys after it.
     pub fn walk_from(&self, key: &Key) -> Cursor<'_, KeyOps<U>>
         ensures { result ≡ drop (place key.now self.now) self.now }
     {
         self.rows.lower_bound(key)
     }
 
-    /// The first key that has messages, at this one or behind it.
+    /// The first key with messages, at or after `key`.
     pub fn first_from(&self, key: &Key) -> Option<&Key>
         ensures { option_copied result ≡ first_from key.now self.now }
     {
@@ -105,7 +106,7 @@ impl<U: Update> PointOps<U> {
         }
     }
 
-    /// Whether a key that has messages stands from `lo` on and before `hi`; `None` is no end.
+    /// Whether there is a key with messages from `lo` up to, but excluding, `hi`; `None` means no upper bound.
     pub fn has_within(&self, lo: &Key, hi: Option<&Key>) -> bool
         ensures { result ≡ list_any (λ e. is_in (record { lo = lo.now; hi = option_copied hi.entry }) e.0) self.now }
     {
@@ -116,7 +117,7 @@ impl<U: Update> PointOps<U> {
         }
     }
 
-    /// Whether no key stands before `lo`.
+    /// Whether no key is less than `lo`.
     pub fn begin_from(&self, lo: &Key) -> bool
         ensures yes { result ≡ true → AreFrom lo.now self.now }
         ensures no { result ≡ false → AreFrom lo.now self.now → ⊥ }
@@ -128,7 +129,7 @@ impl<U: Update> PointOps<U> {
         }
     }
 
-    /// Whether each key stands before the pivot.
+    /// Whether every key is less than the pivot.
     pub fn end_before(&self, pivot: &Key) -> bool
         ensures yes { result ≡ true → AreBefore pivot.now self.now }
         ensures no { result ≡ false → AreBefore pivot.now self.now → ⊥ }
@@ -140,7 +141,8 @@ impl<U: Update> PointOps<U> {
         }
     }
 
-    /// Copies of the messages but the `consumed` oldest of the first key, put behind those in `front`, until it has so many.
+    /// Appends copies of the messages, without the `consumed` oldest of the first key, to `front` until it holds `count`
+    /// messages.
     pub fn copy_into(
         &self,
         alloc: Global,
@@ -154,7 +156,7 @@ impl<U: Update> PointOps<U> {
         copy_msgs(&self.rows, alloc, consumed, count, front)
     }
 
-    /// The same messages, which both then share.
+    /// A copy that shares its messages with this list.
     pub fn copy(&self) -> Result<PointOps<U>, NoMemory>
         ensures { IfOk result (λ p. p ≡ self.now) }
     {
@@ -165,9 +167,10 @@ impl<U: Update> PointOps<U> {
         })
     }
 
-    // ---- what comes in
+    // ---- insertion
 
-    /// A put comes in the place of what waits at the key. On want of memory it comes back, and all is as it was.
+    /// Inserts a put, which replaces the pending operations of the key. On allocation failure it is returned as the error, and
+    /// everything is unchanged.
     #[inline(always)]
     pub fn put(&mut self, key: Key, value: U::Value) -> Result<(), (Key, U::Value)>
         requires { point_count self.old < 2 ^ 62 }
@@ -183,7 +186,7 @@ impl<U: Update> PointOps<U> {
         }
     }
 
-    /// Likewise a delete.
+    /// Inserts a delete, in the same way.
     #[inline(always)]
     pub fn del(&mut self, key: Key) -> Result<(), Key>
         requires { point_count self.old < 2 ^ 62 }
@@ -199,7 +202,8 @@ impl<U: Update> PointOps<U> {
         }
     }
 
-    /// An update is laid over what waits at the key. On want of memory it comes back, and all is as it was.
+    /// Appends an update to the pending operations of the key. On allocation failure it is returned as the error, and
+    /// everything is unchanged.
     #[inline(always)]
     pub fn edit(&mut self, alloc: Global, key: Key, update: U) -> Result<(), (Key, U)>
         requires { point_count self.old < 2 ^ 62 }
@@ -223,7 +227,7 @@ impl<U: Update> PointOps<U> {
         }
     }
 
-    /// One change comes in the place of what waits at the key.
+    /// Replaces the pending operations of the key by a single one.
     fn overwrite(&mut self, key: Key, run: KeyOps<U>) -> Result<(), (Key, KeyOps<U>)>
         requires room { point_count self.old < 2 ^ 62 }
         requires one { length run ≡ 1 }
@@ -238,9 +242,9 @@ impl<U: Update> PointOps<U> {
         Ok(())
     }
 
-    /// Moves what waits at the first key of another list, at most `most` messages and newer than all that are here, to its place,
-    /// and answers how many came. None come where `from` has none, where they are more, where memory is refused, or where
-    /// updates would be laid over what waits here.
+    /// Moves the operations of the first key of `from`, which are newer than all messages here, into this list, and returns how
+    /// many it moved. It moves nothing if `from` is empty, if the key has more than `most` operations, if updates would have to
+    /// be applied to pending operations here, or on allocation failure.
     pub fn take_first(&mut self, from: &mut PointOps<U>, most: usize) -> Option<usize>
         requires { point_count self.old + most ≤ 2 ^ 62 }
         ensures moved { IfSome result (λ n. TakesFirst U.means n most from.old self.old from.new self.new) }
@@ -252,9 +256,9 @@ impl<U: Update> PointOps<U> {
         Some(came)
     }
 
-    // ---- what goes
+    // ---- removal
 
-    /// Takes away what waits at the keys of a range. On want of memory all is as it was.
+    /// Removes the pending operations of the keys in a range. On allocation failure everything is unchanged.
     pub fn clear(&mut self, range: &KeyRange) -> Result<(), NoMemory>
         ensures ok { OnOk result (self.new ≡ filter (λ e. not (is_in range.now e.0)) self.old) }
         ensures bound { point_count self.new ≤ point_count self.old }
@@ -268,8 +272,8 @@ impl<U: Update> PointOps<U> {
         Ok(())
     }
 
-    /// Takes the oldest messages away, as far as these are all of a key, and answers how many of the first key left are then to go.
-    /// It takes no memory.
+    /// Removes the `count` oldest messages as far as they make up all operations of a key, and returns how many are still to be
+    /// removed from the first remaining key. It allocates no memory.
     pub fn drop_oldest(&mut self, count: usize) -> usize
         requires { count ≤ point_count self.old }
         ensures same { point_msgs (left result self.new) ≡ drop count (point_msgs self.old) }
@@ -282,7 +286,7 @@ impl<U: Update> PointOps<U> {
         left
     }
 
-    /// Takes the `consumed` oldest messages of the first key away. On want of memory all is as it was.
+    /// Removes the `consumed` oldest messages of the first key. On allocation failure everything is unchanged.
     pub fn make_whole(&mut self, alloc: Global, consumed: usize) -> Result<(), NoMemory>
         requires { IsLeft consumed self.old }
         ensures ok { OnOk result (self.new ≡ left consumed self.old) }
@@ -293,7 +297,7 @@ impl<U: Update> PointOps<U> {
         Ok(())
     }
 
-    /// Moves what waits at the pivot and behind it out. On want of memory all is as it was.
+    /// Moves the messages at the pivot and after it into a new list. On allocation failure everything is unchanged.
     pub fn split_off(&mut self, pivot: &Key) -> Result<PointOps<U>, NoMemory>
         ensures parts { IfOk result (λ back. self.old ≡ self.new ++ back) }
         ensures front { OnOk result (AreBefore pivot.now self.new) }
@@ -306,7 +310,7 @@ impl<U: Update> PointOps<U> {
         Ok(PointOps { rows, count })
     }
 
-    /// The messages of both lists, where all keys of the newer one stand behind the others.
+    /// Merges both lists; all keys of the newer one must be greater than those of this one.
     pub fn merged(self, newer: PointOps<U>) -> Result<PointOps<U>, NoMemory>
         requires rises { Rises self → Rises newer → Rises (self ++ newer) }
         requires small { point_count self + point_count newer ≤ 2 ^ 62 }
