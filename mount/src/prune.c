@@ -1,4 +1,5 @@
-// Removes directories for records that are left empty.
+// Removes directories for records that are left empty, but for TREE_PATH: its rmdir would pass each name that was ever
+// removed below it and is still pending. Snapshots and the end of the mount remove it (private_dir.h).
 //
 // Invariant: only rmdir(2) decides whether a directory is empty. Since the volume passes all removed names before it
 // finds one that is left, a name that is known to have a record is looked up first, by one stat; this saves time and
@@ -101,7 +102,7 @@ void prune_folders(struct mount *mount, char *path, const char *kept, uint64_t a
     if (!is_below(path, TREE_PATH)) return;
     for (;;) {
         *strrchr(path, '/') = 0;
-        if (strlen(path) < top || is_below(kept, path)) return;
+        if (strlen(path) <= top || is_below(kept, path)) return;
         struct inode *directory = directory_of(mount, path + top);
         if (directory && is_seen_full(mount, path, directory)) return;
         if (mount->backend.ops->change(mount->backend.self, CALL_RMDIR, path, at)) {
