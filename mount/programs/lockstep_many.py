@@ -27,7 +27,7 @@ NAMES = [b"a", b"b", b"c", b"\x01", b"\x01a", b"long name " * 5]
 # What a plain folder refuses such calls with.
 REFUSALS = {errno.errorcode[number] for number in (
     errno.ENOENT, errno.EEXIST, errno.ENOTDIR, errno.EISDIR, errno.ENOTEMPTY, errno.EINVAL, errno.EPERM, errno.EBUSY,
-    errno.ELOOP, errno.ENODATA, errno.ENXIO, errno.ENAMETOOLONG)}
+    errno.ELOOP, errno.ENODATA, errno.ENXIO, errno.ESPIPE, errno.ENAMETOOLONG)}
 
 
 class SomeNames(Side):
