@@ -1,7 +1,7 @@
 // A backend of the file system: the library, or a layer over another backend.
 //
-// Every function answers 0 or a number of <errno.h>, and a call that is refused changes nothing. One call is under way
-// at a time: who calls holds a lock.
+// Every function returns 0 or an errno, and a call that fails changes nothing. One call runs at a time: the caller
+// holds a lock.
 #ifndef BACKEND_H
 #define BACKEND_H
 #include "bytes.h"

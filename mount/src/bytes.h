@@ -1,4 +1,4 @@
-// Bytes that grow.
+// A growable buffer of bytes.
 #ifndef BYTES_H
 #define BYTES_H
 #include <stddef.h>

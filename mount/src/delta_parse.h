@@ -1,5 +1,4 @@
-// What a difference says of entries and of blocks, read beside the image of the tree that it is of; and the calls that
-// do so.
+// A parsed delta: its entries and the blocks that it patches, read beside the image of the old tree.
 #ifndef DELTA_PARSE_H
 #define DELTA_PARSE_H
 #include "sha256.h"

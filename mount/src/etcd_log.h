@@ -1,4 +1,4 @@
-// The log in etcd, by the JSON interface of its members: two threads, one of which puts, while the other one watches.
+// The shared log in etcd, by the JSON interface of its members: one thread puts values, and one watches.
 #ifndef ETCD_LOG_H
 #define ETCD_LOG_H
 #include "replica_checkpoint.h"

@@ -1,6 +1,5 @@
-// What each request does: to the tree by its backend, and to the inodes. Each function is called under the request
-// lock,
-// and answers 0 or a number of <errno.h>; one that is refused changes nothing.
+// What each request on a file or directory does to the tree, by its backend, and to the inodes. Each function is called
+// under the request lock, and returns 0 or an errno; one that fails changes nothing.
 #ifndef FS_OPS_H
 #define FS_OPS_H
 #include "request.h"

@@ -1,4 +1,4 @@
-// Bytes of a file that are not stored, and read as zeros; and how many are.
+// Holes of files, which are not stored and read as zeros, and the number of bytes that are stored.
 #ifndef HOLES_H
 #define HOLES_H
 #include "request.h"

@@ -1,5 +1,5 @@
-// The inodes that the kernel knows, as a tree of the names that lead to them. All of this is a cache: an inode goes
-// when the kernel forgets it. What lasts stands in the volume. No proof covers any of this.
+// The inodes that the kernel knows, by parent and name. All of this is a cache: an inode is freed when the kernel
+// forgets it, and what must last is in the volume. No proof covers any of this.
 #ifndef INODES_H
 #define INODES_H
 #include "backend.h"

@@ -1,4 +1,4 @@
-// Pages of a listing: what readdir(3) is answered with, and with it what stands at each name.
+// Pages of a listing, for readdir(3), with the attributes of each name.
 #ifndef LISTINGS_H
 #define LISTINGS_H
 #define FUSE_USE_VERSION 35

@@ -1,4 +1,4 @@
-// A mount: its volume, and what is known of it from one request to the next.
+// A mount: its backend, and what it caches from one request to the next.
 #ifndef MOUNT_H
 #define MOUNT_H
 #include "inodes.h"

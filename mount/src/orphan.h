@@ -1,5 +1,5 @@
-// Files whose name is gone, and that the kernel still knows: they may be open, or be just about to be opened. They
-// stand in the mount's own folder until nobody holds them.
+// Orphans: unlinked files that the kernel still knows, since they are open or about to be opened. They are in the
+// private directory until nobody holds them.
 #ifndef ORPHAN_H
 #define ORPHAN_H
 #include "txn.h"

@@ -1,6 +1,5 @@
-// The folder of the root that is the mount's own, /.doorvervain. In it stand the records of attributes, in `tree`; the
-// files that have several names, in `links`; and orphans, in `unlinked`, which no image and no tree that is
-// restored keeps.
+// The private directory of the mount, /.doorvervain. It has the attribute records in `tree`, the files with several
+// names in `links`, and orphans in `unlinked`, which are in no image and in no restored tree.
 #ifndef PRIVATE_DIR_H
 #define PRIVATE_DIR_H
 #include "mount.h"

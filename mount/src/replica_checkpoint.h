@@ -1,5 +1,5 @@
-// Checkpoints of a replica's log: the image of the tree at one version, kept in etcd beside the log, by parts. A mount
-// begins with the newest one, and the log before it may be cut.
+// Checkpoints of a replica's log: the image of the tree at one version, stored in etcd beside the log, in parts. A
+// mount starts from the newest one, and the log before it may be compacted.
 #ifndef REPLICA_CHECKPOINT_H
 #define REPLICA_CHECKPOINT_H
 #include "etcd_client.h"

@@ -1,4 +1,4 @@
-// What the files of a replica share. All but the log's threads is done by the thread that serves requests.
+// What the files of a replica share. The serving thread does everything but what the threads of the log do.
 #ifndef REPLICA_INSIDE_H
 #define REPLICA_INSIDE_H
 #include "wal_layer.h"

@@ -1,4 +1,4 @@
-// The requests of the kernel, by the low-level interface of libfuse3.
+// The handlers of the kernel's requests, by the low-level interface of libfuse3.
 #ifndef REQUESTS_H
 #define REQUESTS_H
 #define FUSE_USE_VERSION 35

@@ -1,4 +1,4 @@
-// The language of scripts: lines that ask for calls, and replies.
+// Prints calls as lines of the script language, and their replies.
 #ifndef SCRIPT_H
 #define SCRIPT_H
 #include "backend.h"

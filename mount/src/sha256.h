@@ -1,4 +1,4 @@
-// The checksum of a file, as sha256sum(1) tells it.
+// The SHA-256 digest of a file, as sha256sum(1) prints it.
 #ifndef SHA256_H
 #define SHA256_H
 #include <stdbool.h>

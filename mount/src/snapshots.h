@@ -1,4 +1,4 @@
-// Snapshots as folders of /.snapshots.
+// Snapshots as directories of /.snapshots.
 #ifndef SNAPSHOTS_H
 #define SNAPSHOTS_H
 #include "fs_ops.h"

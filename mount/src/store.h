@@ -1,9 +1,9 @@
-// A folder that keeps a volume: what was synced is lost neither with the process nor with the machine.
+// A directory that keeps a volume: what was synced is lost neither with the process nor with the machine.
 //
-// In it lie `tree.N`, an image, `snapshots.N` where some stood then, and `log.N`, `log.N+1` .., in which each request
-// that changed something since has one record; `lock` keeps a second mount out. A change is in memory when it is
-// answered. It is on the disk once the log is synced: by fsync(2), every five seconds, and when the mount is taken
-// away.
+// It has the checkpoint `tree.N`, an image, with `snapshots.N` if there were snapshots; the logs `log.N`, `log.N+1` ..,
+// with one record for each request since then that changed something; and `lock`, which excludes a second mount. A
+// change is in memory when its reply is sent. It is on the disk once the log is synced: by fsync(2), every five
+// seconds, and at the unmount.
 #ifndef STORE_H
 #define STORE_H
 #include "mount.h"

@@ -1,5 +1,5 @@
-// The calls of one request that changes the tree. Each is noted with what undoes it, so that a request is done as a
-// whole or not at all: no other request comes between.
+// The calls of one request that changes the tree, as a transaction: each is recorded with what undoes it, so a request
+// is atomic. No other request runs in between.
 #ifndef TXN_H
 #define TXN_H
 #include "private_dir.h"
@@ -37,9 +37,8 @@ int txn_read(struct txn *txn, const char *path, const struct bytes **out);
 int txn_write(struct txn *txn, const char *path, const char *text, size_t length);
 // Takes what stands at a path of the mount's own away, and nothing where nothing stands.
 int txn_remove(struct txn *txn, const char *path);
-// Removes a small file of the mount's own, and nothing where nothing is there: faster than to park it. Where its text
-// is
-// known it need not be read: it is taken over then; null: it is not known.
+// Removes a small file of the private directory, and nothing if there is none: faster than txn_remove. A text that is
+// known need not be read: this takes it over; null: it is not known.
 int txn_unlink(struct txn *txn, const char *path, struct bytes *text);
 // The same with the folder of the mount's own that it is alone in. ENOENT where that has none.
 int txn_remove_record(struct txn *txn, const char *folder, const char *file, struct bytes *text);

@@ -1,4 +1,4 @@
-// Calls as bytes, and records of them: the archive's functions for a log, on bytes that grow.
+// Encodes calls as entries, and entries as records of the log, by functions of the library, into growable buffers.
 #ifndef WAL_ENCODE_H
 #define WAL_ENCODE_H
 #include "backend.h"

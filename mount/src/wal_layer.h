@@ -1,6 +1,5 @@
-// What a store and a replica share: a call that changes something is noted, as an entry of a log, and handed on. One
-// that
-// is refused leaves no note.
+// The layer that a store and a replica share: it encodes a call that changes something as an entry of the log, and
+// passes it to the inner backend. A call that fails leaves no entry.
 #ifndef WAL_LAYER_H
 #define WAL_LAYER_H
 #include "backend.h"
