@@ -2,7 +2,7 @@
 from collections.abc import Callable
 
 import tree
-from made import Tree, pictures
+from generate import Tree, pictures
 from order import DONE, Area, Call
 
 # What a call is answered and leaves of an area, of a call that is answered and leaves this.
