@@ -29,10 +29,10 @@ static const char *name_of(int file, char path[PATH_MAX]) {
 static int fails(int file, const char *what) {
     char path[PATH_MAX], word[16] = "";
     const char *control = getenv("FAILING_DISK"), *name = control ? name_of(file, path) : 0;
-    FILE *told = name ? fopen(control, "re") : 0;
-    if (!told) return 0;
-    if (fscanf(told, "%15s", word) != 1) word[0] = 0;
-    fclose(told);
+    FILE *wanted = name ? fopen(control, "re") : 0;
+    if (!wanted) return 0;
+    if (fscanf(wanted, "%15s", word) != 1) word[0] = 0;
+    fclose(wanted);
     size_t length = strlen(word);
     return !strcmp(word, what) || !strcmp(word, "write") || (!strncmp(name, word, length) && name[length] == '.');
 }
