@@ -25,7 +25,7 @@ int attrs_read_extended(struct txn *txn, const char *path, struct bytes *out);
 // it.
 int attrs_read_name(struct mount *mount, struct inode *parent, const struct resolved_path *resolved, bool is_directory,
                     struct attrs *out);
-// The names in a directory that have records at or below them, each behind a byte as `struct backend_ops` tells names.
+// The names in a directory that have records at or below them, each after a byte as `struct backend_ops` tells names.
 int attrs_list(struct mount *mount, struct inode *directory, struct bytes *out);
 // The attributes of an inode, which are read where they are not known.
 int attrs_of(struct mount *mount, struct inode *inode, const struct attrs **out);

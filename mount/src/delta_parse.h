@@ -20,7 +20,7 @@ struct block {
 };
 
 struct delta {
-    struct bytes paths;          // each with a byte 0 behind it
+    struct bytes paths;          // each with a byte 0 after it
     struct bytes removed, added; // as struct delta_entry, in the order of their images
     struct bytes blocks;         // as struct block
     struct bytes copies;         // as char *: digits that stand in no text

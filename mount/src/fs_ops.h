@@ -28,7 +28,7 @@ struct create_args {
     const char *target; // of a symbolic link
 };
 
-// Called once the volume stands.
+// Called once the volume is open.
 int fs_start(struct mount *mount);
 // Nothing is open any more: what was unlinked goes.
 int fs_end(struct mount *mount);

@@ -10,7 +10,7 @@ struct page_args {
     struct bytes *names; // of the open directory: as they were when it was read from its beginning
     size_t capacity;
     off_t at;     // 0: its beginning
-    bool is_plus; // what stands at each name is told with it
+    bool is_plus; // what is at each name is told with it
 };
 
 // Answers a request for a page. Called with no lock, by the thread that serves requests; where there may be many names,

@@ -26,7 +26,7 @@ void memlimit_set(uint64_t size);
 struct mem_usage memlimit_usage(void);
 // The size that is set; 0: none is.
 uint64_t memlimit_size(void);
-// Whether much was given back since the last trim, which is asked behind each request, by the thread that serves them;
+// Whether much was given back since the last trim, which is asked after each request, by the thread that serves them;
 // and that trim: all that malloc does not need goes back to the system.
 bool memlimit_has_freed(void);
 void memlimit_trim(void);

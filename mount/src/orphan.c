@@ -163,7 +163,7 @@ int orphan_put(struct mount *mount, struct inode *inode, uint64_t at) {
     complete_begins(mount);
     int err = orphan_delete(mount, inode, at);
     complete_ends(mount);
-    if (err) inode_detach(inode); // The bytes go with the mount's own folder.
+    if (err) inode_detach(inode); // The bytes go with the mount's own directory.
     return err;
 }
 

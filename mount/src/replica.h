@@ -25,12 +25,12 @@ void replica_end(struct mount *mount);
 // they do nothing. What the second answers has the request's other callers leave all as it was.
 void replica_change_begins(struct mount *mount);
 int replica_change_ends(struct mount *mount, int err);
-// What is told of the log.
+// What is reported of the log.
 void replica_fill_status(const struct mount *mount, struct replica_status *out);
 // The timestamp of the request that is served; 0: it is the time at which it came.
 uint64_t replica_timestamp(const struct mount *mount);
 // What a request is answered with: false if it gets no answer now, since it waits for the log.
 bool replica_may_answer(const struct mount *mount, int *err);
-// A write was done elsewhere in its file than the kernel wrote it: the kernel is told to ask for the bytes anew.
+// A write was done elsewhere in its file than the kernel wrote it: the kernel is notified to ask for the bytes anew.
 void replica_note_moved(struct mount *mount, const struct inode *inode);
 #endif

@@ -7,7 +7,7 @@
 // The first member of who notes, and so the `self` of these functions.
 struct wal_layer {
     struct backend inner;
-    // Begins a call, and says behind which bytes its note goes, and in `err` why it is refused, which is 0 before.
+    // Begins a call, and says after which bytes its note goes, and in `err` why it is refused, which is 0 before.
     // Null: the call does nothing, and is answered as done.
     struct bytes *(*begins)(void *self, int *err);
     // Ends a call that began: what it is answered with. Null: with its fault as it is.
