@@ -246,10 +246,7 @@ prove:
 	bash .ci/run
 
 needs:
-	packaging/install
-	bindings/python/install
-	bindings/rust/install
-	mount/install
+	tools/apt-deps packaging python rust mount
 
 clean:
 	rm -rf out

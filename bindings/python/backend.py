@@ -75,7 +75,7 @@ def metadata() -> str:
 # ---- the module in C
 
 
-def told_by_pkg_config(name: str) -> str:
+def reported_by_pkg_config(name: str) -> str:
     words = ["pkg-config", f"--variable={name}", PACKAGE]
     try:
         said = subprocess.run(words, stdout=subprocess.PIPE, stderr=subprocess.DEVNULL, text=True, check=True)
@@ -91,7 +91,7 @@ def folders() -> Iterator[Tuple[str, str]]:
         yield os.path.join(named, "lib"), os.path.join(named, "include")
     for library, header in NEAR:
         yield os.path.join(HERE, library), os.path.join(HERE, header)
-    yield told_by_pkg_config("libdir"), told_by_pkg_config("includedir")
+    yield reported_by_pkg_config("libdir"), reported_by_pkg_config("includedir")
 
 
 def library() -> Tuple[str, str]:

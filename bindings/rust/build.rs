@@ -13,7 +13,7 @@ fn named() -> Vec<PathBuf> {
     named.map_or(Vec::new(), |it| vec![it.join("lib"), it])
 }
 
-fn told_by_pkg_config() -> Option<PathBuf> {
+fn reported_by_pkg_config() -> Option<PathBuf> {
     let words = ["--variable=libdir", "doorvervain"];
     let said = Command::new("pkg-config").args(words).output().ok()?;
     let folder = String::from_utf8(said.stdout).ok()?.trim().to_owned();
@@ -52,7 +52,7 @@ fn main() {
     println!("cargo:rerun-if-env-changed=DOORVERVAIN_DIR");
     println!("cargo:rerun-if-env-changed=PKG_CONFIG_PATH");
     println!("cargo:rerun-if-changed=build.rs");
-    let mut folders = named().into_iter().chain(told_by_pkg_config()).chain(near());
+    let mut folders = named().into_iter().chain(reported_by_pkg_config()).chain(near());
     let folder = folders.find(|it| has_archive(it)).unwrap_or_else(|| {
         panic!("{ARCHIVE} is not found: `make install` puts it into a prefix, and DOORVERVAIN_DIR names one")
     });

@@ -50,24 +50,24 @@ class Betr:
 
     def replies(self, count: int) -> list[bytes]:
         """The lines of so many replies: each has one, and a listing those that it counts."""
-        told: list[bytes] = []
-        while len(told) < count:
-            more = list(itertools.islice(self.process.stdout, count - len(told)))
+        reported: list[bytes] = []
+        while len(reported) < count:
+            more = list(itertools.islice(self.process.stdout, count - len(reported)))
             if not more or not more[-1].endswith(b"\n"):
                 raise Ended
             count += sum(int(it[6:]) for it in more if it.startswith(b"names "))
-            told += more
-        return told
+            reported += more
+        return reported
 
     def read(self) -> None:
         """Reads the replies to each batch that is sent, until there is no more to wait for."""
         try:
             while batch := self.sent.get():
                 asked = [it for it in batch.value.split(b"\n")[:-1] if has_reply(it)]
-                told = self.replies(len(asked))
-                if NO_MEMORY in told:
+                reported = self.replies(len(asked))
+                if NO_MEMORY in reported:
                     raise NoMemory
-                self.done(batch, asked, told)
+                self.done(batch, asked, reported)
         except Exception as it:
             self.failure = it
             # What is still written to it then fails too.

@@ -17,8 +17,8 @@ def mode(name) -> int:
 
 
 def owner(name) -> tuple[int, int]:
-    told = os.lstat(name)
-    return told.st_uid, told.st_gid
+    reported = os.lstat(name)
+    return reported.st_uid, reported.st_gid
 
 
 def modified(name) -> int:
@@ -43,13 +43,13 @@ def mark(name, number: int = 0) -> None:
 
 def is_marked(name, number: int = 0) -> bool:
     owned = os.getuid() != 0 or owner(name) == (number + 1, number + 2)
-    told = (mode(name), extended(name), modified(name))
-    return owned and told == (0o700 | number % 0o100, {"user.number": b"%d" % number}, 7 + number)
+    reported = (mode(name), extended(name), modified(name))
+    return owned and reported == (0o700 | number % 0o100, {"user.number": b"%d" % number}, 7 + number)
 
 
 def is_usual(name, usual: int = 0o644) -> bool:
-    told = (mode(name), owner(name), extended(name))
-    return told == (usual, (os.getuid(), os.getgid()), {}) and modified(name) > 10**18
+    reported = (mode(name), owner(name), extended(name))
+    return reported == (usual, (os.getuid(), os.getgid()), {}) and modified(name) > 10**18
 
 
 @case
@@ -210,8 +210,8 @@ def a_rename_takes_them_along():
     mark("one/two/three/file", 9)
     os.utime("one/two/three", ns=(5, 10))
     os.rename("one", "other")
-    told = {"moved": 0, "other": 1, "other/two": 2, "other/two/three": 3, "other/two/three/file": 9}
-    for name, number in told.items():
+    reported = {"moved": 0, "other": 1, "other/two": 2, "other/two/three": 3, "other/two/three/file": 9}
+    for name, number in reported.items():
         assert is_marked(name, number), name
     os.makedirs("one/two/three")
     put("one/two/three/file")
@@ -263,8 +263,8 @@ def attributes_of_a_file_without_a_name():
         os.fchmod(file.fileno(), 0o4711)
         os.setxattr(file.fileno(), "user.a", b"b")
         os.utime(file.fileno(), ns=(5, 7))
-        told = os.fstat(file.fileno())
-        assert (stat.S_IMODE(told.st_mode), told.st_mtime_ns, told.st_nlink) == (0o4711, 7, 0)
+        reported = os.fstat(file.fileno())
+        assert (stat.S_IMODE(reported.st_mode), reported.st_mtime_ns, reported.st_nlink) == (0o4711, 7, 0)
         assert os.getxattr(file.fileno(), "user.a") == b"b"
         assert is_usual("file")
 

@@ -68,9 +68,9 @@ def an_image_that_is_not_trusted(folder: Path):
     mount = Mount(folder, "--load", folder / "image")
     own = {path: each._replace(mode=each.mode & ~(stat.S_ISUID | stat.S_ISGID), user=os.getuid(), group=os.getgid())
            for path, each in made.items()}
-    told = seen(mount.point)
-    alike({path: each._replace(mode=each.mode & ~stat.S_ISGID) for path, each in told.items()}, own)
-    assert not any(each.mode & stat.S_ISGID for each in told.values() if stat.S_ISREG(each.mode))
+    reported = seen(mount.point)
+    alike({path: each._replace(mode=each.mode & ~stat.S_ISGID) for path, each in reported.items()}, own)
+    assert not any(each.mode & stat.S_ISGID for each in reported.values() if stat.S_ISREG(each.mode))
     assert mount.end() == 0, mount.said()
 
 
@@ -158,7 +158,7 @@ def a_mount_keeps_set_user_bits_and_devices_from_working(folder: Path):
 
 
 @case
-def names_of_trusted_attributes_are_told_to_root_alone(folder: Path):
+def names_of_trusted_attributes_are_reported_to_root_alone(folder: Path):
     if os.getuid() != 0:
         return
     folder.chmod(0o755)
@@ -172,8 +172,8 @@ def names_of_trusted_attributes_are_told_to_root_alone(folder: Path):
     assert sorted(os.listxattr(mount.point / "file"))[-2:] == ["trusted.a", "user.a"]
     shell = ["setpriv", "--reuid=65534", "--regid=65534", "--clear-groups", "python3", "-c",
              "import os; print(sorted(os.listxattr('file')))"]
-    told = subprocess.run(shell, cwd=mount.point, stdout=subprocess.PIPE, text=True, check=True).stdout
-    assert told == "['user.a']\n", told
+    reported = subprocess.run(shell, cwd=mount.point, stdout=subprocess.PIPE, text=True, check=True).stdout
+    assert reported == "['user.a']\n", reported
     assert mount.end() == 0, mount.said()
 
 

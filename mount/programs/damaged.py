@@ -118,8 +118,8 @@ def records_that_are_none(folder: Path):
 
     def look(point: Path) -> None:
         for number, text in enumerate(texts):
-            told = os.lstat(point / f"file{number}")
-            assert (told.st_mode, told.st_size, told.st_nlink) == (USUAL, 3, 1), (number, text, told)
+            reported = os.lstat(point / f"file{number}")
+            assert (reported.st_mode, reported.st_size, reported.st_nlink) == (USUAL, 3, 1), (number, text, reported)
             assert (point / f"file{number}").read_bytes() == b"abc"
         assert stat.S_IMODE((point / "folder/plain").stat().st_mode) == 0o640
 
@@ -127,7 +127,7 @@ def records_that_are_none(folder: Path):
 
 
 @case
-def a_mode_of_letters_is_told(folder: Path):
+def a_mode_of_letters_is_reported(folder: Path):
     image = Image({b"/folder/some file": b"abc", record_path(b"/folder/some file"): record(mode="rw-rw-rw-")})
     said = comes_up(folder, image)
     assert "some file" in said or "some%20file" in said, said

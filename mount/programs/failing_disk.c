@@ -1,8 +1,9 @@
-// A disk that fails, under a program: preloaded, it stands before writes and syncs of files in the folder FAILING_STORE.
-// Where the file FAILING_DISK has the word `sync`, syncs fail; with `write`, writes fail too; with another word, both fail
-// of a file whose name begins with that and a dot. Behind each sync that is done, the length of the file goes to the
-// folder FAILING_SYNCED, below its name: so much a loss of power leaves at least. Each sync takes FAILING_DELAY
-// milliseconds more.
+// A disk that fails, for a program into which this is preloaded: it intercepts writes and syncs of files in the directory
+// FAILING_STORE. If the file FAILING_DISK has the word `sync`, syncs fail; with `write`, writes fail too; with another word,
+// both fail for a file whose name begins with that word and a dot. Each sync takes FAILING_DELAY milliseconds more.
+//
+// Invariant: after each sync that was done, the file of the same name in the directory FAILING_SYNCED has the length that
+// was synced, which a loss of power leaves at least.
 #define _GNU_SOURCE
 #include <dlfcn.h>
 #include <errno.h>
@@ -28,10 +29,10 @@ static const char *name_of(int file, char path[PATH_MAX]) {
 static int fails(int file, const char *what) {
     char path[PATH_MAX], word[16] = "";
     const char *control = getenv("FAILING_DISK"), *name = control ? name_of(file, path) : 0;
-    FILE *told = name ? fopen(control, "re") : 0;
-    if (!told) return 0;
-    if (fscanf(told, "%15s", word) != 1) word[0] = 0;
-    fclose(told);
+    FILE *wanted = name ? fopen(control, "re") : 0;
+    if (!wanted) return 0;
+    if (fscanf(wanted, "%15s", word) != 1) word[0] = 0;
+    fclose(wanted);
     size_t length = strlen(word);
     return !strcmp(word, what) || !strcmp(word, "write") || (!strncmp(name, word, length) && name[length] == '.');
 }

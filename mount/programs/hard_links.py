@@ -15,8 +15,8 @@ def names_of(name) -> int:
 
 def are_one(*names) -> bool:
     """Whether these are names of one file, and it has no others."""
-    told = [os.lstat(name) for name in names]
-    return len({each.st_ino for each in told}) == 1 and {each.st_nlink for each in told} == {len(names)}
+    reported = [os.lstat(name) for name in names]
+    return len({each.st_ino for each in reported}) == 1 and {each.st_nlink for each in reported} == {len(names)}
 
 
 def name_open(file: int, name: str) -> None:
@@ -109,14 +109,14 @@ def attributes_are_of_the_file():
         os.chmod("one", 0o4711)
     os.utime("two", ns=(5, 11))
     for name in ("one", "two"):
-        told = os.lstat(name)
-        assert (told.st_mode, told.st_mtime_ns) == (stat.S_IFREG | 0o4711, 11), name
-        assert os.getuid() or (told.st_uid, told.st_gid) == (3, 4)
+        reported = os.lstat(name)
+        assert (reported.st_mode, reported.st_mtime_ns) == (stat.S_IFREG | 0o4711, 11), name
+        assert os.getuid() or (reported.st_uid, reported.st_gid) == (3, 4)
         assert sorted(os.listxattr(name)) == ["user.after", "user.before"]
     os.unlink("one")
     put("one")
-    told = os.lstat("one")
-    assert told.st_mode == stat.S_IFREG | 0o644 and os.listxattr("one") == [] and told.st_uid == os.getuid()
+    reported = os.lstat("one")
+    assert reported.st_mode == stat.S_IFREG | 0o644 and os.listxattr("one") == [] and reported.st_uid == os.getuid()
     assert os.lstat("two").st_mode == stat.S_IFREG | 0o4711 and os.lstat("two").st_mtime_ns == 11
 
 
@@ -209,8 +209,8 @@ def times_of_folders():
     assert changed_by(os.link, "first/one", "first/two") == ["first"]
     os.utime("first/one", ns=(5, 9))
     assert changed_by(os.unlink, "first/one") == ["first"]
-    told = os.lstat("first/two")
-    assert told.st_mtime_ns == 9 and told.st_ctime_ns >= before.st_ctime_ns
+    reported = os.lstat("first/two")
+    assert reported.st_mtime_ns == 9 and reported.st_ctime_ns >= before.st_ctime_ns
 
 
 @case
@@ -230,11 +230,11 @@ def the_number_of_a_file_stays():
 @case
 def the_times_of_a_file_stay():
     put("one", b"abc")
-    told = os.stat("one").st_mtime_ns
+    reported = os.stat("one").st_mtime_ns
     os.link("one", "two")
-    assert os.stat("one").st_mtime_ns == told == os.stat("two").st_mtime_ns
+    assert os.stat("one").st_mtime_ns == reported == os.stat("two").st_mtime_ns
     os.unlink("one")
-    assert os.stat("two").st_mtime_ns == told
+    assert os.stat("two").st_mtime_ns == reported
 
 
 @case

@@ -203,7 +203,7 @@ def what_fallocate_refuses():
 
 
 @case
-def what_is_stored_is_told():
+def what_is_stored_is_reported():
     file = opened()
     assert stored() == 0
     os.ftruncate(file, 2**33)

@@ -52,7 +52,7 @@ def a_mount_that_fails_leaves_the_file(folder: Path):
 
 
 @case
-def a_file_that_cannot_be_written_is_told_before_the_mount(folder: Path):
+def a_file_that_cannot_be_written_is_reported_before_the_mount(folder: Path):
     (folder / "folder").mkdir()
     for file in (folder / "none/image", folder / "folder", Path("/dev/null")):
         mount = Mount(folder, "--image", file)

@@ -36,8 +36,8 @@ class Side:
         return os.path.join(self.tree, path)
 
     def stat(self, path: bytes):
-        told = os.lstat(self.at(path))
-        return told.st_mode, told.st_uid, told.st_gid
+        reported = os.lstat(self.at(path))
+        return reported.st_mode, reported.st_uid, reported.st_gid
 
     def read(self, path: bytes):
         with open(os.open(self.at(path), os.O_RDONLY | os.O_NONBLOCK), "rb") as file:
@@ -131,8 +131,8 @@ class Side:
     def held_stat(self, slot: int):
         if slot not in self.files:
             return None
-        told = os.fstat(self.files[slot])
-        return told.st_mode, told.st_nlink, told.st_size, told.st_uid, sorted(os.listxattr(self.files[slot]))
+        reported = os.fstat(self.files[slot])
+        return reported.st_mode, reported.st_nlink, reported.st_size, reported.st_uid, sorted(os.listxattr(self.files[slot]))
 
     def held_set(self, slot: int, mode: int, modified: int):
         if slot in self.files:
@@ -175,17 +175,17 @@ class Side:
         if not self.place(name).exists():
             return {}
         inner = Path(os.fsdecode(self.tree)).relative_to(MNT) if self.mounted else "."
-        return told(self.place(name) / inner)
+        return reported(self.place(name) / inner)
 
-    def told(self) -> dict[bytes, Seen]:
-        return told(self.tree)
+    def reported(self) -> dict[bytes, Seen]:
+        return reported(self.tree)
 
 
 def copy(tree, to) -> None:
     subprocess.run(["cp", "-a", "--sparse=always", tree, to], check=True)
 
 
-def told(tree, prefix: bytes = b"") -> dict[bytes, Seen]:
+def reported(tree, prefix: bytes = b"") -> dict[bytes, Seen]:
     """A time that nobody set by hand is any."""
     return {path: each if each.modified < BY_HAND else each._replace(modified=BY_HAND)
             for path, each in seen(tree, prefix).items()}
@@ -312,7 +312,7 @@ def run(seed: int, sides: list[Side], calls: Calls) -> int:
 
 def compare(sides: list[Side], where: str) -> None:
     try:
-        alike(*(side.told() for side in sides))
+        alike(*(side.reported() for side in sides))
         for name in map(str, range(SNAPSHOTS)):
             alike(*(side.seen_in(name) for side in sides))
     except AssertionError as fault:

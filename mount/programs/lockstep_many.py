@@ -17,7 +17,7 @@ from collections import Counter
 from collections.abc import Callable, Iterator
 from pathlib import Path
 
-from lockstep import CALLS, Calls, Side, answer, run, told
+from lockstep import CALLS, Calls, Side, answer, run, reported
 from seen import Seen, alike, paths_below, seen
 
 PROCESSES, SECONDS = 8, 15
@@ -36,8 +36,8 @@ class SomeNames(Side):
     def __init__(self, tree: Path, prefix: bytes):
         self.top, self.mounted, self.files, self.tree, self.prefix = tree.parent, False, {}, os.fsencode(tree), prefix
 
-    def told(self) -> dict[bytes, Seen]:
-        return told(self.tree, self.prefix)
+    def reported(self) -> dict[bytes, Seen]:
+        return reported(self.tree, self.prefix)
 
     def remove_all(self) -> None:
         for name in os.listdir(self.tree):

@@ -8,7 +8,7 @@ from pathlib import Path
 from seen import alike, seen
 
 PIPE_BUFFER = 1 << 16
-TOLD = r"%p %y %m %U %G %T@ %s %n %l\n"
+REPORTED = r"%p %y %m %U %G %T@ %s %n %l\n"
 
 
 def make(top: Path) -> None:
@@ -79,12 +79,12 @@ def change_at_random(works: random.Random, top: Path, names: list[str]) -> None:
         pass
 
 
-def told(top: Path) -> list[str]:
+def reported(top: Path) -> list[str]:
     """All that find(1) tells of a tree."""
-    listed = subprocess.run(["find", ".", "-printf", TOLD], cwd=top, stdout=subprocess.PIPE, check=True).stdout
+    listed = subprocess.run(["find", ".", "-printf", REPORTED], cwd=top, stdout=subprocess.PIPE, check=True).stdout
     return sorted(listed.decode(errors="surrogateescape").splitlines())
 
 
 def same(one: Path, other: Path) -> None:
-    assert told(one) == told(other), set(told(one)) ^ set(told(other))
+    assert reported(one) == reported(other), set(reported(one)) ^ set(reported(other))
     alike(seen(one), seen(other))

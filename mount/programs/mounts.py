@@ -75,8 +75,8 @@ def df_tells_what_is_available(folder: Path):
     mount = Mount(folder)
     off = []
     for _ in range(10):
-        told = os.statvfs(mount.point)
-        off.append(abs(told.f_bavail * told.f_frsize - available()))
+        reported = os.statvfs(mount.point)
+        off.append(abs(reported.f_bavail * reported.f_frsize - available()))
         time.sleep(0.05)
     assert min(off) < 64 << 20, off
     assert mount.end() == 0, mount.said()

@@ -72,8 +72,8 @@ def write_sums(store: Path, number: int) -> None:
     file = store / f"tree.{number}.sum"
     log = next(line for line in file.read_text().splitlines() if line.startswith("log "))
     snapshots = store / f"snapshots.{number}"
-    told = f"{digest(snapshots)}  {snapshots.name}" if snapshots.exists() else f"no {snapshots.name}"
-    text = f"doorvervain checkpoint 2\n{digest(store / f'tree.{number}')}  tree.{number}\n{told}\n{log}\n"
+    stated = f"{digest(snapshots)}  {snapshots.name}" if snapshots.exists() else f"no {snapshots.name}"
+    text = f"doorvervain checkpoint 2\n{digest(store / f'tree.{number}')}  tree.{number}\n{stated}\n{log}\n"
     file.write_text(f"{text}end {hashlib.sha256(text.encode()).hexdigest()}\n")
 
 
@@ -118,11 +118,11 @@ def on_small_disk(folder: Path, work: Callable[[Path], None]) -> None:
 
 def notes_of(file: Path) -> tuple[int, int]:
     """How many steps were answered, and how many of them are kept."""
-    told = {"done": 0, "kept": 0}
+    stated = {"done": 0, "kept": 0}
     for line in file.read_text().splitlines() if file.exists() else []:
         word, count = line.split()
-        told[word] = max(told[word], int(count))
-    return told["done"], told["kept"]
+        stated[word] = max(stated[word], int(count))
+    return stated["done"], stated["kept"]
 
 
 def state_of(seen: dict, number: int, least: int, most: int) -> int | None:
@@ -132,7 +132,7 @@ def state_of(seen: dict, number: int, least: int, most: int) -> int | None:
     for count, (_, model) in enumerate(store_states.steps(number), start=1):
         if count > most:
             return None
-        if count >= least and model.told() == seen:
+        if count >= least and model.reported() == seen:
             return count
     return None
 

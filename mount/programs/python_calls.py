@@ -95,8 +95,8 @@ def an_unlinked_file_lives_while_it_is_open():
         file.write(b"def")
         file.seek(0)
         assert file.read() == b"abcdef"
-        told = os.fstat(file.fileno())
-        assert (told.st_nlink, told.st_size) == (0, 6), told
+        reported = os.fstat(file.fileno())
+        assert (reported.st_nlink, reported.st_size) == (0, 6), reported
         assert os.listdir(".") == []
 
 
@@ -126,8 +126,8 @@ def an_unlinked_file_is_looked_at_by_its_descriptor():
     file = os.open("file", os.O_PATH)
     os.unlink("file")
     put("file", b"another")
-    told = os.fstat(file)
-    assert (told.st_nlink, told.st_size) == (0, 3), told
+    reported = os.fstat(file)
+    assert (reported.st_nlink, reported.st_size) == (0, 3), reported
     assert get(f"/proc/self/fd/{file}") == b"abc"
     os.close(file)
     assert get("file") == b"another"
@@ -158,9 +158,9 @@ def modified(name: str) -> str:
 def a_new_file_keeps_its_time():
     for name in ("new", "new"):
         file = os.open(name, os.O_CREAT | os.O_TRUNC | os.O_WRONLY, 0o644)
-        told = os.fstat(file).st_mtime_ns
+        reported = os.fstat(file).st_mtime_ns
         os.close(file)
-        assert modified(name) == f"{told // 10**9}.{told % 10**9:09}"
+        assert modified(name) == f"{reported // 10**9}.{reported % 10**9:09}"
 
 
 @case
@@ -194,10 +194,10 @@ def attributes_are_kept():
     if os.getuid() == 0:
         os.chown("file", 1, 2)
     os.rename("file", "moved")
-    told = os.stat("moved")
-    assert stat.S_IMODE(told.st_mode) == 0o640
-    assert (told.st_atime_ns, told.st_mtime_ns) == (5_000_000_001, 7_000_000_002)
-    assert os.getuid() or (told.st_uid, told.st_gid) == (1, 2)
+    reported = os.stat("moved")
+    assert stat.S_IMODE(reported.st_mode) == 0o640
+    assert (reported.st_atime_ns, reported.st_mtime_ns) == (5_000_000_001, 7_000_000_002)
+    assert os.getuid() or (reported.st_uid, reported.st_gid) == (1, 2)
     put("moved", b"b")
     assert os.stat("moved").st_mtime > 1e9
 
@@ -240,9 +240,9 @@ def numbers_in_a_listing_are_those_of_the_files():
     for i in range(1500):
         put(f"a rather long name of a file, so that pages are many: {i:04}", b"")
     for _ in range(2):
-        told = {entry.name: entry.inode() for entry in os.scandir(".")}
-        assert told == {name: os.stat(name).st_ino for name in told}
-    assert len(told) == 1500
+        reported = {entry.name: entry.inode() for entry in os.scandir(".")}
+        assert reported == {name: os.stat(name).st_ino for name in reported}
+    assert len(reported) == 1500
 
 
 def names_from(folder: int, place: int) -> list[bytes]:

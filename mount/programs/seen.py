@@ -34,11 +34,11 @@ def bytes_of(path: bytes, mode: int) -> bytes:
 
 
 def look(path: bytes, name: bytes, first: dict[int, bytes]) -> Seen:
-    told = os.lstat(path)
-    is_directory = stat.S_ISDIR(told.st_mode)
-    device = told.st_rdev if stat.S_ISCHR(told.st_mode) or stat.S_ISBLK(told.st_mode) else 0
-    return Seen(told.st_mode, told.st_uid, told.st_gid, told.st_mtime_ns, 0 if is_directory else told.st_nlink,
-                first.setdefault(told.st_ino, name), device, bytes_of(path, told.st_mode), extended_of(path))
+    reported = os.lstat(path)
+    is_directory = stat.S_ISDIR(reported.st_mode)
+    device = reported.st_rdev if stat.S_ISCHR(reported.st_mode) or stat.S_ISBLK(reported.st_mode) else 0
+    return Seen(reported.st_mode, reported.st_uid, reported.st_gid, reported.st_mtime_ns, 0 if is_directory else reported.st_nlink,
+                first.setdefault(reported.st_ino, name), device, bytes_of(path, reported.st_mode), extended_of(path))
 
 
 def paths_below(top: bytes, prefix: bytes = b"") -> list[bytes]:

@@ -136,7 +136,7 @@ def what_is_unlinked_and_open_is_not_sent(folder: Path):
 
 
 @case
-def the_kernel_is_told(folder: Path):
+def the_kernel_is_notified(folder: Path):
     one, other = two_mounts(folder)
     make(one.point)
     snapshot(one, "one")

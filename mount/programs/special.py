@@ -15,7 +15,7 @@ def kind(name) -> int:
     return stat.S_IFMT(os.lstat(name).st_mode)
 
 
-def told_kind(entry: os.DirEntry) -> int:
+def reported_kind(entry: os.DirEntry) -> int:
     """What the listing itself tells of an entry, without a look at it: 0 of a fifo or a socket."""
     if entry.is_symlink():
         return stat.S_IFLNK
@@ -25,8 +25,8 @@ def told_kind(entry: os.DirEntry) -> int:
 @case
 def a_link_that_dangles():
     os.symlink("none", "link")
-    told = os.lstat("link")
-    assert (told.st_mode, told.st_size, told.st_nlink) == (stat.S_IFLNK | 0o777, 4, 1), told
+    reported = os.lstat("link")
+    assert (reported.st_mode, reported.st_size, reported.st_nlink) == (stat.S_IFLNK | 0o777, 4, 1), reported
     assert os.readlink("link") == "none"
     refused(errno.ENOENT, os.stat, "link")
     refused(errno.ENOENT, open, "link")
@@ -133,8 +133,8 @@ def attributes_of_a_link_itself():
     assert (os.lstat("link").st_mtime_ns, os.stat("file").st_mtime_ns) == (13, 7)
     if os.getuid() == 0:
         os.lchown("link", 3, 4)
-        told = os.lstat("link")
-        assert (told.st_uid, told.st_gid, os.stat("file").st_uid) == (3, 4, 0)
+        reported = os.lstat("link")
+        assert (reported.st_uid, reported.st_gid, os.stat("file").st_uid) == (3, 4, 0)
     os.rename("link", "moved")
     assert (os.lstat("moved").st_mtime_ns, os.readlink("moved")) == (13, "file")
     os.symlink("file", "link")
@@ -167,7 +167,7 @@ def kinds_in_a_listing():
     os.mkfifo("fifo")
     socket.socket(socket.AF_UNIX).bind("socket")
     kinds = {"folder": stat.S_IFDIR, "file": stat.S_IFREG, "link": stat.S_IFLNK, "fifo": 0, "socket": 0}
-    assert {entry.name: told_kind(entry) for entry in os.scandir(".")} == kinds
+    assert {entry.name: reported_kind(entry) for entry in os.scandir(".")} == kinds
     letters = subprocess.run(["find", ".", "-printf", "%P%y "], capture_output=True, text=True, check=True).stdout
     assert sorted(letters.split()) == ["d", "fifop", "filef", "folderd", "linkl", "sockets"], letters
 
@@ -175,8 +175,8 @@ def kinds_in_a_listing():
 @case
 def two_processes_speak_by_a_fifo():
     os.mkfifo("fifo", 0o640)
-    told = os.lstat("fifo")
-    assert (told.st_mode, told.st_size) == (stat.S_IFIFO | 0o640, 0)
+    reported = os.lstat("fifo")
+    assert (reported.st_mode, reported.st_size) == (stat.S_IFIFO | 0o640, 0)
     refused(errno.ENXIO, os.open, "fifo", os.O_WRONLY | os.O_NONBLOCK)
     write = "import sys; open('fifo', 'wb').write(bytes(range(256)) * 4096)"
     writer = subprocess.Popen([sys.executable, "-c", write])
@@ -227,9 +227,9 @@ def devices():
         os.mknod(f"character{number}", stat.S_IFCHR | 0o600, device)
         os.mknod(f"block{number}", stat.S_IFBLK | 0o640, device)
     for number, device in enumerate(numbers):
-        told = [os.lstat(f"{name}{number}") for name in ("character", "block")]
-        assert [each.st_rdev for each in told] == [device, device]
-        assert [each.st_mode for each in told] == [stat.S_IFCHR | 0o600, stat.S_IFBLK | 0o640]
+        reported = [os.lstat(f"{name}{number}") for name in ("character", "block")]
+        assert [each.st_rdev for each in reported] == [device, device]
+        assert [each.st_mode for each in reported] == [stat.S_IFCHR | 0o600, stat.S_IFBLK | 0o640]
     os.rename("character0", "moved")
     os.chmod("moved", 0o666)
     assert (os.lstat("moved").st_rdev, os.lstat("moved").st_mode) == (numbers[0], stat.S_IFCHR | 0o666)

@@ -16,8 +16,8 @@ def names_in(top: Path) -> int:
 
 
 def counted_right(mount: Mount) -> None:
-    told, seen = os.statvfs(mount.point), names_in(mount.point)
-    assert status_of(mount)["files"] == told.f_files - told.f_ffree == seen, (status_of(mount), told, seen)
+    reported, seen = os.statvfs(mount.point), names_in(mount.point)
+    assert status_of(mount)["files"] == reported.f_files - reported.f_ffree == seen, (status_of(mount), reported, seen)
 
 
 def change_all(top: Path) -> None:
@@ -85,9 +85,9 @@ def a_store_tells_its_log(folder: Path):
     change_all(mount.point)
     (mount.point / "bytes").write_bytes(os.urandom(1 << 20))
     sync(mount.point / "bytes")
-    told = status_of(mount)["store"]
-    assert 1 << 20 < told["log"] < 2 << 20 and told["pending"] == 0 and not told["refuses"], told
-    assert told["last_sync"] < 5, told
+    reported = status_of(mount)["store"]
+    assert 1 << 20 < reported["log"] < 2 << 20 and reported["pending"] == 0 and not reported["refuses"], reported
+    assert reported["last_sync"] < 5, reported
     (mount.point / ".snapshots/one").mkdir()
     (mount.point / "bytes").unlink()
     end_well(mount)
@@ -117,7 +117,7 @@ def what_is_not_synced_waits_and_syncfs_brings_none_of_it_onto_the_disk(folder: 
 
 
 @case
-def a_limit_is_told(folder: Path):
+def a_limit_is_reported(folder: Path):
     mount = Mount(folder, "--size", "64M")
     before = status_of(mount)
     (mount.point / "file").write_bytes(bytes(range(256)) * 40960)

@@ -141,7 +141,7 @@ def log_of(folder: Path, count: int) -> tuple[Path, bytes]:
 
 
 @case
-def a_byte_that_is_changed_is_told(folder: Path):
+def a_byte_that_is_changed_is_reported(folder: Path):
     for count, most in ((3, 1 << 20), (40, 100)):
         log, whole = log_of(folder, count)
         for at in WORKS.sample(range(len(whole)), min(most, len(whole))):
@@ -237,8 +237,8 @@ def owners_and_bits_are_trusted(folder: Path):
         os.chown(file, *owner)
         file.chmod(mode)
         sync(mount.point)
-        told = [it.stat() for it in mount.point.iterdir()]
-        assert all((it.st_uid, it.st_gid) == owner and it.st_mode & 0o7777 == mode for it in told), told
+        reported = [it.stat() for it in mount.point.iterdir()]
+        assert all((it.st_uid, it.st_gid) == owner and it.st_mode & 0o7777 == mode for it in reported), reported
         ends(mount)
 
 
@@ -359,7 +359,7 @@ def and_so_it_is_where_little_may_wait(folder: Path):
 
 
 @case
-def a_log_that_is_missing_is_told(folder: Path):
+def a_log_that_is_missing_is_reported(folder: Path):
     mount = store_mount(folder, "--log-size", "1K")
     fill(mount, 50)
     sync(mount.point)
@@ -433,7 +433,7 @@ def script_lines(text: str) -> list[str]:
 
 
 @case
-def its_logs_are_told_as_the_lines_of_what_was_done(folder: Path):
+def its_logs_are_reported_as_the_lines_of_what_was_done(folder: Path):
     mount = store_mount(folder, "--trace", folder / "record")
     for step, _ in itertools.islice(store_states.steps(7), 400):
         store_states.do(mount.point, step)
@@ -442,10 +442,10 @@ def its_logs_are_told_as_the_lines_of_what_was_done(folder: Path):
     os.setxattr(mount.point / "large", "user.color", b"blue")
     assert subprocess.run([MOUNT, "--dump-log", folder / "store"], capture_output=True).returncode == 1
     end_well(mount)
-    told = subprocess.run([MOUNT, "--dump-log", folder / "store"], capture_output=True, text=True, check=True).stdout
+    reported = subprocess.run([MOUNT, "--dump-log", folder / "store"], capture_output=True, text=True, check=True).stdout
     record = [(folder / f"record.{it}").read_text() for it in ("in", "out")]
     wanted = changes_in(script_lines(record[0]), lines_of_replies(record[1]))
-    assert changes_in(script_lines(told)) == wanted and len(wanted) > 400, len(wanted)
+    assert changes_in(script_lines(reported)) == wanted and len(wanted) > 400, len(wanted)
     assert subprocess.run([MOUNT, "--dump-log", folder / "gone"], capture_output=True).returncode == 1
     assert not (folder / "gone").exists()
 

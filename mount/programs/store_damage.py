@@ -325,7 +325,7 @@ def a_log_that_was_left_whole_is_not_cut_in_silence(folder: Path):
 
 
 @case
-def an_end_is_told_from_a_kill(folder: Path):
+def an_end_is_distinguished_from_a_kill(folder: Path):
     for ends_well in (True, False):
         make_log_alone(folder, ends_well)
         mount = stands(store_mount(folder, *NEVER))

@@ -166,25 +166,25 @@ def fail_and_mend(folder: Path, what: str) -> None:
 
 
 @case
-def a_disk_whose_syncs_fail_is_told_until_an_image_is_whole(folder: Path):
+def a_disk_whose_syncs_fail_is_reported_until_an_image_is_whole(folder: Path):
     fail_and_mend(folder, "sync")
 
 
 @case
-def a_disk_whose_writes_fail_is_told_until_an_image_is_whole(folder: Path):
+def a_disk_whose_writes_fail_is_reported_until_an_image_is_whole(folder: Path):
     fail_and_mend(folder, "write")
 
 
 def removed_before_writes_fail(mount: Mount, disk: FailingDisk, path: Path) -> bool:
     """Whether a file that the kernel still knows was removed before the mount saw that the disk fails, as it then has."""
-    told, end = mount.said().count("is not written"), time.monotonic() + 60
+    reported, end = mount.said().count("is not written"), time.monotonic() + 60
     try:
         with (mount.point / "large").open("wb", buffering=0) as large:
             large.write(bytes(7 << 17))
             disk.fail("write")
             large.write(bytes(1 << 17))
             path.unlink()
-            while mount.said().count("is not written") == told:
+            while mount.said().count("is not written") == reported:
                 assert time.monotonic() < end, mount.said()
                 time.sleep(0.01)
             return True
@@ -310,7 +310,7 @@ def what_a_log_loses_while_an_image_is_written_takes_another_image(folder: Path)
 
 
 @case
-def a_sync_in_time_that_fails_is_told_at_the_next_fsync(folder: Path):
+def a_sync_in_time_that_fails_is_reported_at_the_next_fsync(folder: Path):
     disk = FailingDisk(folder)
     mount = store_mount(folder, environment=disk.environment)
     held = os.open(mount.point / "held", os.O_CREAT | os.O_WRONLY)
@@ -331,22 +331,22 @@ class Syslog(threading.Thread):
 
     def __init__(self):
         super().__init__(daemon=True)
-        self.socket, self.told = socket.socket(socket.AF_UNIX, socket.SOCK_DGRAM), []
+        self.socket, self.reported = socket.socket(socket.AF_UNIX, socket.SOCK_DGRAM), []
         self.socket.bind("/dev/log")
 
     def run(self) -> None:
         while True:
-            self.told.append(self.socket.recv(4096))
+            self.reported.append(self.socket.recv(4096))
 
     def waits_for(self, words: bytes) -> bool:
         ends = time.monotonic() + 20
-        while not any(words in it for it in self.told) and time.monotonic() < ends:
+        while not any(words in it for it in self.reported) and time.monotonic() < ends:
             time.sleep(0.01)
-        return any(words in it for it in self.told)
+        return any(words in it for it in self.reported)
 
 
 @case
-def in_the_background_it_is_told_to_syslog(folder: Path):
+def in_the_background_it_is_reported_to_syslog(folder: Path):
     if os.getuid() or os.path.lexists("/dev/log"):
         return
     disk, point, syslog = FailingDisk(folder), folder / "mnt", Syslog()
@@ -358,7 +358,7 @@ def in_the_background_it_is_told_to_syslog(folder: Path):
         disk.fail("sync")
         refused(errno.EIO, sync, point)
         disk.mend()
-        assert syslog.waits_for(b"changes are refused"), syslog.told
+        assert syslog.waits_for(b"changes are refused"), syslog.reported
         subprocess.run([MOUNT, "--unmount", point], check=True)
     finally:
         os.unlink("/dev/log")
@@ -366,7 +366,7 @@ def in_the_background_it_is_told_to_syslog(folder: Path):
 
 
 @case
-def a_disk_that_fails_at_the_end_is_told(folder: Path):
+def a_disk_that_fails_at_the_end_is_reported(folder: Path):
     disk = FailingDisk(folder)
     mount = store_mount(folder, environment=disk.environment)
     (mount.point / "kept").write_text("kept")
@@ -404,7 +404,7 @@ def fill_disk(folder: Path, disk: Path) -> None:
 
 
 @case
-def a_full_disk_is_told_and_keeps_what_was_synced(folder: Path):
+def a_full_disk_is_reported_and_keeps_what_was_synced(folder: Path):
     on_small_disk(folder, lambda disk: fill_disk(folder, disk))
 
 
@@ -438,7 +438,7 @@ def take_all_room(file: Path) -> None:
 
 
 @case
-def a_disk_that_is_full_at_the_end_is_told(folder: Path):
+def a_disk_that_is_full_at_the_end_is_reported(folder: Path):
     def work(disk: Path) -> None:
         mount = Mount(folder, "--store", disk / "store")
         (mount.point / "kept").write_text("kept")

@@ -52,8 +52,8 @@ def wait_for_sum(folder: Path, number: int) -> None:
 
 
 def is_new(folder: Path, number: int) -> bool:
-    log, told = (folder / f"store/log.{number}").read_bytes(), (folder / f"store/tree.{number}.sum").read_text()
-    return log.startswith(b"dvlog 2\n") and told.startswith("doorvervain checkpoint 2\n")
+    log, stated = (folder / f"store/log.{number}").read_bytes(), (folder / f"store/tree.{number}.sum").read_text()
+    return log.startswith(b"dvlog 2\n") and stated.startswith("doorvervain checkpoint 2\n")
 
 
 def digests(folder: Path) -> dict[str, str]:

@@ -15,7 +15,7 @@ from typing import NamedTuple
 from cases import refused as not_made
 from failing_disk import FailingDisk
 from kept import restore
-from mixed_trees import change, change_at_random, make, told
+from mixed_trees import change, change_at_random, make, reported
 from own_mount import MOUNT, Mount, case, run_cases
 from own_store import KILLS, WORKS, due_once_it_stands, end_well, first_files, kill, logs, on_small_disk, snapshot, store_mount, sync, write_sums
 from seen import alike, seen
@@ -27,16 +27,16 @@ AT_ONCE, NEVER = ("--log-size", "1K"), ("--log-size", "1G")
 
 class State(NamedTuple):
     """All that is seen of a tree."""
-    told: list[str]
+    reported: list[str]
     seen: dict
 
 
 def state(top: Path) -> State:
-    return State(told(top), seen(top))
+    return State(reported(top), seen(top))
 
 
 def same(one: State, other: State) -> None:
-    assert one.told == other.told, set(one.told) ^ set(other.told)
+    assert one.reported == other.reported, set(one.reported) ^ set(other.reported)
     alike(one.seen, other.seen)
 
 
@@ -463,7 +463,7 @@ def damages(whole: bytes) -> Iterator[bytes]:
 
 
 @case
-def what_is_damaged_is_told(folder: Path):
+def what_is_damaged_is_reported(folder: Path):
     wanted = three_trees(folder)
     mount = stands(store_mount(folder, *AT_ONCE))
     write_image(folder, mount, 1)
@@ -483,8 +483,8 @@ def and_so_it_is_where_the_checksum_is_right(folder: Path):
     mount = stands(store_mount(folder, *AT_ONCE))
     write_image(folder, mount, 1)
     end_well(mount)
-    file, told_sum = folder / "store/snapshots.1", folder / "store/tree.1.sum"
-    whole, sum_of_whole = file.read_bytes(), told_sum.read_bytes()
+    file, reported_sum = folder / "store/snapshots.1", folder / "store/tree.1.sum"
+    whole, sum_of_whole = file.read_bytes(), reported_sum.read_bytes()
     some = b"snapshot 2nd\n"
     front, back = whole.split(some)
     lines = list(applied((folder / "store/tree.1").read_bytes().splitlines(keepends=True), texts(folder, 1)[0][1]))
@@ -498,9 +498,9 @@ def and_so_it_is_where_the_checksum_is_right(folder: Path):
         write_sums(folder / "store", 1)
         refused(folder, "snapshots.1: the snapshot .* is not made: ")
     file.write_bytes(whole)
-    told_sum.unlink()
+    reported_sum.unlink()
     refused(folder, "tree.1.sum is missing")
-    told_sum.write_bytes(sum_of_whole)
+    reported_sum.write_bytes(sum_of_whole)
     file.unlink()
     refused(folder, "snapshots.1 is missing")
     file.write_bytes(whole)

@@ -83,7 +83,7 @@ class Model:
             self.drop(other)
         self.names[other] = self.names.pop(name)
 
-    def told(self) -> dict:
+    def reported(self) -> dict:
         """What is seen of the folder."""
         seen = {}
         for name, number in self.names.items():
@@ -94,14 +94,14 @@ class Model:
 
 
 def seen(folder: Path) -> dict:
-    told = {}
+    reported = {}
     for entry in os.scandir(folder):
         if entry.is_dir():
-            told[entry.name] = "folder"
+            reported[entry.name] = "folder"
         else:
             stat = entry.stat()
-            told[entry.name] = (Path(entry.path).read_bytes(), stat.st_mode & 0o7777, stat.st_nlink)
-    return told
+            reported[entry.name] = (Path(entry.path).read_bytes(), stat.st_mode & 0o7777, stat.st_nlink)
+    return reported
 
 
 def steps(number: int) -> Iterator[tuple[Step, Model]]:

@@ -1,7 +1,7 @@
-// A process that ends the kernel's connection of a mount whose process was killed.
+// Aborts the kernel's connection of a mount whose process was killed.
 //
-// A thread that tells the kernel to forget names or bytes may wait for a lock whose holder waits for the mount. If the
-// process is killed then, that thread does not end, and so the connection stays, which only its end closes.
+// A thread that notifies the kernel of stale names or bytes may wait for a lock whose holder waits for the mount. If
+// the process is killed then, that thread does not end, and the connection stays open until it is aborted.
 #ifndef ABORT_WATCH_H
 #define ABORT_WATCH_H
 

@@ -1,7 +1,5 @@
-// Answers to the kernel that may have to wait for the disk: that of an fsync(2), with --sync that of each change, and
-// that
-// of a change behind which a store has too much to write. The thread that serves requests does not wait: another thread
-// answers.
+// Replies to the kernel that may have to wait for the disk: to fsync(2), with --sync to each change, and to a change
+// after which a store has too much to write. The thread that serves requests does not wait: another thread sends them.
 #ifndef ANSWERS_H
 #define ANSWERS_H
 #define FUSE_USE_VERSION 35

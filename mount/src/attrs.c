@@ -45,7 +45,7 @@ static int form_record_path(struct record_cache *last, const char *path, char ou
     return 0;
 }
 
-// The path of a record names the folder that it lies in.
+// The path of a record names the directory that it lies in.
 static int find_record(struct mount *mount, const char *path, struct record_path *out) {
     out->folder[0] = 0;
     if (is_private(path)) {
@@ -157,7 +157,7 @@ static bool look_for_records(struct mount *mount, const struct inode *directory)
     return backend_stat(&mount->backend, (struct path_ref){resolved.snapshot, folder}, &node_stat) != ENOENT;
 }
 
-// Whether nothing below a directory has a record. That is remembered until a folder for records comes or goes.
+// Whether nothing below a directory has a record. That is remembered until a directory for records comes or goes.
 static bool no_records_below(struct mount *mount, struct inode *directory) {
     if (!directory || directory->role == PRIVATE_DIR) return false;
     if (directory->records_gen != mount->record_dirs_gen)
@@ -234,13 +234,13 @@ static int make_folder_once(struct txn *txn, const char *path) {
     return txn_create(txn, CALL_MKDIR, path, txn->at, txn->at);
 }
 
-// What stands at a path goes, and a folder comes.
+// What is at a path goes, and a directory comes.
 static int make_folder_instead(struct txn *txn, const char *path) {
     int err = txn_remove(txn, path);
     return err ? err : make_folder_once(txn, path);
 }
 
-// Makes one folder. A file that an image has in its place goes.
+// Makes one directory. A file that an image has in its place goes.
 static int make_folder(struct txn *txn, const char *path) {
     const struct backend *backend = &txn->mount->backend;
     struct node_stat node_stat;
@@ -250,7 +250,7 @@ static int make_folder(struct txn *txn, const char *path) {
     return err || node_stat.is_directory ? err : make_folder_instead(txn, path);
 }
 
-// Makes a folder for records, and those above it that do not stand.
+// Makes a directory for records, and those above it that do not stand.
 static int make_folders(struct txn *txn, const char *path) {
     char part[LONGEST_PATH + 1];
     size_t length = strlen(path), end = length;
@@ -289,7 +289,7 @@ static int make_text(struct txn *txn, const struct record_path *record_path, con
     return err ? err : backend->ops->write(backend->self, record_path->file, 0, text->at, text->length, txn->at, &done);
 }
 
-// What stands there is an earlier record or nothing; or a folder, which an image had there, and which goes.
+// What stands there is an earlier record or nothing; or a directory, which an image had there, and which goes.
 static int put_text(struct txn *txn, const struct record_path *record_path, const struct bytes *text) {
     int err = txn_write(txn, record_path->file, text->at, text->length);
     if (err != EISDIR && err != ENOENT && err != ENOTDIR) return err;
@@ -298,7 +298,7 @@ static int put_text(struct txn *txn, const struct record_path *record_path, cons
     return err ? err : make_text(txn, record_path, text);
 }
 
-// The folder of the record of what was just made. What an image left in its place goes.
+// The directory of the record of what was just made. What an image left in its place goes.
 static int make_fresh_folder(struct txn *txn, const char *folder) {
     int err = make_folder_once(txn, folder);
     if (err == EEXIST) return make_folder_instead(txn, folder);
@@ -349,7 +349,7 @@ int attrs_rewrite(struct txn *txn, struct inode *inode, struct attrs *attrs) {
     struct resolved_path resolved;
     struct bytes extended = {NULL};
     int err = inode_path(inode, NULL, &resolved);
-    if (err) return err == ENOENT ? 0 : err; // A folder that is gone.
+    if (err) return err == ENOENT ? 0 : err; // A directory that is gone.
     if (attrs->has_extended) err = attrs_read_extended(txn, resolved.path, &extended);
     if (!err) err = attrs_write(txn, resolved.path, attrs, &extended);
     bytes_free(&extended);
@@ -385,7 +385,7 @@ int attrs_erase(struct txn *txn, struct inode *parent, const char *path, const s
     return err && err != ENOMEM ? attrs_drop(txn, parent, path) : err;
 }
 
-// The folder above the new one mostly stands.
+// The directory above the new one mostly stands.
 static int move_folder(struct txn *txn, const char *from, const char *to) {
     char above[LONGEST_PATH + 1];
     int moved = txn_rename(txn, from, to, txn->at, txn->at);

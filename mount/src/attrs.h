@@ -1,9 +1,9 @@
-// The attributes of entries, as records in the volume. An entry whose attributes are the usual ones has none: those are
-// mode 644 or, of a folder, 755, the owner of the mount, one name and the tree's own time.
+// The attributes of entries, as records in the volume. An entry with the default attributes has no record: mode 644, or
+// 755 for a directory, the owner of the mount, one name, and the mtime of the tree.
 //
-// Where a record lies and what its text is are proved functions of the library. The record of
-// /a/b is a file in the mirrored folder /.doorvervain/tree/a/b, so that a folder's rename moves the records below it at
-// once. A file of the mount's own has its record beside it.
+// The path and the text of a record are proved functions of the library. The record of /a/b is a file in the directory
+// /.doorvervain/tree/a/b, so one rename of a directory moves all records below it. A file in the private directory has
+// its record beside it.
 #ifndef ATTRS_H
 #define ATTRS_H
 #include "txn.h"
@@ -25,7 +25,7 @@ int attrs_read_extended(struct txn *txn, const char *path, struct bytes *out);
 // it.
 int attrs_read_name(struct mount *mount, struct inode *parent, const struct resolved_path *resolved, bool is_directory,
                     struct attrs *out);
-// The names in a directory that have records at or below them, each behind a byte as `struct backend_ops` tells names.
+// The names in a directory that have records at or below them, each after a byte as `struct backend_ops` tells names.
 int attrs_list(struct mount *mount, struct inode *directory, struct bytes *out);
 // The attributes of an inode, which are read where they are not known.
 int attrs_of(struct mount *mount, struct inode *inode, const struct attrs **out);

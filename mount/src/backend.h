@@ -1,7 +1,7 @@
 // A backend of the file system: the library, or a layer over another backend.
 //
-// Every function answers 0 or a number of <errno.h>, and a call that is refused changes nothing. One call is under way
-// at a time: who calls holds a lock.
+// Every function returns 0 or an errno, and a call that fails changes nothing. One call runs at a time: the caller
+// holds a lock.
 #ifndef BACKEND_H
 #define BACKEND_H
 #include "bytes.h"
@@ -31,11 +31,11 @@ struct path_ref {
     const char *path;
 };
 
-// What stands at a path.
+// What is at a path.
 struct node_stat {
     bool is_directory;
     uint64_t length;   // of a file, in bytes
-    uint64_t mtime_ns; // its moment of last change
+    uint64_t mtime_ns; // its mtime
 };
 
 // A run of bytes of a file that are stored; empty, and at the file's end, where no more are.
@@ -56,16 +56,16 @@ struct backend_ops {
     // At most LARGEST_READ bytes, and fewer at the end of the file.
     int (*read)(void *self, struct path_ref ref, uint64_t offset, char *out, size_t capacity, size_t *got);
     int (*stat)(void *self, struct path_ref ref, struct node_stat *out);
-    // Each name as `d` or `f`, the name and a byte 0, behind what `out` has.
+    // Each name as `d` or `f`, the name and a byte 0, after what `out` has.
     int (*readdir)(void *self, struct path_ref ref, struct bytes *out);
     int (*snapshot)(void *self, enum snapshot_call what, const char *snapshot);
     // So many bytes from `offset` on become zeros that take no room; the file keeps its length.
     int (*punch)(void *self, const char *path, uint64_t offset, uint64_t count, uint64_t at);
-    // The next run of bytes that are stored, at or behind `offset`. Those before it read as zeros.
+    // The next run of bytes that are stored, at or after `offset`. Those before it read as zeros.
     int (*next_extent)(void *self, struct path_ref ref, uint64_t offset, struct extent *out);
     // Does at most so many steps that move pending changes down: how many.
     unsigned (*compact)(void *self, unsigned steps);
-    // How many such steps are due behind the changes that were made.
+    // How many such steps are due after the changes that were made.
     unsigned (*compaction_debt)(void *self);
     // Another backend that has a fork of the live tree, without its snapshots, and no log: used and closed by any thread,
     // with no lock. EOPNOTSUPP: there is to be none.
@@ -78,7 +78,7 @@ struct backend_ops {
     int (*close)(void *self, struct image *image);
 };
 
-// A file system that stands.
+// A file system that is mounted.
 struct backend {
     const struct backend_ops *ops;
     void *self;
@@ -139,7 +139,7 @@ struct etcd_options {
 struct open_options {
     const char *image;         // a file with the tree to begin with; null: the empty tree
     const _Atomic bool *stops; // where it becomes true, that is not read on: ECANCELED; null: nothing stops it
-    const char *store;         // the folder that keeps it; null: none does
+    const char *store;         // the directory that keeps it; null: none does
     bool syncs_each;           // a store is synced at each change
     uint64_t log_size;         // bytes of its log that make another image worth its while
     const char *trace;         // the name in front of `.in` and `.out`, where all calls and replies go; null: nowhere

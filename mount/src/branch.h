@@ -1,5 +1,4 @@
-// A tree beside the live one: a fork of it, to which calls are done while requests go on, and which then takes its
-// place.
+// A fork of the live tree, which calls change while requests are served, and which then replaces the live tree.
 #ifndef BRANCH_H
 #define BRANCH_H
 #include "mount.h"

@@ -1,5 +1,5 @@
-// Whether the thread that serves stays awake until the next request. To wake it takes several microseconds, and where
-// requests come densely the next one is there sooner than it slept.
+// Whether the serving thread polls for the next request instead of sleeping. Waking it takes several microseconds, and
+// under a dense load the next request comes sooner than that.
 #ifndef BUSY_POLL_H
 #define BUSY_POLL_H
 #include <stdbool.h>

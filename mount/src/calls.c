@@ -1,4 +1,6 @@
 // Times the calls of the library's backend without FUSE: out/calls. A row has the name of a call and its microseconds.
+//
+// Invariant: a call that fails ends the program, so each row is of calls that were done.
 #include "backend.h"
 #include <stdio.h>
 #include <stdlib.h>

@@ -13,7 +13,7 @@
 
 enum { BLOCK = 4096, MOST_AT_ONCE = 256, MOST_BLOCKS = 1 << 28 };
 
-// A folder that gets or loses an entry, and the moment that it has in the end.
+// A directory that gets or loses an entry, and the moment that it has in the end.
 struct dir_mtime {
     size_t path;
     uint64_t mtime_ns;
@@ -62,7 +62,7 @@ static struct delta_entry **sort_entries(struct delta *delta, const struct bytes
     return out;
 }
 
-// A folder below which no name fits gets no other moment: it goes, and comes.
+// A directory below which no name fits gets no other moment: it goes, and comes.
 static bool may_stay(const struct delta *delta, const struct delta_entry *entry) {
     return !entry->is_directory || strlen(path_at(delta, entry->path)) + 2 <= LONGEST_PATH;
 }
@@ -97,7 +97,7 @@ static int sort_all(struct delta_applier *applier) {
     return 0;
 }
 
-// ---- folders
+// ---- directories
 
 // The entry that comes at a path; null where none does.
 static const struct delta_entry *find_added(const struct delta_applier *applier, const char *path) {
@@ -117,7 +117,7 @@ static int note_dir_mtime(struct delta_applier *applier, size_t path, uint64_t m
     return bytes_append(&applier->dir_mtimes, &dir, sizeof dir);
 }
 
-// The path of the folder above an entry: how many bytes it has.
+// The path of the directory above an entry: how many bytes it has.
 static size_t parent_length(const char *path) {
     size_t length = (size_t)(strrchr(path, '/') - path);
     return length ? length : 1;
@@ -130,7 +130,7 @@ static bool is_noted(const struct delta_applier *applier, const char *path, size
     return !strncmp(noted, path, length) && !noted[length];
 }
 
-// A folder that does not come itself keeps its moment. One that is new has none yet, and comes.
+// A directory that does not come itself keeps its moment. One that is new has none yet, and comes.
 static int note_parent(struct delta_applier *applier, const struct delta_entry *entry) {
     const struct backend *backend = applier->backend;
     struct delta *delta = applier->delta;
@@ -206,7 +206,7 @@ static struct block_range blocks_of(const struct delta_applier *applier, const c
     return (struct block_range){blocks + from, to - from};
 }
 
-// Blocks that go one behind the other become one hole.
+// Blocks that go one after the other become one hole.
 static int punch_all(struct delta_applier *applier, const char *path, struct block_range blocks, uint64_t at) {
     const struct backend *backend = applier->backend;
     uint64_t from = 0, count = 0;
@@ -225,7 +225,7 @@ static int punch_all(struct delta_applier *applier, const char *path, struct blo
     return err;
 }
 
-// Bytes of blocks one behind the other, before they are written.
+// Bytes of blocks one after the other, before they are written.
 struct gathered {
     uint64_t from;
     size_t length;

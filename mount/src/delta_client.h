@@ -1,4 +1,4 @@
-// Differences of trees from a mount that stands, and to one: the process that asks.
+// The processes of --send and --receive, which ask a mount for a delta, or give it one.
 #ifndef DELTA_CLIENT_H
 #define DELTA_CLIENT_H
 

@@ -1,7 +1,5 @@
-// Differences of trees, out of a mount that stands and into it.
-//
-// Who sends or receives asks by ioctl(2) on the root. The text goes by pieces, and belongs to the root as it was
-// opened: so it is gone with whoever asked.
+// The ioctls of --send and --receive, on the root of the mount. The text is transferred in pieces, and belongs to the
+// root as it was opened, so it is freed with the process that opened it.
 #ifndef DELTA_IOCTL_H
 #define DELTA_IOCTL_H
 #include "request.h"

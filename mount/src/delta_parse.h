@@ -1,5 +1,4 @@
-// What a difference says of entries and of blocks, read beside the image of the tree that it is of; and the calls that
-// do so.
+// A parsed delta: its entries and the blocks that it patches, read beside the image of the old tree.
 #ifndef DELTA_PARSE_H
 #define DELTA_PARSE_H
 #include "sha256.h"
@@ -21,7 +20,7 @@ struct block {
 };
 
 struct delta {
-    struct bytes paths;          // each with a byte 0 behind it
+    struct bytes paths;          // each with a byte 0 after it
     struct bytes removed, added; // as struct delta_entry, in the order of their images
     struct bytes blocks;         // as struct block
     struct bytes copies;         // as char *: digits that stand in no text

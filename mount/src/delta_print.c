@@ -18,7 +18,7 @@ enum { PIECE = 1 << 18, ROOM = 2 * PIECE, LONGEST_PATH_TEXT = 4096 };
 struct walk {
     struct doorvervain_printer *image;
     struct sha256 *sum; // of all that came; null: none is wanted
-    const char *line;   // null: behind the last
+    const char *line;   // null: after the last
     size_t length;      // without its line feed
     uint64_t rank;      // 0: an entry's own line; else one more than the number of a block
     size_t path_length;
@@ -37,7 +37,7 @@ struct delta_printer {
 
 // ---- lines
 
-// More bytes of the image, behind those that are left.
+// More bytes of the image, after those that are left.
 static int read_more(const struct delta_io *io, struct walk *walk, size_t *size) {
     memmove(walk->bytes, walk->bytes + walk->from, walk->to - walk->from);
     walk->to -= walk->from;

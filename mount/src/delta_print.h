@@ -1,6 +1,5 @@
-// The difference of two images that are printed side by side, piece by piece: neither they nor the text have to fit
-// into
-// memory, and between two pieces other calls of the volume are made.
+// Prints the delta between two images, piece by piece: neither the images nor the text have to fit into memory, and
+// other calls of the volume may run between two pieces.
 #ifndef DELTA_PRINT_H
 #define DELTA_PRINT_H
 #include "doorvervain.h"

@@ -21,12 +21,12 @@
 
 enum { PIECE = 1 << 16 }; // bytes that are compared at a time
 
-// A folder of each tree, or -1 where it has none.
+// A directory of each tree, or -1 where it has none.
 struct pair {
     int old, new;
 };
 
-// The names in a folder, in their order.
+// The names in a directory, in their order.
 struct names {
     struct dirent **at;
     int count;
@@ -79,7 +79,7 @@ static int compare_bytes(struct pair files, off_t size, bool *same) {
     return 0;
 }
 
-// The extended attributes of an entry one behind the other: name, length and value.
+// The extended attributes of an entry one after the other: name, length and value.
 static int extended_of(int file, struct bytes *out) {
     static char names[XATTR_LIST_MAX], value[XATTR_SIZE_MAX];
     ssize_t count = flistxattr(file, names, sizeof names);
@@ -104,7 +104,7 @@ static int compare_extended(struct pair files, bool *same) {
     return err;
 }
 
-// What a file or a folder has beside what its times tell.
+// What a file or a directory has beside what its times tell.
 static int compare_inside(struct pair in, const char *name, const struct stat *stat, bool *same) {
     struct pair files = {open_in(in.old, name, O_RDONLY), open_in(in.new, name, O_RDONLY)};
     int err = files.old < 0 || files.new < 0 ? errno : 0;
@@ -135,7 +135,7 @@ static int compare(struct pair in, const char *name, const struct stat *old, con
 
 // ---- what is printed
 
-// A folder that came or went is one line, with a slash behind its name, for all that is below it.
+// A directory that came or went is one line, with a slash after its name, for all that is below it.
 static int print_line(char sign, const struct bytes *path, mode_t mode) {
     bool is_whole = sign != 'M' && S_ISDIR(mode);
     struct bytes text = {NULL};
@@ -164,7 +164,7 @@ static int print_kept(struct pair in, const char *name, const struct stat *old, 
     return err;
 }
 
-// Tells of one name, which one of the folders has, or both.
+// Tells of one name, which one of the directories has, or both.
 static int print_name(struct pair in, const char *name, bool had, bool has, struct bytes *path) {
     struct stat old, new;
     if (had && fstatat(in.old, name, &old, AT_SYMLINK_NOFOLLOW)) return errno;

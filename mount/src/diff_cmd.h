@@ -1,4 +1,4 @@
-// What changed behind a snapshot, for people.
+// The process of --diff: what changed since a snapshot, for people.
 #ifndef DIFF_CMD_H
 #define DIFF_CMD_H
 

@@ -1,4 +1,4 @@
-// How many names the live tree has: for statfs(2) and --status.
+// The number of names in the live tree, for statfs(2) and --status.
 #ifndef ENTRY_COUNT_H
 #define ENTRY_COUNT_H
 #include "mount.h"

@@ -22,7 +22,7 @@ static int refuse(const char *what, const char *which) {
 
 static bool begins(const char *text, const char *with) { return !strncmp(text, with, strlen(with)); }
 
-// A host of this very machine, told by its number or as `localhost`.
+// Whether the host is this machine, by its number or as `localhost`.
 static bool is_loopback(const char *url) {
     static const char *const known[] = {"127.", "localhost:", "[::1]:"};
     const char *host = strstr(url, "://") + 3;
@@ -33,9 +33,9 @@ static bool is_loopback(const char *url) {
 
 // Over a network a member tells who it is, and this mount does.
 static int may_speak(const struct etcd_options *options, const char *url) {
-    bool is_told = options->cacert && (options->cert || options->user);
+    bool is_authenticated = options->cacert && (options->cert || options->user);
     if (strpbrk(strstr(url, "://") + 3, "@/?#")) return refuse("no member: ", url);
-    if (is_loopback(url) || (begins(url, "https://") && is_told)) return 0;
+    if (is_loopback(url) || (begins(url, "https://") && is_authenticated)) return 0;
     return refuse("a member that is not on this machine takes https, --cacert, and --cert or --user: ", url);
 }
 

@@ -1,4 +1,4 @@
-// Questions to the members of etcd, by HTTP and JSON. One thread has one.
+// Requests to the members of etcd, by HTTP and JSON. Each thread has its own client.
 #ifndef ETCD_CLIENT_H
 #define ETCD_CLIENT_H
 #include "backend.h"

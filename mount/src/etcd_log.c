@@ -308,7 +308,7 @@ static int begin_threads(struct etcd_log *log) {
     return err;
 }
 
-// The log is watched behind a checkpoint, or from its first version on.
+// The log is watched after a checkpoint, or from its first version on.
 static int begin_at_checkpoint(struct etcd_log *log, struct log_start *start) {
     int err = ask_newest(log, &start->newest);
     if (err) return err;

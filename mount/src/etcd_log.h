@@ -1,11 +1,11 @@
-// The log in etcd, by the JSON interface of its members: two threads, one of which puts, while the other one watches.
+// The shared log in etcd, by the JSON interface of its members: one thread puts values, and one watches.
 #ifndef ETCD_LOG_H
 #define ETCD_LOG_H
 #include "replica_checkpoint.h"
 
 enum { LARGEST_VALUE = 1000000 };
 
-// What stands in front of a value: which mount put it, which of its puts it was, and which part of that, of how many.
+// What precedes a value: which mount put it, which of its puts it was, and which part of that, of how many.
 struct value_header {
     char mark[8];
     uint64_t mount, serial, part, parts;
@@ -29,12 +29,12 @@ struct log_start {
     int image; // the file of its image; -1: there is none
 };
 
-// Refuses members that may not be spoken to, with a word on standard error; begins to watch behind the checkpoint.
+// Refuses members that may not be spoken to, with a word on standard error; begins to watch after the checkpoint.
 int etcd_log_open(const struct etcd_options *options, struct etcd_log **out, struct log_start *start);
 const struct members *etcd_log_members(const struct etcd_log *log);
 // Lets the file that is polled for be read.
 void etcd_log_wake(struct etcd_log *log);
-// Once the log could not be read any more: it is read behind another checkpoint.
+// Once the log could not be read any more: it is read after another checkpoint.
 void etcd_log_resume(struct etcd_log *log, const struct checkpoint *from);
 // Ends its threads, and says on standard error what each member that gave no values answered.
 void etcd_log_print_errors(struct etcd_log *log);

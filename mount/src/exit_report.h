@@ -1,7 +1,7 @@
-// How a mount ends, told to who waits for it (`--unmount`).
+// The report of how a mount ended, for the process of --unmount.
 //
-// A mount has a pipe that it alone writes to. Who waits asks by ioctl(2) where that is, opens it through /proc, takes
-// the mount away, and reads it to its end: what failed, and last the status.
+// A mount has a pipe to which it alone writes. The process of --unmount finds it by ioctl(2), opens it through /proc,
+// unmounts, and reads it to its end: the error messages, and last the status.
 #ifndef EXIT_REPORT_H
 #define EXIT_REPORT_H
 #include <stdint.h>

@@ -1,5 +1,5 @@
-// Extended attributes, in the form in which the archive packs them into a record: each by its name, a byte 0, four
-// bytes of its length with the lowest first, and its value, in rising order of names.
+// Extended attributes, as the library encodes them in a record: each as its name, a byte 0, four little-endian bytes of
+// its length, and its value, in ascending order of names.
 #ifndef EXTENDED_H
 #define EXTENDED_H
 #include "request.h"

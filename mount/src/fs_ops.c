@@ -79,7 +79,7 @@ static struct timespec later(struct timespec one, struct timespec other) {
     return is_later ? other : one;
 }
 
-// A time that was set by hand is told for as long as the tree has the moment at which it was set.
+// A time that was set by hand is told for as long as the tree has the timestamp at which it was set.
 static struct timespec time_of_bytes(const struct doorvervain_attributes *base, uint64_t mtime_ns) {
     bool holds = base->has_modified && base->held == mtime_ns;
     if (holds && !base->modified) return (struct timespec){0};
@@ -167,7 +167,7 @@ int fs_getattr(struct mount *mount, struct inode *inode, struct stat *out) {
 
 // ---- what is set
 
-// A file that is cut, or lengthened, at a moment; one that keeps its length gets the moment alone.
+// A file that is cut, or lengthened, at a moment; one that keeps its length gets the mtime alone.
 struct truncation {
     bool is_wanted, lengthens;
     uint64_t length, at;

@@ -1,6 +1,5 @@
-// What each request does: to the tree by its backend, and to the inodes. Each function is called under the request
-// lock,
-// and answers 0 or a number of <errno.h>; one that is refused changes nothing.
+// What each request on a file or directory does to the tree, by its backend, and to the inodes. Each function is called
+// under the request lock, and returns 0 or an errno; one that fails changes nothing.
 #ifndef FS_OPS_H
 #define FS_OPS_H
 #include "request.h"
@@ -29,7 +28,7 @@ struct create_args {
     const char *target; // of a symbolic link
 };
 
-// Called once the volume stands.
+// Called once the volume is open.
 int fs_start(struct mount *mount);
 // Nothing is open any more: what was unlinked goes.
 int fs_end(struct mount *mount);

@@ -100,7 +100,7 @@ struct link_args {
     struct attrs attrs;            // that the file will have
 };
 
-// The file's bytes in its place, and an empty file where they were. The folder of its name keeps its moment.
+// The file's bytes in its place, and an empty file where they were. The directory of its name keeps its moment.
 static int place_bytes(struct txn *txn, const struct link_args *args, const struct resolved_path *resolved,
                        const char *path) {
     struct node_stat parent;

@@ -1,5 +1,5 @@
-// Files of several names. Such a file stands in the mount's own folder `links`, under a number; each name is an empty
-// file whose record leads there. How many names there are stands in the record of the file.
+// Files with several names. Such a file is in the private directory `links`, under a number; each name is an empty file
+// whose record has that number. The record of the file has its number of names.
 #ifndef HARDLINKS_H
 #define HARDLINKS_H
 #include "orphan.h"

@@ -1,4 +1,4 @@
-// Bytes of a file that are not stored, and read as zeros; and how many are.
+// Holes of files, which are not stored and read as zeros, and the number of bytes that are stored.
 #ifndef HOLES_H
 #define HOLES_H
 #include "request.h"
@@ -7,7 +7,7 @@
 int holes_allocate(struct request *request, struct inode *inode, int mode, uint64_t offset, uint64_t count);
 // The next place of data or of a hole, by lseek(2): ENXIO where none is.
 int holes_seek(struct mount *mount, struct inode *inode, uint64_t offset, int whence, uint64_t *out);
-// How many bytes are stored of what stands at an entry. It is remembered until the file changes.
+// How many bytes are stored of what is at an entry. It is remembered until the file changes.
 uint64_t holes_stored(struct mount *mount, struct inode *inode, struct node_stat node_stat);
 
 // What is remembered follows a change: a file has all of its bytes, so many; bytes were written; it was cut.

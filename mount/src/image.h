@@ -1,8 +1,8 @@
-// The file that the image of a tree goes to at the end of a mount, and the one that a mount begins with.
+// The file with the image of a tree: a mount loads it at its start, and writes it at its end.
 //
-// FILE is opened and tried before anything is mounted. The image is written beside it, into FILE.part, and gets the
-// name when it is whole and on the disk: until then FILE is what it was. FILE.sum has its checksum. Who reads FILE
-// later sees by that whether it was cut or changed.
+// FILE is opened and checked before anything is mounted. The image is written to FILE.part, which is renamed to FILE
+// when it is complete and synced; until then FILE is unchanged. FILE.sum has its SHA-256 digest, which shows later
+// whether FILE was truncated or changed.
 #ifndef IMAGE_H
 #define IMAGE_H
 #include "sha256.h"

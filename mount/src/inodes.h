@@ -1,12 +1,12 @@
-// The inodes that the kernel knows, as a tree of the names that lead to them. All of this is a cache: an inode goes
-// when the kernel forgets it. What lasts stands in the volume. No proof covers any of this.
+// The inodes that the kernel knows, by parent and name. All of this is a cache: an inode is freed when the kernel
+// forgets it, and what must last is in the volume. No proof covers any of this.
 #ifndef INODES_H
 #define INODES_H
 #include "backend.h"
 #include <sys/stat.h>
 #include <time.h>
 
-// Folders of the root that are the mount's own, and those below the second.
+// Directories of the root that are the mount's own, and those below the second.
 #define SNAPSHOTS ".snapshots"
 #define RESERVED DOORVERVAIN_RESERVED
 #define LINKS "links"
@@ -17,14 +17,14 @@ enum role {
     LIVE_ROOT,       // the root of the mount
     SNAPSHOT_FOLDER, // /.snapshots
     SNAPSHOT_ROOT,   // /.snapshots/NAME
-    PRIVATE_DIR,     // the reserved folder, and those in it: no listing shows them
+    PRIVATE_DIR,     // the reserved directory, and those in it: no listing shows them
 };
 
 struct attrs {
     struct doorvervain_attributes base; // but the times below, and the extended attributes
     bool has_record;
     bool has_extended;
-    uint64_t changed; // the moment of the record
+    uint64_t changed; // the timestamp of the record
 };
 
 struct inode {
@@ -35,7 +35,7 @@ struct inode {
     char *name;
     enum role role;
     bool is_directory;
-    bool is_unlinked; // its name is gone, and it stands in the folder for that
+    bool is_unlinked; // its name is gone, and it stands in the directory for that
     uint64_t ino;     // as stat(2) tells it: no other entry has it, or had it
     uint64_t link;    // its number as a file of several names; 0: its name is its own
     uint64_t nlookup; // what the kernel holds
@@ -44,10 +44,10 @@ struct inode {
     uint64_t attrs_gen;    // when the attributes were read
     uint64_t records_gen;  // when records below this directory were looked for
     bool no_records_below; // there were none
-    // Of a directory, for prune.h. A name in it that had a record, as the folder for records has it; null: none is
+    // Of a directory, for prune.h. A name in it that had a record, as the directory for records has it; null: none is
     // known.
     char *known_record;
-    unsigned refusals; // how many times that folder was found not to be empty
+    unsigned refusals; // how many times that directory was found not to be empty
     struct attrs attrs;
     uint64_t blocks_gen; // when the bytes that take room were counted
     uint64_t stored, length;
@@ -67,7 +67,7 @@ struct resolved_path {
     char text[LONGEST_PATH + 2];
 };
 
-// The root, with the folder of snapshots; null where memory is wanting.
+// The root, with the directory of snapshots; null where memory is wanting.
 struct inode *inodes_start(void);
 struct inode *inode_find(const struct inode *parent, const char *name);
 // A new inode; null where memory is wanting.
@@ -93,13 +93,13 @@ void inode_put(struct inode *inode);
 
 // The path of an inode, or of a name in it where one is given: 0, ENOENT where it is out of the tree, or ENAMETOOLONG.
 int inode_path(const struct inode *inode, const char *name, struct resolved_path *out);
-// The root of the tree of an inode, or the folder of snapshots; null where it is out of it.
+// The root of the tree of an inode, or the directory of snapshots; null where it is out of it.
 const struct inode *inode_root(const struct inode *inode);
 bool inode_is_live(const struct inode *inode);
 
 // Now, in nanoseconds since 1970, and such a number as a time; 0, which was never handed in, is the time of the mount.
 uint64_t clock_now_ns(void);
 struct timespec ns_to_timespec(uint64_t ns);
-// A time as a moment; one before 1970 is 0, and one that is too late the latest.
+// A time as a timestamp; one before 1970 is 0, and one that is too late the latest.
 uint64_t timespec_to_ns(struct timespec time);
 #endif

@@ -32,7 +32,7 @@ struct library {
     char snapshot[LONGEST_SNAPSHOT + 1];
 };
 
-// What a call's number says in <errno.h>. Behind some changes steps of the tree are due: a step that moves one change
+// What a call's number says in <errno.h>. After some changes steps of the tree are due: a step that moves one change
 // down takes about as long as one that moves many.
 static int done_many(struct library *library, uint8_t number, size_t changes) {
     if (number) return doorvervain_errno(number);

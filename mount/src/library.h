@@ -1,4 +1,4 @@
-// The volume of the library backend.
+// The backend over the static library, and its volume.
 #ifndef LIBRARY_H
 #define LIBRARY_H
 #include "doorvervain.h"

@@ -27,15 +27,15 @@ struct page {
     char *out;
     size_t length;
     off_t at;      // the place of the next name
-    bool has_more; // enough names were looked for, and others come behind
+    bool has_more; // enough names were looked for, and others come after
 };
 
-// What is told of a name.
+// What is reported of a name.
 struct line {
     const char *name;
     struct fuse_entry_param param;
     struct inode *held; // what the kernel holds by it; null: nothing
-    off_t next;         // the place behind it
+    off_t next;         // the place after it
 };
 
 // Puts a line in: false where there is no room left.
@@ -77,7 +77,7 @@ static bool put_name(struct page *page, const char *name, bool is_directory, off
     return put_line(page, &line);
 }
 
-// The place of the first name at or behind a place that lseek(2) may have named.
+// The place of the first name at or after a place that lseek(2) may have named.
 static size_t path_of_name(const struct bytes *names, size_t from) {
     bool is_inside = from > 0 && from < names->length && names->at[from - 1];
     return is_inside ? from + strlen(names->at + from) + 1 : from;
@@ -109,7 +109,7 @@ static int fill_page(struct page *page) {
     return 0;
 }
 
-// Whether all names that were looked for are gone, and others come behind: an empty page would be the listing's end.
+// Whether all names that were looked for are gone, and others come after: an empty page would be the listing's end.
 static bool is_to_go_on(const struct page *page) { return !page->length && page->has_more; }
 
 // Called with no lock. Between two parts there is a rest: so a request that waits for the lock gets it.

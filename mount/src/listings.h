@@ -1,4 +1,4 @@
-// Pages of a listing: what readdir(3) is answered with, and with it what stands at each name.
+// Pages of a listing, for readdir(3), with the attributes of each name.
 #ifndef LISTINGS_H
 #define LISTINGS_H
 #define FUSE_USE_VERSION 35
@@ -10,7 +10,7 @@ struct page_args {
     struct bytes *names; // of the open directory: as they were when it was read from its beginning
     size_t capacity;
     off_t at;     // 0: its beginning
-    bool is_plus; // what stands at each name is told with it
+    bool is_plus; // what is at each name is told with it
 };
 
 // Answers a request for a page. Called with no lock, by the thread that serves requests; where there may be many names,

@@ -8,9 +8,8 @@
 //
 // So nothing that may wait for the disk, or for the kernel, is called under the request lock. The thread that serves
 // requests only tries `wal_lock`, and syncs by itself only where the disk was quick the last time. The locks of a
-// replica
-// (replica_inside.h, etcd_log.c, replica_catchup.c, replica_checkpoint.c) are each taken under the request lock or
-// alone.
+// replica (replica_inside.h, etcd_log.c, replica_catchup.c, replica_checkpoint.c) are each taken under the request lock
+// or alone.
 //
 // A function that needs one of the first two asserts that its thread holds it.
 #ifndef LOCKS_H

@@ -28,7 +28,7 @@ static int report(const char *what, const char *which, int err) {
     return err != 0;
 }
 
-// Asks a mount that stands to restore a snapshot.
+// Asks a running mount to restore a snapshot.
 static int ask_to_restore(const char *mount_point, const char *name) {
     struct restore_request wanted = {{0}};
     if (strlen(name) > LONGEST_SNAPSHOT) return report("cannot restore ", name, EINVAL);
@@ -50,7 +50,7 @@ static const char *full_name(const char *file) {
     return name;
 }
 
-// The folder to mount on, without links and dots on its way.
+// The directory to mount on, without links and dots on its way.
 static const char *full_path(const char *folder) {
     static char path[PATH_MAX];
     return realpath(folder, path) ? path : folder;

@@ -16,7 +16,7 @@ enum { STEPS_AT_ONCE = 256, MOST_ROUNDS = 64, WORTH_A_TRIM = 16 << 20 };
 
 static _Atomic size_t taken;
 static uint64_t size;
-static size_t most_taken; // since the last trim, as it was asked behind requests
+static size_t most_taken; // since the last trim, as it was asked after requests
 // Of the call that this thread makes; null: it is not limited. The library hands nothing from its caller to its
 // allocator.
 static _Thread_local struct mem_budget *current;

@@ -1,9 +1,9 @@
-// Memory that is taken, and how much of it `--size` lets the tree take.
+// Counts the memory in use, and limits what the tree may take of it (--size).
 //
-// The library asks heap.c for memory, and the mount the functions below, which count it. A call that makes the tree
-// grow gets no memory beyond the size less a reserve. The volume then refuses it and is as it was, so that it is
-// answered ENOSPC. Every other call may take more, also out of the reserve: a removal needs some memory before it gives
-// any back.
+// The library allocates through heap.c, and the mount through the functions below, which count it. A call that makes
+// the tree grow gets no memory beyond the size less a reserve. The volume then fails with ENOMEM and is unchanged, and
+// the reply is ENOSPC. Every other call may take more, also from the reserve: a removal needs some memory before it
+// frees any.
 #ifndef MEMLIMIT_H
 #define MEMLIMIT_H
 #include "backend.h"
@@ -26,7 +26,7 @@ void memlimit_set(uint64_t size);
 struct mem_usage memlimit_usage(void);
 // The size that is set; 0: none is.
 uint64_t memlimit_size(void);
-// Whether much was given back since the last trim, which is asked behind each request, by the thread that serves them;
+// Whether much was given back since the last trim, which is asked after each request, by the thread that serves them;
 // and that trim: all that malloc does not need goes back to the system.
 bool memlimit_has_freed(void);
 void memlimit_trim(void);

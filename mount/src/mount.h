@@ -1,4 +1,4 @@
-// A mount: its volume, and what is known of it from one request to the next.
+// A mount: its backend, and what it caches from one request to the next.
 #ifndef MOUNT_H
 #define MOUNT_H
 #include "inodes.h"
@@ -22,10 +22,10 @@ struct mount {
     bool has_warned;          // that a record cannot be read
     unsigned private_dirs;    // those of private_dir.h that are known to stand, as bits
     uint64_t tree_gen;        // grows where the tree becomes another one
-    uint64_t record_dirs_gen; // grows where a folder for records comes or goes
+    uint64_t record_dirs_gen; // grows where a directory for records comes or goes
     uint64_t orphans;         // how many orphans there were
     struct inode *deferred;   // an unlinked file that the kernel still knows, before it becomes an orphan; null: none
-    uint64_t deferred_at;     // the moment at which it was unlinked
+    uint64_t deferred_at;     // the timestamp at which it was unlinked
     char *deferred_path;      // the path of its last name, of a file of several names; null: it is at its own
     struct record_cache last_record;
     // Of entry_count.c.

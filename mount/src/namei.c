@@ -18,7 +18,7 @@
 
 // ---- what is made
 
-// A folder with the set-group bit hands its group on, and a folder in it gets the bit too.
+// A directory with the set-group bit hands its group on, and a directory in it gets the bit too.
 static int inherit_group(struct mount *mount, struct inode *parent, struct doorvervain_attributes *base) {
     const struct attrs *above;
     int err = attrs_of(mount, parent, &above);
@@ -95,7 +95,7 @@ int namei_create(struct request *request, struct inode *parent, const char *name
 
 // ---- what is taken away
 
-// Makes a folder again that was taken away. It and the folder above it have the moments that they had.
+// Makes a directory again that was taken away. It and the directory above it have the moments that they had.
 static void bring_back(struct txn *txn, const char *path, const struct node_stat *before,
                        const struct node_stat *above) {
     const struct backend *backend = &txn->mount->backend;
@@ -106,7 +106,7 @@ static void bring_back(struct txn *txn, const char *path, const struct node_stat
     backend->ops->rename(backend->self, parked.text, path, above->mtime_ns);
 }
 
-// The folder first: whether it is empty no other call tells as fast.
+// The directory first: whether it is empty no other call tells as fast.
 static int take_folder(struct txn *txn, struct inode *parent, const struct resolved_path *resolved) {
     const struct backend *backend = &txn->mount->backend;
     struct node_stat before, above;
@@ -160,7 +160,7 @@ int namei_remove(struct request *request, struct inode *parent, const char *name
 
 // ---- what moves
 
-// A rename: what moves, and what it replaces, whose entry is null where nothing stands there.
+// A rename: what moves, and what it replaces, whose entry is null where nothing is there.
 struct move {
     struct inode *parent, *new_parent;
     struct resolved_path from, to;
@@ -212,7 +212,7 @@ static void follow(struct mount *mount, struct move *move, char *name, uint64_t 
     else inode_move(source, move->new_parent, name);
 }
 
-// A folder is replaced where it is empty. That is looked at first, since records move before it.
+// A directory is replaced where it is empty. That is looked at first, since records move before it.
 static int may_replace(struct mount *mount, struct inode *source, struct inode *target) {
     struct bytes names = {NULL};
     if (source->is_directory != target->is_directory) return source->is_directory ? ENOTDIR : EISDIR;

@@ -1,4 +1,4 @@
-// Names that come, go and move.
+// Requests that create, remove and rename names.
 #ifndef NAMEI_H
 #define NAMEI_H
 #include "fs_ops.h"

@@ -1,5 +1,6 @@
-// Stands in for replica.c if libcurl or jansson is missing: --replica fails, and the other functions do
-// nothing.
+// Replaces replica.c if libcurl or jansson is missing: --replica fails, and the other functions do nothing.
+//
+// Invariant: `mount->replica` is null always, so no request is deferred.
 #include "replica.h"
 #include <errno.h>
 #include <stdio.h>

@@ -128,7 +128,7 @@ static unsigned shift_of(char letter) {
     }
 }
 
-// A number of bytes, with K, M or G behind it.
+// A number of bytes, with K, M or G after it.
 static int read_bytes(const char *word, uint64_t least, const char *refusal, uint64_t *out) {
     char *end;
     uint64_t size = strtoull(word, &end, 10);

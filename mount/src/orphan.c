@@ -97,8 +97,8 @@ int orphan_delete(struct mount *mount, struct inode *inode, uint64_t at) {
 // If there is no memory to make it an orphan, its bytes go, and whoever holds it has nothing to read.
 static int settle(struct mount *mount, struct inode *inode, const char *name, uint64_t at) {
     if (name) return hardlink_remove_last(mount, inode, name, at);
-    bool is_aside = inode_is_held(inode) && !move_orphan(mount, inode, at);
-    return is_aside ? 0 : orphan_delete(mount, inode, at);
+    bool is_orphan = inode_is_held(inode) && !move_orphan(mount, inode, at);
+    return is_orphan ? 0 : orphan_delete(mount, inode, at);
 }
 
 // The removal of a name was answered before a store refused changes: else each later request would be refused with it.
@@ -163,7 +163,7 @@ int orphan_put(struct mount *mount, struct inode *inode, uint64_t at) {
     complete_begins(mount);
     int err = orphan_delete(mount, inode, at);
     complete_ends(mount);
-    if (err) inode_detach(inode); // The bytes go with the mount's own folder.
+    if (err) inode_detach(inode); // The bytes go with the mount's own directory.
     return err;
 }
 

@@ -1,5 +1,5 @@
-// Files whose name is gone, and that the kernel still knows: they may be open, or be just about to be opened. They
-// stand in the mount's own folder until nobody holds them.
+// Orphans: unlinked files that the kernel still knows, since they are open or about to be opened. They are in the
+// private directory until nobody holds them.
 #ifndef ORPHAN_H
 #define ORPHAN_H
 #include "txn.h"
@@ -13,7 +13,7 @@ struct orphan {
 // To be called before anything else is done with names, moments or the file that is leaving: where the kernel has not
 // forgotten that one, it becomes an orphan.
 int orphan_flush_deferred(struct mount *mount);
-// Moves a file, with its record, to where no listing shows it; its directory gets the moment of the request.
+// Moves a file, with its record, to where no listing shows it; its directory gets the timestamp of the request.
 int orphan_move(struct txn *txn, struct inode *inode, struct orphan *out);
 // The inode follows, once that is done. It goes where nobody holds it.
 void orphan_moved(struct mount *mount, struct inode *inode, struct orphan *orphan, uint64_t at);

@@ -1,4 +1,7 @@
-// Whether a file that this process writes is its own: another user may have made it before, where many may make files.
+// Whether a file that this process writes is its own: in a directory that others may write to, another user may have
+// created it before.
+//
+// Invariant: an opened file is asked, not a path, so it cannot be replaced between the check and its use.
 #include "own_file.h"
 #include <errno.h>
 #include <stdbool.h>

@@ -19,7 +19,7 @@ static int change(struct mount *mount, enum path_call what, const char *path, ui
     return mount->backend.ops->change(mount->backend.self, what, path, at);
 }
 
-// The moment of the root, which the coming and going of the mount's own folder leaves.
+// The moment of the root, which the coming and going of the mount's own directory leaves.
 static int root_mtime(struct mount *mount, uint64_t *out) {
     struct node_stat root = {0};
     int err = backend_stat(&mount->backend, (struct path_ref){NULL, "/"}, &root);
@@ -104,7 +104,7 @@ bool private_tidy(struct mount *mount) {
     return err == ENOTEMPTY;
 }
 
-// A file that an image has in the place of one of the folders goes. The root keeps its moment.
+// A file that an image has in the place of one of the directories goes. The root keeps its mtime.
 static int leave_out_file(struct mount *mount, const char *path) {
     struct node_stat node_stat;
     uint64_t at = 0;

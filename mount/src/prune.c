@@ -10,11 +10,11 @@
 #include <stdlib.h>
 #include <string.h>
 
-// How many of the known entries of a directory are looked at, and how many times its folder is found not to be empty
+// How many of the known entries of a directory are looked at, and how many times its directory is found not to be empty
 // before names of it are known from a listing: to remove one of many costs no listing.
 enum { MOST_LOOKED_AT = 8, REFUSALS_BEFORE_LISTING = 4 };
 
-// Names that begin with byte 1 have one more of it in a folder for records.
+// Names that begin with byte 1 have one more of it in a directory for records.
 enum { ESCAPE = 1 };
 
 static bool exists(const struct mount *mount, const char *path) {
@@ -32,7 +32,7 @@ static bool has_name(const struct mount *mount, const char *folder, const char *
     return exists(mount, path);
 }
 
-// The entry of the directory whose records are in a folder, of which `path` is the part below TREE_PATH; null: it is
+// The entry of the directory whose records are in a directory, of which `path` is the part below TREE_PATH; null: it is
 // not
 // known.
 static struct inode *directory_of(const struct mount *mount, const char *path) {
@@ -65,21 +65,21 @@ static void forget_name(struct inode *directory) {
     directory->known_record = NULL;
 }
 
-// Whether a folder is seen not to be empty. Where nothing is seen it may have records all the same.
+// Whether a directory is seen not to be empty. Where nothing is seen it may have records all the same.
 static bool is_seen_full(const struct mount *mount, const char *folder, struct inode *directory) {
     if (directory->known_record && has_name(mount, folder, directory->known_record)) return true;
     forget_name(directory);
     return has_known_inode(mount, folder, directory);
 }
 
-// The item of a listing at one of its bytes, behind the byte that says its kind.
+// The item of a listing at one of its bytes, after the byte that says its kind.
 static const char *name_at(const struct bytes *listing, size_t at) {
     assert(at < listing->length);
     while (at > 0 && listing->at[at - 1]) at--;
     return listing->at + at + 1;
 }
 
-// Remembers a name of a folder that was just found not to be empty. It is any of them: in whatever order names are
+// Remembers a name of a directory that was just found not to be empty. It is any of them: in whatever order names are
 // removed, half of them mostly are before this one is, so that all listings together cost little for each.
 static void remember_name(const struct mount *mount, const char *folder, struct inode *directory, uint64_t at) {
     struct bytes names = {NULL};

@@ -1,4 +1,4 @@
-// How far the kernel reads ahead in a file of the mount.
+// The kernel's readahead for the files of the mount.
 #ifndef READAHEAD_H
 #define READAHEAD_H
 

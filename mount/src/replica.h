@@ -1,13 +1,12 @@
-// A mount over a log that many mounts share: one key in etcd, whose versions are the log's values, in order.
+// A mount over a log that several mounts share: one key in etcd, whose versions are the values of the log, in order.
 //
-// A value is records as those of a store's log have them, behind a front that names its mount. It is put for the
-// version
-// behind the last one that its mount has done, and for no other, which etcd compares: so each is done on the very tree
-// that it was made for, and all trees are a function of the log.
+// A value is records as in a store's log, after a header that names its mount. It is put only for the version after the
+// last that its mount has applied, which etcd compares: so each is applied to the very tree for which it was made, and
+// all trees are a function of the log.
 //
-// A request that changes the tree is therefore done twice. It is tried first, which tells its calls, and all of that is
-// taken back. When its record comes from the log it is done, and answered. Where another mount's record came first it
-// is tried anew, on the tree that stands then: so it may be refused there.
+// So a request that changes the tree is done twice. The first time is speculative: it determines the calls, and is
+// rolled back. When its record comes from the log, it is applied, and the reply is sent. If another mount's record came
+// first, the request is tried again on the new tree, and may fail there.
 #ifndef REPLICA_H
 #define REPLICA_H
 #include "mount.h"
@@ -26,12 +25,12 @@ void replica_end(struct mount *mount);
 // they do nothing. What the second answers has the request's other callers leave all as it was.
 void replica_change_begins(struct mount *mount);
 int replica_change_ends(struct mount *mount, int err);
-// What is told of the log.
+// What is reported of the log.
 void replica_fill_status(const struct mount *mount, struct replica_status *out);
 // The timestamp of the request that is served; 0: it is the time at which it came.
 uint64_t replica_timestamp(const struct mount *mount);
 // What a request is answered with: false if it gets no answer now, since it waits for the log.
 bool replica_may_answer(const struct mount *mount, int *err);
-// A write was done elsewhere in its file than the kernel wrote it: the kernel is told to ask for the bytes anew.
+// A write was done elsewhere in its file than the kernel wrote it: the kernel is notified to ask for the bytes anew.
 void replica_note_moved(struct mount *mount, const struct inode *inode);
 #endif

@@ -22,7 +22,7 @@ struct catchup {
     struct replica *replica;
     struct open_options options;
     struct etcd_client etcd;
-    uint64_t done;   // the version that a checkpoint has to be behind
+    uint64_t done;   // the version that a checkpoint has to be after
     uint64_t number; // of this mount
     _Atomic bool ends;
     pthread_t thread;
@@ -38,7 +38,7 @@ struct catchup {
 
 // ---- the thread
 
-// Once a newer checkpoint stands, what was put for an older version can come no more: so the mark is read behind it. A
+// Once a newer checkpoint stands, what was put for an older version can come no more: so the mark is read after it. A
 // size of the mount lets both trees together take no more than a call.
 static int load_once(struct catchup *catchup) {
     struct mem_budget budget;

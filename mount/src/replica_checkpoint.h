@@ -1,12 +1,12 @@
-// Checkpoints of a replica's log: the image of the tree at one version, kept in etcd beside the log, by parts. A mount
-// begins with the newest one, and the log before it may be cut.
+// Checkpoints of a replica's log: the image of the tree at one version, stored in etcd beside the log, in parts. A
+// mount starts from the newest one, and the log before it may be compacted.
 #ifndef REPLICA_CHECKPOINT_H
 #define REPLICA_CHECKPOINT_H
 #include "etcd_client.h"
 
 struct replica;
 
-// Where a log goes on behind an image; version 0: at its beginning.
+// Where a log goes on after an image; version 0: at its beginning.
 struct checkpoint {
     uint64_t version;  // of the log, that the image has
     uint64_t revision; // of etcd, that this version has
@@ -18,12 +18,12 @@ struct checkpoint {
 // The key that has the front of the last value of the log that the mount of a number put: it is put with that.
 #define MARK "mounts/%llu"
 
-// The newest checkpoint where it is behind a version, and its image as a file without a name (-1: there is none).
+// The newest checkpoint where it is after a version, and its image as a file without a name (-1: there is none).
 int checkpoint_fetch(struct etcd_client *etcd, uint64_t after, struct checkpoint *out, int *file);
 // What the mark of a mount has; nothing where it put no value.
 int checkpoint_fetch_last_put(struct etcd_client *etcd, uint64_t mount, struct bytes *out);
 
-// Keeps the tree as it stands, by a thread, where the log behind the last checkpoint is long enough. The thread that
+// Keeps the tree as it is, by a thread, where the log after the last checkpoint is long enough. The thread that
 // serves calls the second function now and then, which takes what has ended.
 void checkpoint_begin(struct replica *replica);
 void checkpoint_step(struct replica *replica);

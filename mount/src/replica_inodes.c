@@ -27,7 +27,7 @@ struct reach {
     char name[LONGEST_NAME + 1];
 };
 
-// ---- what the kernel is told
+// ---- what the kernel is notified of
 
 static uint64_t ino_of(const struct inode *inode) {
     return inode->role == LIVE_ROOT ? FUSE_ROOT_ID : (uint64_t)(uintptr_t)inode;
@@ -118,7 +118,7 @@ static bool next_name(const char **path, const char *end, char name[LONGEST_NAME
     return true;
 }
 
-// With `adds` the entries of folders come to stand.
+// With `adds` the entries of directories come to stand.
 static struct reach reach_path(struct replica *replica, const char *path, size_t length, bool adds) {
     const char *end = path + length;
     struct reach reach = {.inode = replica->mount->root};

@@ -1,4 +1,4 @@
-// What the files of a replica share. All but the log's threads is done by the thread that serves requests.
+// What the files of a replica share. The serving thread does everything but what the threads of the log do.
 #ifndef REPLICA_INSIDE_H
 #define REPLICA_INSIDE_H
 #include "wal_layer.h"
@@ -38,7 +38,7 @@ struct leftover {
 struct proposal {
     bool is_under_way;
     size_t requests;            // that it has
-    struct leftover *leftovers; // behind them
+    struct leftover *leftovers; // after them
     bool is_torn;               // the tree has a part of a request that is not in it
     struct bytes records;
     uint64_t serial;
@@ -58,7 +58,7 @@ struct replica {
     int err;                 // why the log cannot be followed any more
     bool is_behind;          // what follows in the log was cut: a checkpoint is wanted
     struct catchup *catchup; // who sees to that; null: nobody does
-    unsigned steps;          // of the tree, behind some changes
+    unsigned steps;          // of the tree, after some changes
 
     // A pass.
     enum replay_mode mode;
@@ -81,11 +81,11 @@ struct replica {
     // Checkpoints.
     struct checkpoint_task *checkpoint_task; // the one that is being made; null: none is
     uint64_t log_size;                       // bytes of the log that make one worth its while
-    uint64_t bytes_since_checkpoint;         // bytes of it behind the last one
+    uint64_t bytes_since_checkpoint;         // bytes of it after the last one
     uint64_t checkpoint_version;             // the version of the last one that is known here
     uint64_t image_size;                     // its size
 
-    // What the kernel is told to forget, by a thread of its own.
+    // What the kernel has to forget, by a thread of its own.
     pthread_mutex_t lock;
     pthread_cond_t wakes;
     pthread_t inval_thread;
@@ -102,7 +102,7 @@ void replica_pass(struct replica *replica, enum replay_mode mode, const struct b
 void replica_pass_ends(struct replica *replica);
 // What was tried is taken back.
 void replica_rollback(struct replica *replica);
-// The tree as it stands is to be taken back.
+// The tree as it is has to be rolled back.
 int replica_savepoint(struct replica *replica);
 // What was known of the tree may be wrong.
 void replica_forget(struct replica *replica);
@@ -141,7 +141,7 @@ uint64_t replica_clock(void);
 
 // ---- replica_inodes.c
 
-// The inodes follow the calls of records that are done, and the kernel is told.
+// The inodes follow the calls of records that are done, and the kernel is notified.
 void replica_update_inodes(struct replica *replica, const char *calls, size_t length);
 // The same where the tree became another one than that of a volume.
 void replica_follow_tree(struct replica *replica, const struct backend *former);

@@ -26,7 +26,7 @@ static void append_leftover(struct leftover **at, struct leftover *leftover) {
     *at = leftover;
 }
 
-// It stays in the tree where memory is wanting, in the mount's own folder.
+// It stays in the tree where memory is wanting, in the mount's own directory.
 void replica_note_leftover(struct replica *replica) {
     struct leftover *leftover = mem_calloc(1, sizeof *leftover);
     if (!leftover || bytes_append(&leftover->calls, replica->calls.at, replica->calls.length)) mem_free(leftover);
@@ -67,7 +67,7 @@ static bool moves(const struct deferred_request *request) {
     }
 }
 
-// Whether a request may go into a value behind another one: it cannot be answered as done without a change.
+// Whether a request may go into a value after another one: it cannot be answered as done without a change.
 static bool may_follow(const struct deferred_request *request) {
     switch (head_of(request)->opcode) {
     case FUSE_WRITE:
@@ -92,7 +92,7 @@ static bool is_still_right(struct replica *replica, const struct deferred_reques
     return !number;
 }
 
-// Its calls are made of the tree as it stands, with those of the requests before it: ENODATA where it has none.
+// Its calls are made of the tree as it is, with those of the requests before it: ENODATA where it has none.
 static int try_one(struct replica *replica, struct deferred_request *request, bool is_first) {
     if (is_first && is_still_right(replica, request)) return 0;
     request->at = clock_now_ns();

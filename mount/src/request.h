@@ -1,4 +1,4 @@
-// What a request of the kernel needs while it is served: made by its handler, and handed down to what acts for it.
+// The context of a request of the kernel: made by its handler, and passed down.
 #ifndef REQUEST_H
 #define REQUEST_H
 #include "memlimit.h"

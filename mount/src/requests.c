@@ -3,7 +3,7 @@
 // to workers: a long listing, a snapshot that is restored or dropped, and a delta that is printed or applied.
 //
 // Invariant: all changes of the tree come through the kernel, so what it caches of names and attributes stays right;
-// when the tree is replaced, the kernel is told what is stale. The bytes of a file are read again whenever it is
+// when the tree is replaced, the kernel is notified of what is stale. The bytes of a file are read again whenever it is
 // opened. The list of open handles is changed by the serving thread alone.
 #include "requests.h"
 #include "answers.h"
@@ -209,7 +209,7 @@ static void forget_some(const struct request *request, const struct fuse_forget_
     requests_end(request, 0);
 }
 
-// Behind a restore the kernel may forget 65,000 inodes by one request.
+// After a restore the kernel may forget 65,000 inodes by one request.
 struct forgetting {
     struct request request;
     size_t count;
@@ -374,7 +374,7 @@ struct dropped {
     bool has_changed;
 };
 
-// A worker, which answers behind that: a size of the mount then has the memory again.
+// A worker, which answers after that: a size of the mount then has the memory again.
 static void free_dropped(void *argument) {
     struct dropped *dropped = argument;
     doorvervain_close(&dropped->tree);
@@ -495,7 +495,7 @@ static int open_found(struct request *request, struct inode *folder, const char 
     return err ? err : fs_getattr(request->mount, result->inode, &result->stat);
 }
 
-// A file that is made has nothing to cut, and keeps the moment at which it was made.
+// A file that is made has nothing to cut, and keeps the timestamp at which it was made.
 static int create(struct request *request, fuse_ino_t parent, const char *name, mode_t mode, int flags,
                   struct lookup_result *result) {
     struct create_args args = create_args_of(request, S_IFREG | (mode & 07777));
@@ -699,7 +699,7 @@ static struct stale find_stale(void) { return (struct stale){.is_all = requests_
 // Where names are noted.
 static struct bytes *noted(struct stale *stale) { return stale->is_all ? NULL : &stale->noted; }
 
-// The kernel is told of names while it may wait for other requests, so no lock is held.
+// The kernel is notified of names while it may wait for other requests, so no lock is held.
 static void notify_noted(struct bytes *list) {
     struct stale_dentry *stale = (struct stale_dentry *)list->at;
     for (size_t i = 0; i < list->length / sizeof *stale; i++) {

@@ -1,4 +1,4 @@
-// The requests of the kernel, by the low-level interface of libfuse3.
+// The handlers of the kernel's requests, by the low-level interface of libfuse3.
 #ifndef REQUESTS_H
 #define REQUESTS_H
 #define FUSE_USE_VERSION 35
@@ -17,7 +17,7 @@ extern const struct fuse_lowlevel_ops requests;
 int requests_begin(const struct request *request);
 // Leaves the lock: the request is at its end, and a store keeps what it did. What it is to be answered with.
 int requests_end(const struct request *request, int err);
-// What the kernel is told of an entry, and for how long it holds.
+// What the kernel gets of an entry, and for how long it holds.
 struct fuse_entry_param requests_entry(const struct lookup_result *result);
 // The session that requests come by. What others change too the kernel knows for a second.
 void requests_use(struct fuse_session *session, bool is_shared);

@@ -1,4 +1,7 @@
-// Lines of the script language, and its replies ("Script" in docs/FORMATS.md).
+// Prints calls as lines of the script language, and their replies ("Script" in docs/FORMATS.md).
+//
+// Validity: each path, name and byte string is one word in percent form or hexadecimal, so each call is exactly one line
+// whatever a user's names are. Nothing is read back here.
 #include "script.h"
 #include "text.h"
 #include <errno.h>

@@ -1,4 +1,4 @@
-// The language of scripts: lines that ask for calls, and replies.
+// Prints calls as lines of the script language, and their replies.
 #ifndef SCRIPT_H
 #define SCRIPT_H
 #include "backend.h"
@@ -9,8 +9,8 @@ enum {
     LARGEST_LINE_WRITE = 28672,
 };
 
-// Each puts one line, with its line feed, behind what `line` has: 0 or ENOMEM.
-// The moment of the lines behind it, which is 0 before the first such line.
+// Each puts one line, with its line feed, after what `line` has: 0 or ENOMEM.
+// The moment of the lines after it, which is 0 before the first such line.
 int script_timestamp(struct bytes *line, uint64_t at);
 int script_change(struct bytes *line, enum path_call what, const char *path);
 int script_rename(struct bytes *line, const char *from, const char *to);
@@ -21,7 +21,7 @@ int script_stat(struct bytes *line, struct path_ref ref);
 int script_readdir(struct bytes *line, struct path_ref ref);
 int script_snapshot(struct bytes *line, enum snapshot_call what, const char *snapshot);
 
-// Each puts the reply to such a line behind what `reply` has: 0 or ENOMEM.
+// Each puts the reply to such a line after what `reply` has: 0 or ENOMEM.
 int reply_fault(struct bytes *reply, int number);
 int reply_read(struct bytes *reply, const char *bytes, size_t count);
 int reply_stat(struct bytes *reply, struct node_stat node_stat);

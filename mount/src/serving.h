@@ -1,4 +1,4 @@
-// A mount from its beginning to its end.
+// A mount from start to end.
 #ifndef SERVING_H
 #define SERVING_H
 #include "options.h"

@@ -20,11 +20,11 @@ int sha256_add(struct sha256 *sum, const void *bytes, size_t count) {
 int sha256_end(struct sha256 *sum, char digits[SHA256_DIGITS + 1]) {
     unsigned char bytes[SHA256_DIGITS / 2];
     unsigned count = 0;
-    bool is_told = sum->context && EVP_DigestFinal_ex(sum->context, bytes, &count) && count == sizeof bytes;
-    for (size_t i = 0; i < sizeof bytes && is_told; i++) snprintf(digits + 2 * i, 3, "%02x", bytes[i]);
+    bool is_done = sum->context && EVP_DigestFinal_ex(sum->context, bytes, &count) && count == sizeof bytes;
+    for (size_t i = 0; i < sizeof bytes && is_done; i++) snprintf(digits + 2 * i, 3, "%02x", bytes[i]);
     EVP_MD_CTX_free(sum->context);
     sum->context = NULL;
-    return is_told ? 0 : ENOMEM;
+    return is_done ? 0 : ENOMEM;
 }
 
 int sha256_so_far(const struct sha256 *sum, char digits[SHA256_DIGITS + 1]) {

@@ -1,4 +1,4 @@
-// The checksum of a file, as sha256sum(1) tells it.
+// The SHA-256 digest of a file, as sha256sum(1) prints it.
 #ifndef SHA256_H
 #define SHA256_H
 #include <stdbool.h>
@@ -11,7 +11,7 @@ struct sha256 {
     void *context;
 };
 
-// Each answers 0 or ENOMEM. `digits` has room for a byte 0 behind them. What was begun has to be ended.
+// Each answers 0 or ENOMEM. `digits` has room for a byte 0 after them. What was begun has to be ended.
 int sha256_begin(struct sha256 *sum);
 int sha256_add(struct sha256 *sum, const void *bytes, size_t count);
 int sha256_end(struct sha256 *sum, char digits[SHA256_DIGITS + 1]);

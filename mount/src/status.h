@@ -1,4 +1,4 @@
-// What a mount tells of itself (--status), by ioctl(2) on its root. Snapshots are the names in MNT/.snapshots.
+// What a mount reports of itself (--status), by ioctl(2) on its root. Snapshots are the names in MNT/.snapshots.
 #ifndef STATUS_H
 #define STATUS_H
 #include "mount.h"

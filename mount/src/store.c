@@ -203,7 +203,7 @@ int store_end_request(struct store *store, bool *has_changed) {
     return 0;
 }
 
-// Whether calls wait that a program is about to sync, as it did behind the same number before.
+// Whether calls wait that a program is about to sync, as it did after the same number before.
 static bool expects_sync(struct store *store) {
     requests_lock();
     bool does = store->batch->calls.length && store->changes <= store->expected;
@@ -221,7 +221,7 @@ static void write_ahead(struct store *store) {
     if (!err && is_last) store_begin_sync(store);
 }
 
-// A program that syncs behind each few changes does so again: then its records are made while it gets the answer. Where
+// A program that syncs after each few changes does so again: then its records are made while it gets the answer. Where
 // the disk is slow, the writeback thread writes them.
 void store_idle(struct store *store) {
     if (!expects_sync(store)) return;

@@ -1,9 +1,9 @@
-// A folder that keeps a volume: what was synced is lost neither with the process nor with the machine.
+// A directory that keeps a volume: what was synced is lost neither with the process nor with the machine.
 //
-// In it lie `tree.N`, an image, `snapshots.N` where some stood then, and `log.N`, `log.N+1` .., in which each request
-// that changed something since has one record; `lock` keeps a second mount out. A change is in memory when it is
-// answered. It is on the disk once the log is synced: by fsync(2), every five seconds, and when the mount is taken
-// away.
+// It has the checkpoint `tree.N`, an image, with `snapshots.N` if there were snapshots; the logs `log.N`, `log.N+1` ..,
+// with one record for each request since then that changed something; and `lock`, which excludes a second mount. A
+// change is in memory when its reply is sent. It is on the disk once the log is synced: by fsync(2), every five
+// seconds, and at the unmount.
 #ifndef STORE_H
 #define STORE_H
 #include "mount.h"
@@ -14,12 +14,12 @@ struct store;
 // Opens the store of `options`: the volume stands as it was left, and all calls go by the store from then on. What
 // failed is said on standard error, and nothing was written then.
 int store_open(const struct open_options *options, struct backend *backend, struct store **out);
-// Prints the logs in the folder of a store as lines of a script; the status of its process. What failed is said.
+// Prints the logs in the directory of a store as lines of a script; the status of its process. What failed is said.
 int store_dump_wal(const char *folder);
 // Makes a store in a folder that has none of what is whole of another one, which is only read: the status of its process,
 // which is 3 where something is not whole. What is not is said.
 int store_rescue(const char *new_folder, const char *folder);
-// The names of the snapshots that stand: each with a byte 0 behind it.
+// The names of the snapshots that stand: each with a byte 0 after it.
 int store_snapshots(struct store *store, struct bytes *out);
 // Begins to sync in time, and to write images, by a thread of its own, until the volume is closed.
 int store_start_writeback(struct store *store, struct mount *mount);
@@ -53,7 +53,7 @@ void store_wait_for_sync(struct store *store, struct waiter *waiter);
 bool store_is_full(const struct store *store);
 // Waits until there is room again: false where there is.
 bool store_wait_for_space(struct store *store, struct waiter *waiter);
-// What is told of the log. It waits for no lock that is held while the disk is waited for.
+// What is reported of the log. It waits for no lock that is held while the disk is waited for.
 void store_fill_status(const struct store *store, struct store_status *out);
 // How many syncs have failed.
 uint64_t store_sync_errseq(struct store *store);

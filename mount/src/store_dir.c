@@ -43,7 +43,7 @@ static int refuse(const struct store *store, const char *why) {
     return EINVAL;
 }
 
-// What lies in the folder is believed: so nobody else may write there.
+// What lies in the directory is believed: so nobody else may write there.
 static int try_folder(const struct store *store) {
     struct stat stat;
     if (fstat(store->directory, &stat)) return errno;
@@ -100,7 +100,7 @@ static int compare(const void *one, const void *other) {
     return left < right ? -1 : left > right;
 }
 
-// Calls a function for each name in the folder, until it answers a fault.
+// Calls a function for each name in the directory, until it answers a fault.
 static int each_name(const struct store *store, int (*visit)(const struct store *, const char *, void *),
                      void *context) {
     int err = 0;

@@ -28,7 +28,7 @@ struct wal_log {
     uint64_t number;
     struct wal_salt salt;
     uint64_t length;    // bytes of its records
-    uint64_t allocated; // and with the zeros behind them
+    uint64_t allocated; // and with the zeros after them
     uint64_t records;   // its header too
     unsigned marks;     // sync markers at its end
 };
@@ -78,7 +78,7 @@ struct store_progress {
 struct store {
     struct wal_layer layer;
     char folder[PATH_MAX];
-    int directory, lock_file;   // the folder, and its lock
+    int directory, lock_file;   // the directory, and its lock
     struct doorvervain *volume; // that of the library
     struct mount *mount;
     bool syncs_each;
@@ -98,7 +98,7 @@ struct store {
     // Under `wal_lock`.
     struct lock wal_lock;
     struct wal_log log;
-    _Atomic uint64_t wal_bytes;    // bytes of all logs behind the tree's image; read without the lock
+    _Atomic uint64_t wal_bytes;    // bytes of all logs after the tree's image; read without the lock
     uint64_t checkpoint_at;        // how many of them make another image worth its while
     bool is_synced;                // all of the log is on the disk
     struct sha256_function digest; // of records
@@ -140,12 +140,12 @@ void store_unlock_wal(struct store *store);
 // ---- store_dir.c
 
 enum { STORE_NAME = 40 };
-// The name of a file in the folder: `tree`, `snapshots` or `log`, and a number.
+// The name of a file in the directory: `tree`, `snapshots` or `log`, and a number.
 void store_name(char out[STORE_NAME], const char *kind, uint64_t number);
-// A name with an ending, and the path of a file in the folder: 0 or ENAMETOOLONG.
+// A name with an ending, and the path of a file in the directory: 0 or ENAMETOOLONG.
 void store_name_of(char out[STORE_NAME], const char *kind, uint64_t number, const char *ending);
 int store_path(const struct store *store, const char *name, char out[PATH_MAX]);
-// Opens the folder, which is made where it is missing, and locks it. What failed is said.
+// Opens the directory, which is made where it is missing, and locks it. What failed is said.
 int store_lock(struct store *store, const char *folder);
 // The same for one that is only read, and that no mount has. What failed is said.
 int store_open_to_read(struct store *store, const char *folder);
@@ -193,7 +193,7 @@ int wal_create(struct store *store, uint64_t number, const struct wal_log *prior
 // The log is at its end, until another mount: what is found damaged in it then was on the disk.
 int store_close_log(struct store *store);
 // Begins the next log, and brings all of the former one onto the disk: both under `wal_lock`. So what the next one has
-// behind its header is never there without it.
+// after its header is never there without it.
 int wal_rotate(struct store *store, struct wal_log *former);
 int store_end_log(struct store *store, struct wal_log *former);
 // Whether a log has no record but its header.
@@ -266,12 +266,12 @@ int writeback_tick(struct checkpoint_file *file);
 // Ends it with its fault: the file gets its name where there is none, with a file of these checksums beside it (null:
 // none), and else it goes.
 int store_end_checkpoint_file(struct checkpoint_file *file, const char *sum, int err);
-// Writes an image of the tree as it stands, and takes out what lies before it. Called with no lock; between its pieces
+// Writes an image of the tree as it is, and takes out what lies before it. Called with no lock; between its pieces
 // it calls `meanwhile`.
 int store_checkpoint(struct store *store, void (*meanwhile)(struct store *store));
 // Writes that of a new store, whose log has begun.
 int store_first_checkpoint(struct store *store);
-// Another is due when the logs behind one of so many bytes are longer than twice that, and than `log_size`.
+// Another is due when the logs after one of so many bytes are longer than twice that, and than `log_size`.
 void checkpoint_threshold(struct store *store, uint64_t image);
 bool checkpoint_is_due(struct store *store);
 
@@ -279,7 +279,7 @@ bool checkpoint_is_due(struct store *store);
 
 // A snapshot was taken or dropped.
 void store_note_snapshot(struct store *store, enum snapshot_call what, const char *name);
-// Finds out which stand behind a start. Those that no image had are the last.
+// Finds out which stand after a start. Those that no image had are the last.
 int store_find_snapshots(struct store *store);
 // Whether they are too many for an image: so the log goes on.
 bool store_has_too_many(const struct store *store);

@@ -221,7 +221,7 @@ static int report_damage(const struct store *store, const struct wal_file *file)
     return EINVAL;
 }
 
-// What a log has behind its records until it is closed.
+// What a log has after its records until it is closed.
 static bool has_zeros_alone(const struct wal_file *file) {
     const char *rest = file->bytes + file->whole;
     size_t count = file->length - file->whole;
@@ -300,7 +300,7 @@ static bool has_marker_behind(const struct wal_file *file) {
                                 store_record(file->number, file->records));
 }
 
-// A record that is not whole was not synced, and the log ends before it: but not where a mark behind it, or the last
+// A record that is not whole was not synced, and the log ends before it: but not where a mark after it, or the last
 // mount, tells that it was.
 static int check_last(const struct store *store, const struct wal_files *files) {
     const struct wal_file *file = &files->at[files->last];
@@ -332,7 +332,7 @@ static bool is_ended(const struct wal_files *files, size_t index) {
     return next->salt.length && file->records == next->prior_records + MARKS_OF_ROTATION;
 }
 
-// A log has nothing behind its header until the log before it is on the disk: where that is not at its end, it goes on.
+// A log has nothing after its header until the log before it is on the disk: where that is not at its end, it goes on.
 static int run_logs(struct store *store, struct wal_files *files) {
     for (size_t i = 0; i < files->count; i++) {
         int err = run_log(store, &files->at[i]);
@@ -345,7 +345,7 @@ static int run_logs(struct store *store, struct wal_files *files) {
     return 0;
 }
 
-// What a rescue leaves: the records behind the first that is damaged may rest on it.
+// What a rescue leaves: the records after the first that is damaged may rest on it.
 static void report_left(const struct store *store, const struct wal_files *files) {
     for (size_t i = files->last; i < files->count; i++) {
         const struct wal_file *file = &files->at[i];
@@ -564,7 +564,7 @@ static uint64_t size_of(const char *file) {
     return !lstat(file, &stat) ? (uint64_t)stat.st_size : 0;
 }
 
-// What belongs to a tree, which the volume has, and what the logs behind it have.
+// What belongs to a tree, which the volume has, and what the logs after it have.
 static int load_behind(struct store *store, const struct checkpoint *checkpoint, const struct backend *backend) {
     uint64_t index_size = 0;
     int err = 0;

@@ -1,6 +1,6 @@
 // The process of --rescue: a new store of what is whole of a damaged one.
 //
-// Invariant: the damaged store is only read. Its newest complete checkpoint is taken, and the records behind it up to the
+// Invariant: the damaged store is only read. Its newest complete checkpoint is taken, and the records after it up to the
 // first that is damaged or missing; where no checkpoint is complete, the newest tree, as far as its lines are an image.
 #include "store_inside.h"
 #include "memlimit.h"
@@ -33,7 +33,7 @@ static void free_store(struct store *store) {
     mem_free(store);
 }
 
-// A folder that has anything but the lock is no new store.
+// A directory that has anything but the lock is no new store.
 static int check_empty(const struct store *store) {
     int count = 0;
     DIR *listing = opendir(store->folder);
@@ -74,7 +74,7 @@ static int write_new(struct rescue *rescue) {
     return err ? err : other;
 }
 
-// The new folder is tried first: what fails there costs no reading.
+// The new directory is tried first: what fails there costs no reading.
 static int open_both(struct rescue *rescue, const char *new_folder, const char *folder) {
     int err = store_open_to_read(rescue->old, folder);
     if (err) return err;

@@ -22,7 +22,7 @@ static const char kind[] = "snapshots";
 
 // ---- which of them stand
 
-// Where a name stands; behind the last where it does not.
+// Where a name stands; after the last where it does not.
 static unsigned find(const struct snapshots *all, const char *name) {
     unsigned index = 0;
     while (index < all->count && strcmp(all->at[index].name, name)) index++;

@@ -5,7 +5,7 @@
 
 // Copies a text into so much room, cut where it is longer, and ends it with a byte 0.
 void text_copy(char *out, size_t capacity, const char *text);
-// Each puts something behind what `out` has: 0 or ENOMEM.
+// Each puts something after what `out` has: 0 or ENOMEM.
 int text_escape(struct bytes *out, const char *path);
 // `-` stands for no bytes.
 int text_hex(struct bytes *out, const char *bytes, size_t count);

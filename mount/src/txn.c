@@ -34,7 +34,7 @@ static struct undo_entry *note(struct txn *txn, enum undo_kind how, const char *
     return undo;
 }
 
-// What lies below a folder that is undone as a whole goes with it.
+// What lies below a directory that is undone as a whole goes with it.
 static bool is_below_last(const struct txn *txn, const char *path) {
     if (!txn->count) return false;
     const struct undo_entry *last = &txn->undone[txn->count - 1];

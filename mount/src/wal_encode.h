@@ -1,10 +1,10 @@
-// Calls as bytes, and records of them: the archive's functions for a log, on bytes that grow.
+// Encodes calls as entries, and entries as records of the log, by functions of the library, into growable buffers.
 #ifndef WAL_ENCODE_H
 #define WAL_ENCODE_H
 #include "backend.h"
 #include "sha256.h"
 
-// Each puts a call behind those that are there: 0, or why it is refused.
+// Each puts a call after those that are there: 0, or why it is refused.
 int wal_encode_change(struct bytes *out, enum path_call what, const char *path, uint64_t at);
 int wal_encode_rename(struct bytes *out, const char *from, const char *to, uint64_t at);
 int wal_encode_truncate(struct bytes *out, const char *path, uint64_t length, uint64_t at);
@@ -23,7 +23,7 @@ struct wal_salt {
 int wal_new_salt(struct wal_salt *out);
 bool wal_same_salt(const struct wal_salt *one, const struct wal_salt *other);
 
-// What stands in front of the calls of a record, and behind them.
+// What precedes and follows the calls of a record.
 struct record_frame {
     uint8_t ends[DOORVERVAIN_WAL_HEADER + DOORVERVAIN_WAL_TRAILER];
 };
@@ -34,7 +34,7 @@ int wal_frame_by(const struct sha256_function *function, struct record_frame *ou
                  uint64_t number, const char *calls, size_t length);
 // Leaves the function only if it makes the frame of a record that the library makes.
 void wal_check_function(struct sha256_function *function);
-// Puts a record behind what is there: 0 or ENOMEM.
+// Puts a record after what is there: 0 or ENOMEM.
 int wal_put_record(struct bytes *out, const struct record_frame *frame, const char *calls, size_t length);
 // How many bytes of calls the record has with which a log of a salt begins: false where it begins with none of this
 // number.
@@ -55,7 +55,7 @@ enum {
     WAL_HEADER_BODY = 2 * WAL_SALT + 8 + WAL_MARKER,
     WAL_HEADER_RECORD = DOORVERVAIN_WAL_HEADER + WAL_HEADER_BODY + DOORVERVAIN_WAL_TRAILER,
 };
-// Puts it, as the record of this number, behind what is there.
+// Puts it, as the record of this number, after what is there.
 int wal_put_header(struct bytes *out, const struct wal_header *header, uint64_t number);
 // That with which a log begins: false where it does not begin with one of this number.
 bool wal_read_header(const char *log, size_t length, uint64_t number, struct wal_header *out);

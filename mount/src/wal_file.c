@@ -71,7 +71,7 @@ static int write_out(struct store *store) {
     return err;
 }
 
-// Zeros behind the records: a file that keeps its length and its blocks is synced without its file system's journal.
+// Zeros after the records: a file that keeps its length and its blocks is synced without its file system's journal.
 // Where there is no room for them, none are there. A long log has more of them, so that few syncs wait for them.
 static void fill_ahead(struct store *store) {
     static const char zeros[1 << 16];
@@ -211,7 +211,7 @@ int wal_sync_in_flight(struct store *store) {
     return 0;
 }
 
-// Without the zeros behind its records.
+// Without the zeros after its records.
 static int cut_and_sync(const struct wal_log *log) {
     return ftruncate(log->file, (off_t)log->length) || fdatasync(log->file) ? errno : 0;
 }

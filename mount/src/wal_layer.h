@@ -1,6 +1,5 @@
-// What a store and a replica share: a call that changes something is noted, as an entry of a log, and handed on. One
-// that
-// is refused leaves no note.
+// The layer that a store and a replica share: it encodes a call that changes something as an entry of the log, and
+// passes it to the inner backend. A call that fails leaves no entry.
 #ifndef WAL_LAYER_H
 #define WAL_LAYER_H
 #include "backend.h"
@@ -8,7 +7,7 @@
 // The first member of who notes, and so the `self` of these functions.
 struct wal_layer {
     struct backend inner;
-    // Begins a call, and says behind which bytes its note goes, and in `err` why it is refused, which is 0 before.
+    // Begins a call, and says after which bytes its note goes, and in `err` why it is refused, which is 0 before.
     // Null: the call does nothing, and is answered as done.
     struct bytes *(*begins)(void *self, int *err);
     // Ends a call that began: what it is answered with. Null: with its fault as it is.

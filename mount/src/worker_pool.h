@@ -1,4 +1,4 @@
-// Threads that share a piece of work with the thread that has it.
+// Threads that share one task with the thread that has it.
 #ifndef WORKER_POOL_H
 #define WORKER_POOL_H
 #include <pthread.h>

@@ -1,4 +1,4 @@
-// Threads for requests that take long, so that the thread that serves requests goes on, and forks of trees for them.
+// Threads for requests that take long, while the serving thread goes on, and forks of trees for them.
 #ifndef WORKERS_H
 #define WORKERS_H
 #include "mount.h"

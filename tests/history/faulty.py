@@ -2,7 +2,7 @@
 from collections.abc import Callable
 
 import tree
-from made import Tree, pictures
+from generate import Tree, pictures
 from order import DONE, Area, Call
 
 # What a call is answered and leaves of an area, of a call that is answered and leaves this.
@@ -126,10 +126,10 @@ class RestoreLeavesOne(Tree):
 
     def do_whole(self, kind: str, at: int) -> tuple[str, tuple[str, ...]]:
         last = self.areas[-1]
-        told = super().do_whole(kind, at)
+        reported = super().do_whole(kind, at)
         if kind == "restore":
             self.areas = (*self.areas[:-1], last)
-        return told
+        return reported
 
 
 class DropLeaves(Tree):

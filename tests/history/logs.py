@@ -66,7 +66,7 @@ def read(lines: Iterable[str]) -> tuple[Log, Turns]:
     raise Broken("the log ends before its last line")
 
 
-def told(call: Call) -> str:
+def reported(call: Call) -> str:
     """A call in words."""
     place = " ".join(call.words) if call.words else "/" if call.kind == "list" else f"{call.at}"
     return f"client {call.client}, from {call.begin} to {call.end}: {call.kind} {place}: {call.answer}"

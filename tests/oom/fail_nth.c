@@ -1,7 +1,9 @@
-/* Refuses a program's requests for memory. Preloaded into it, it counts its calls of malloc, calloc, realloc, aligned_alloc and
+/* Makes a program's allocations fail. Preloaded into it, it counts its calls of malloc, calloc, realloc, aligned_alloc and
  * posix_memalign: those between a line "asked" and a line "told" on standard output, or with REFUSE_WHOLE set those of the whole run.
- * REFUSE is the number of the request that is refused, or "all". When the program ends it says on standard error how many requests
- * it saw, and how many it refused.
+ * REFUSE is the number of the allocation that fails, or "all". When the program ends it prints on standard error how many allocations
+ * it saw, and how many failed.
+ *
+ * Invariant: an allocation outside of these lines is neither counted nor fails, nor do those of this file itself.
  */
 #include <errno.h>
 #include <stdio.h>

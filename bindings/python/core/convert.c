@@ -1,4 +1,7 @@
-// Arguments and results of calls.
+// Converts arguments and results of calls, and raises errors.
+//
+// Invariant: each function that fails sets an exception, and leaves no reference behind. A text is borrowed from the object
+// in `owner`, which lives as long as the text is used.
 #include "core.h"
 
 #include <string.h>

@@ -1,4 +1,8 @@
-// The lock of a volume or of a frozen tree.
+// The read-write lock of a volume or of a frozen tree.
+//
+// Invariant: either one thread holds it alone, `depth` times, or `readers` threads hold it beside each other, or nobody does.
+// All fields but `gate` and `next` belong to who holds the interpreter. A lock of before a fork of a process with threads
+// raises an error for good (core.h).
 #include "core.h"
 
 // How many forks lie above this process; the last of them that a process with other threads made, or 0; and whether the

@@ -1,4 +1,6 @@
-// The module.
+// The module `doorvervain._core`: its types, and what it takes from the modules beside it.
+//
+// Invariant: `known` is complete once the module was made, and is never unloaded.
 #include "core.h"
 
 struct known known;

@@ -1,4 +1,7 @@
-// What a volume and a frozen tree have in common: the read-only calls; and frozen trees.
+// What a volume and a frozen tree have in common, the read-only calls; and frozen trees.
+//
+// Invariant: of the two handles at most one is open. It is used only under the lock (`enter`, `enter_to_look`), and a call
+// on a closed one raises an error.
 #include "core.h"
 
 #include <stdlib.h>

@@ -1,4 +1,6 @@
 // Volumes: calls that change them, snapshots and compaction.
+//
+// Invariant: a call that changes the volume holds its lock alone, and `kept` has the shape of each snapshot.
 #include "core.h"
 
 #include <stdlib.h>

@@ -18,10 +18,10 @@ def state(top):
     for folder, names, files in os.walk(top):
         for name in names + files:
             path = os.path.join(folder, name)
-            told = os.lstat(path)
+            reported = os.lstat(path)
             is_dir = os.path.isdir(path)
             with open(os.devnull if is_dir else path, "rb") as file:
-                found[path[len(top) :]] = ("d" if is_dir else "f", told.st_mtime_ns, None if is_dir else file.read())
+                found[path[len(top) :]] = ("d" if is_dir else "f", reported.st_mtime_ns, None if is_dir else file.read())
     return found
 
 
@@ -31,9 +31,9 @@ def state_of(tree, top="/"):
     for folder, names, files in tree.walk(top):
         for name in names + files:
             path = folder.rstrip("/") + "/" + name
-            told = tree.stat(path)
+            reported = tree.stat(path)
             key = path[len(top.rstrip("/")) :].encode("utf-8", "surrogateescape")
-            found[key] = ("d" if told.is_dir else "f", told.modified, None if told.is_dir else tree.read(path))
+            found[key] = ("d" if reported.is_dir else "f", reported.modified, None if reported.is_dir else tree.read(path))
     return found
 
 
@@ -174,7 +174,7 @@ class HostTrees(unittest.TestCase):
             volume.export_tree(out, "/d")
         self.assertEqual((caught.exception.errno, caught.exception.filename), (errno.ENOTEMPTY, out))
 
-    def test_the_path_is_told_as_text_or_bytes(self):
+    def test_the_path_is_reported_as_text_or_bytes(self):
         volume = Volume()
         for host in [os.path.join(self.folder, b"none/out"), os.fsdecode(self.folder) + "/none/out"]:
             for call in [volume.import_tree, volume.export_tree, volume.freeze().export_tree]:
@@ -223,9 +223,9 @@ class Copies(unittest.TestCase):
         self.assertEqual(volume._next_extent("/g", at + (1 << 20)), (size, size))
         with tempfile.TemporaryDirectory() as folder:
             volume.export_tree(folder + "/out")
-            told = os.stat(folder + "/out/g")
-            self.assertEqual(told.st_size, size)
-            self.assertLess(told.st_blocks * 512, 1 << 20)
+            reported = os.stat(folder + "/out/g")
+            self.assertEqual(reported.st_size, size)
+            self.assertLess(reported.st_blocks * 512, 1 << 20)
             with open(folder + "/out/g", "rb") as file:
                 file.seek(at)
                 self.assertEqual(file.read(6), b"here\0\0")

@@ -120,7 +120,7 @@ class Refusals(unittest.TestCase):
             error = refused(self, kind, number, self.volume.rename, old, new)
             self.assertEqual((error.filename, error.filename2), (old, new))
 
-    def test_the_path_is_told_as_it_was_given(self):
+    def test_the_path_is_reported_as_it_was_given(self):
         self.assertEqual(refused(self, FileNotFoundError, errno.ENOENT, self.volume.stat, b"/x").filename, b"/x")
         path = pathlib.PurePosixPath("/x")
         self.assertEqual(refused(self, FileNotFoundError, errno.ENOENT, self.volume.stat, path).filename, "/x")
@@ -301,9 +301,9 @@ class Files(unittest.TestCase):
 
     def test_a_stat_has_what_that_of_os_has(self):
         self.volume.write_bytes("/f", b"abc", at=1_500_000_000)
-        told, folder = self.volume.stat("/f"), self.volume.stat("/")
-        self.assertEqual((told.st_size, told.st_mtime, told.st_mtime_ns), (3, 1.5, 1_500_000_000))
-        self.assertTrue(stat.S_ISREG(told.st_mode) and stat.S_ISDIR(folder.st_mode))
+        reported, folder = self.volume.stat("/f"), self.volume.stat("/")
+        self.assertEqual((reported.st_size, reported.st_mtime, reported.st_mtime_ns), (3, 1.5, 1_500_000_000))
+        self.assertTrue(stat.S_ISREG(reported.st_mode) and stat.S_ISDIR(folder.st_mode))
 
 
 class Snapshots(unittest.TestCase):
@@ -764,7 +764,7 @@ class Header(unittest.TestCase):
         self.assertIn(f'#define DOORVERVAIN_VERSION "{doorvervain.__version__}"', HEADER.read_text())
         self.assertEqual(doorvervain._core.RELEASE, doorvervain.__version__)
 
-    def test_the_build_is_told(self):
+    def test_the_build_is_reported(self):
         self.assertRegex(doorvervain.__build__, rf"^{re.escape(doorvervain.__version__)}, commit \w+( with changes)?, (un)?proved")
 
 

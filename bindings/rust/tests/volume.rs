@@ -382,7 +382,7 @@ fn a_bad_delta_changes_nothing() -> Result<(), Errno> {
 }
 
 #[test]
-fn the_build_is_told() {
+fn the_build_is_reported() {
     let mut words = doorvervain::BUILD.split(", ");
     assert_eq!(words.next(), Some(env!("CARGO_PKG_VERSION")));
     assert!(words.next().map_or(false, |word| word.starts_with("commit ")));

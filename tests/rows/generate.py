@@ -38,7 +38,7 @@ def name_of(word: bytes) -> bytes | None:
     return bytes(name) if name and len(name) <= 255 and name not in (b".", b"..") else None
 
 
-class Told:
+class Reported:
     """What the lines so far have told."""
 
     def __init__(self) -> None:
@@ -101,9 +101,9 @@ class Told:
 def bad_line(text: bytes) -> int | None:
     """The first line with which a text is no image; none where it is one."""
     *lines, rest = text.split(b"\n")
-    told = Told()
+    reported = Reported()
     for place, line in enumerate(lines, 1):
-        if not (told.takes_root(line) if place == 1 else told.takes(line)):
+        if not (reported.takes_root(line) if place == 1 else reported.takes(line)):
             return place
     return len(lines) + 1 if rest or not lines else None
 
@@ -150,24 +150,24 @@ def entry_line(draw: random.Random, tells_moments: bool, letter: bytes, *words: 
 
 def printed(text: bytes) -> bytes:
     """An image as it is printed: in version 2, where version 1 has the moment 0."""
-    told = re.sub(rb"^d (.*)$", rb"D \1 0", text, flags=re.M)
-    return re.sub(rb"^f (.*)$", rb"F \1 0", told, flags=re.M)
+    reported = re.sub(rb"^d (.*)$", rb"D \1 0", text, flags=re.M)
+    return re.sub(rb"^f (.*)$", rb"F \1 0", reported, flags=re.M)
 
 
 def image_of(draw: random.Random) -> bytes:
     """An image in the order of its keys: each entry stands in the directory before it, or behind that or one above it."""
-    told = draw.randrange(2) == 1
-    lines, names, is_directory = [entry_line(draw, told, b"d", b"/")], [], True
+    reported = draw.randrange(2) == 1
+    lines, names, is_directory = [entry_line(draw, reported, b"d", b"/")], [], True
     for _ in range(24):
         if not goes_on(draw, names, is_directory):
             break
         path = b"".join(b"/" + NAMES[it] for it in names)
         is_directory = draw.randrange(2) == 0
         if is_directory:
-            lines.append(entry_line(draw, told, b"d", path))
+            lines.append(entry_line(draw, reported, b"d", path))
         else:
             length = draw.choice(LENGTHS)
-            lines += [entry_line(draw, told, b"f", path, b"%d" % length), *blocks_of(draw, length)]
+            lines += [entry_line(draw, reported, b"f", path, b"%d" % length), *blocks_of(draw, length)]
     return b"".join(lines)
 
 

@@ -152,15 +152,15 @@ class Maker:
 
     def go_on(self, client: int) -> None:
         """A client's next doing."""
-        call, told = self.waiting.get(client, (None, None))
+        call, reported = self.waiting.get(client, (None, None))
         if call is None:
             if len(self.calls) + len(self.waiting) < self.shape.calls:
                 self.begin(client)
-        elif told is None:
+        elif reported is None:
             self.waiting[client] = (call, self.tree.do(call))
         else:
             del self.waiting[client]
-            self.calls.append(call._replace(end=self.moment, answer=told[0], seen=told[1]))
+            self.calls.append(call._replace(end=self.moment, answer=reported[0], seen=reported[1]))
             self.moment += 1
 
     def log(self) -> Log:
