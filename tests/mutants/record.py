@@ -20,8 +20,8 @@ from resolve import checksum
 from source import Source
 from items import sources_of
 
-# The libraries that need no edits: crates of tests, benchmarks, examples and samples, and scenes of refused memory.
-WITHOUT_EDITS = re.compile(r"\w+_tests|benches|example_\w+|test_support|oom|oom_\w+")
+# The libraries that need no edits: crates of tests, benchmarks and examples.
+WITHOUT_EDITS = re.compile(r"\w+_tests|benches|example_\w+")
 # What the record says of an edit that was refused at goals that are not known, of one that was not refused, and of one that is yet to be tried.
 AT_UNKNOWN, NOT_REFUSED, NOT_TRIED = "refused", "NOT-REFUSED", "not-tried"
 HEADER = """\
