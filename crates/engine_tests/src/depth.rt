@@ -170,3 +170,56 @@ pub fn sinks_beside<J: EngineId, R: Wait>(
     let is_deep = files < FILES || is_deep(rt, &mut client);
     before == Some(1) && beside == files && after.is_some() && is_deep
 }
+
+/// Whether these blocks of a file get a byte each.
+fn writes_blocks<J: EngineId, R: Wait>(
+    rt: &R,
+    alloc: Global,
+    client: &mut Client<J>,
+    blocks: u32,
+) -> bool {
+    let mut is_right = true;
+    for number in 0..blocks {
+        is_right &= answers(
+            rt,
+            alloc,
+            client,
+            SampleCall::Write("/blocks", u64::from(number) * 4_096, b"x"),
+            ExpectedReply::Count(1),
+        );
+    }
+    is_right
+}
+
+/// Whether the tree of the metadata has leaves below its root, and that of the blocks has more levels.
+fn are_unequal<J: EngineId, R: Wait>(rt: &R, client: &mut Client<J>) -> bool {
+    match shapes(rt, client) {
+        Some((meta, block)) => meta.levels <= 2 && block.levels >= 3,
+        None => false,
+    }
+}
+
+/// Makes one file of many blocks, flushes all, and then makes many files and writes a few blocks. No job can be taken of the
+/// metadata, where more messages are pending: the next turn takes one of the blocks.
+pub fn takes_of_the_other<J: EngineId, R: Wait>(
+    rt: &R,
+    alloc: Global,
+    mut client: Client<J>,
+    mut flusher: Flusher<J>,
+) -> bool {
+    let ask = SampleCall::Create("/blocks");
+    let created = answers(rt, alloc, &mut client, ask, ExpectedReply::Done);
+    let filled = writes_blocks(rt, alloc, &mut client, 100);
+    let flushed = turns_until_idle(rt, alloc, &mut flusher).is_some();
+    let is_ready = are_unequal(rt, &mut client);
+    let written = writes_blocks(rt, alloc, &mut client, 4);
+    let made = makes_all(rt, alloc, &mut client);
+    let reply = turn(rt, alloc, &mut flusher);
+    created
+        && filled
+        && flushed
+        && is_ready
+        && written
+        && made
+        && reply == Some(TurnReply::Installed)
+}

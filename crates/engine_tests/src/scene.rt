@@ -3,7 +3,7 @@ ghost use Rattle.std.specs.Prelude.{◌≡◌};
 
 use crate::asked::{SMALL, new_room};
 use crate::between::{Interference, gives_back, goes_on};
-use crate::depth::{sinks, sinks_beside};
+use crate::depth::{sinks, sinks_beside, takes_of_the_other};
 use crate::unlocked::writes_meanwhile;
 use engine::{Client, Engine, EngineBuilder, EngineId, Flusher};
 use std::alloc::Global;
@@ -18,6 +18,8 @@ enum Scene {
     Sinks,
     /// So many files sink, with a turn after each.
     SinksBeside(u32),
+    /// A job of the index with fewer pending messages is taken.
+    TakesOfTheOther,
     /// A client does this between the two holds of a turn.
     GoesOn(Interference),
     /// A job is given back.
@@ -37,6 +39,7 @@ fn plays<J: EngineId + Send + Sync, R: Threads + Wait + Sync>(
     match scene {
         Scene::Sinks => sinks(rt, alloc, client, flusher),
         Scene::SinksBeside(files) => sinks_beside(rt, alloc, client, flusher, files),
+        Scene::TakesOfTheOther => takes_of_the_other(rt, alloc, client, flusher),
         Scene::GoesOn(interference) => goes_on(rt, alloc, client, flusher, interference),
         Scene::GivesBack => gives_back(rt, alloc, client, flusher),
         Scene::WritesMeanwhile => writes_meanwhile(rt, alloc, client, flusher),
@@ -103,6 +106,11 @@ fn each_turn_does_something_while_a_message_waits(rt: HostRuntime) {
             "at {files}"
         );
     }
+}
+
+#[test]
+fn a_job_of_the_other_index_is_taken(rt: HostRuntime) {
+    assert!(rt; is_seen(&rt, rt.alloc(), Scene::TakesOfTheOther));
 }
 
 #[test]
