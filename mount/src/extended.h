@@ -1,5 +1,4 @@
-// Extended attributes, in the form in which the archive packs them into a record: each by its name, a byte 0, four
-// bytes of its length with the lowest first, and its value, in rising order of names.
+// Extended attributes of entries.
 #ifndef EXTENDED_H
 #define EXTENDED_H
 #include "request.h"
