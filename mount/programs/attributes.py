@@ -7,7 +7,7 @@ import subprocess
 import tempfile
 from collections.abc import Callable
 
-from cases import MNT, case, get, mount_case, put, refused, root_case, run_cases
+from cases import CAPABILITY, MNT, case, get, mount_case, put, refused, root_case, run_cases
 
 MOMENTS = (0, 1, 999_999_999, 10**9, 1_234_567_890_123_456_789, 2**31 * 10**9 - 1, 2**31 * 10**9, 2**33 * 10**9 + 7)
 
@@ -94,14 +94,67 @@ def another_owner_takes_the_set_user_bits():
     assert (mode("file"), owner("file")) == (0o755, (1, 1)), oct(mode("file"))
 
 
+CHANGES = ("echo x >> file", "echo x 1<> file", ": > file", "truncate -s 1 file", "fallocate -l 9 file",
+           "fallocate -p -l 2 file", "dd if=/dev/zero of=file bs=4096 count=1 oflag=direct conv=notrunc status=none")
+WITHOUT_FSETID = ("setpriv", "--inh-caps=-fsetid", "--bounding-set=-fsetid")
+
+
+def mode_behind(command: str, before: int, *words: str) -> int:
+    """The mode that a file has once a shell changed it, by a program that may not have all capabilities."""
+    put("file", b"abc")
+    os.chmod("file", before)
+    subprocess.run([*words, "sh", "-c", command], check=True)
+    asked = subprocess.run(["stat", "-c", "%a", "file"], capture_output=True, check=True)  # for the mode alone
+    told = int(asked.stdout, 8)
+    assert told == mode("file"), (command, oct(told), oct(mode("file")))
+    return told
+
+
 @root_case
 def a_write_of_others_takes_the_set_user_bits():
-    for number, command in enumerate(("echo x >> file", ": > file", "truncate -s 1 file")):
+    for command in CHANGES:
+        for before, after in ((0o6777, 0o777), (0o6767, 0o2767), (0o4755, 0o755), (0o2755, 0o755), (0o2644, 0o2644)):
+            told = mode_behind(command, before, *WITHOUT_FSETID)
+            assert told == after, (command, oct(before), oct(told))
+
+
+@root_case
+def a_write_of_root_leaves_the_set_user_bits():
+    for command in CHANGES:
+        assert mode_behind(command, 0o6777) == 0o6777, (command, oct(mode("file")))
+
+
+@root_case
+def each_write_takes_the_set_user_bits_again():
+    """Also by a file that was open before, and behind a write that found none."""
+    put("file", b"abc")
+    with open("file", "r+b", buffering=0) as file:
+        file.write(b"a")
+        os.chmod("file", 0o4755)
+        subprocess.run([*WITHOUT_FSETID, "echo", "x"], stdout=file, check=True)
+        assert mode("file") == 0o755, oct(mode("file"))
+        os.chmod("file", 0o4755)
+        file.write(b"b")
+        assert mode("file") == 0o4755, oct(mode("file"))
+
+
+@root_case
+def a_change_takes_the_capability():
+    for number, command in enumerate(CHANGES + ("chown 1 file", "chgrp 1 file")):
         put("file", b"abc")
-        os.chmod("file", 0o6777)
-        drop = ["setpriv", "--inh-caps=-fsetid", "--bounding-set=-fsetid", "sh", "-c", command]
-        subprocess.run(drop, check=True)
-        assert mode("file") == 0o777, (command, oct(mode("file")))
+        os.chown("file", 0, 0)
+        with open("file", "r+b", buffering=0) as file:
+            file.write(b"a")
+            os.setxattr("file", "user.a", b"b")
+            os.setxattr("file", "security.capability", CAPABILITY)
+            assert os.getxattr("file", "security.capability") == CAPABILITY
+            if number:
+                subprocess.run(["sh", "-c", command], check=True)
+            else:
+                file.write(b"c")
+        refused(errno.ENODATA, os.getxattr, "file", "security.capability")
+        assert extended("file") == {"user.a": b"b"}, command
+        os.removexattr("file", "user.a")
 
 
 @case

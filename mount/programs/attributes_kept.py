@@ -1,9 +1,12 @@
 """Attributes of each kind in an image and in a snapshot, in mounts of its own."""
+import errno
 import os
+import shutil
 import stat
 import subprocess
 from pathlib import Path
 
+from cases import CAPABILITY, refused
 from kept import outlives, restore
 from own_mount import Mount, case, run_cases
 from seen import alike, seen
@@ -195,6 +198,83 @@ def others_are_kept_out_by_modes(folder: Path):
         shell = ["setpriv", "--reuid=65534", "--regid=65534", "--clear-groups", "sh", "-c", command]
         done = subprocess.run(shell, cwd=mount.point, stdout=subprocess.DEVNULL, stderr=subprocess.DEVNULL)
         assert bool(done.returncode) == bool(refused), command
+    assert mount.end() == 0, mount.said()
+
+
+CHANGES = {
+    "write": "file = os.open('program', os.O_RDWR); os.pwrite(file, os.pread(file, 64, 0), 0); os.close(file)",
+    "fallocate": "file = os.open('program', os.O_WRONLY); os.posix_fallocate(file, 0, 1); os.close(file)",
+    "cut": "file = os.open('program', os.O_RDONLY); text = os.pread(file, 1 << 20, 0); os.close(file);"
+           "file = os.open('program', os.O_WRONLY | os.O_TRUNC); os.pwrite(file, text, 0); os.close(file)",
+    "owner": "os.chown('program', -1, 65534)",
+}
+
+
+@case
+def who_changed_a_program_does_not_run_it_as_its_owner(folder: Path):
+    """The kernel asks nothing between the change and the start: so it has to know by then that the bit is gone."""
+    if os.getuid() != 0:
+        return
+    folder.chmod(0o755)
+    mount = Mount(folder, "--allow-other", "--trust-attributes")
+    others = ["setpriv", "--reuid=65534", "--regid=65534", "--clear-groups"]
+    for name, call in CHANGES.items():
+        shutil.copy("/usr/bin/id", mount.point / "program")
+        os.chown(mount.point / "program", 65534 if name == "owner" else 0, 0)
+        os.chmod(mount.point / "program", 0o4777)
+        told = subprocess.run([*others, "./program", "-u"], cwd=mount.point, capture_output=True, text=True)
+        assert told.stdout == ("65534\n" if name == "owner" else "0\n"), (name, told)
+        change = f"import os; {call}; os.execv('./program', ['program', '-u'])"
+        told = subprocess.run([*others, "python3", "-c", change], cwd=mount.point, capture_output=True, text=True)
+        assert told.stdout == "65534\n", (name, told)
+        assert not os.stat(mount.point / "program").st_mode & stat.S_ISUID, name
+        (mount.point / "program").unlink()
+    assert mount.end() == 0, mount.said()
+
+
+@case
+def a_cut_takes_set_user_bits_of_a_file_that_the_kernel_does_not_know(folder: Path):
+    if os.getuid() != 0:
+        return
+    mount = Mount(folder, "--image", folder / "image")
+    for name in ("user", "group", "none"):
+        (mount.point / name).write_text("abc")
+        os.setxattr(mount.point / name, "security.capability", CAPABILITY)
+    for name, mode in (("user", 0o4777), ("group", 0o6777), ("none", 0o777)):
+        os.chmod(mount.point / name, mode)
+    assert mount.end() == 0, mount.said()
+    mount = Mount(folder, "--load", folder / "image", "--trust-attributes")
+    cut = ["setpriv", "--inh-caps=-fsetid", "--bounding-set=-fsetid", "sh", "-c", ": > user; : > group; : > none"]
+    subprocess.run(cut, cwd=mount.point, check=True)
+    for name in ("user", "group", "none"):
+        told = os.stat(mount.point / name)
+        assert (told.st_size, stat.S_IMODE(told.st_mode)) == (0, 0o777), (name, told)
+        assert os.listxattr(mount.point / name) == [], name
+    assert mount.end() == 0, mount.said()
+
+
+@case
+def a_file_that_is_restored_loses_its_capability(folder: Path):
+    """The kernel found none when the open file was written before, and does not look again."""
+    if os.getuid() != 0:
+        return
+    mount = Mount(folder)
+    changes = {"write": lambda file: os.pwrite(file, b"c", 0), "cut": lambda file: os.ftruncate(file, 1),
+               "fallocate": lambda file: os.posix_fallocate(file, 0, 9)}
+    for name in changes:
+        (mount.point / name).write_text("abc")
+        os.setxattr(mount.point / name, "security.capability", CAPABILITY)
+    os.mkdir(mount.point / ".snapshots/s")
+    files = {name: os.open(mount.point / name, os.O_RDWR) for name in changes}
+    for name, file in files.items():
+        os.pwrite(file, b"b", 0)
+        refused(errno.ENODATA, os.getxattr, mount.point / name, "security.capability")
+        os.pwrite(file, b"b", 0)
+    restore(mount, "s")
+    for name, file in files.items():
+        changes[name](file)
+        refused(errno.ENODATA, os.getxattr, mount.point / name, "security.capability")
+        os.close(file)
     assert mount.end() == 0, mount.said()
 
 

@@ -2,11 +2,13 @@
 import errno
 import os
 import shutil
+import struct
 import sys
 import traceback
 from collections.abc import Callable
 
 MNT = os.environ.get("MNT", "")
+CAPABILITY = struct.pack("<5I", 0x02000001, 1 << 10, 0, 0, 0)  # a value of `security.capability`: to bind to low ports
 CASES: list[Callable[[], None]] = []
 
 

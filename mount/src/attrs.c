@@ -6,6 +6,7 @@
 // `attrs_gen` is the mount's `tree_gen`.
 #include "attrs.h"
 #include "exit_report.h"
+#include "packed.h"
 #include "text.h"
 #include <errno.h>
 #include <stdio.h>
@@ -13,6 +14,7 @@
 #include <unistd.h>
 
 enum { USUAL_MODE = 0644, USUAL_FOLDER_MODE = 0755 };
+#define CAPABILITY "security.capability"
 
 // Where the record of a path lies.
 struct record_path {
@@ -95,13 +97,18 @@ static bool fits(const struct doorvervain_attributes *base, bool is_directory, b
     return base->names && is_directory == (base->kind == DOORVERVAIN_DIRECTORY);
 }
 
+static void note_extended(struct attrs *attrs, const struct bytes *extended) {
+    attrs->has_extended = extended && extended->length;
+    attrs->has_capability = attrs->has_extended && packed_has(extended, CAPABILITY);
+}
+
 static int parse(const struct bytes *text, struct attrs *out, struct bytes *extended) {
     struct bytes unasked = {NULL}, *packed = extended ? extended : &unasked;
     int err = bytes_reserve(packed, text->length + 1);
     if (!err)
         err = doorvervain_errno(doorvervain_attr_decode((const uint8_t *)text->at, text->length, &out->base,
                                                         (uint8_t *)packed->at, text->length, &packed->length));
-    out->has_extended = packed->length;
+    note_extended(out, packed);
     bytes_free(&unasked);
     return err;
 }
@@ -327,7 +334,7 @@ static int print_and_put(struct txn *txn, const char *path, const struct attrs *
 
 // Notes what the attributes have, and whether there is a record of them from now on: false where there is none.
 static bool note_record(const struct txn *txn, struct attrs *attrs, const struct bytes *extended) {
-    attrs->has_extended = extended && extended->length;
+    note_extended(attrs, extended);
     attrs->has_record = !is_default(txn->mount, attrs);
     attrs->changed = attrs->has_record ? txn->at : 0;
     return attrs->has_record;
@@ -351,6 +358,7 @@ int attrs_rewrite(struct txn *txn, struct inode *inode, struct attrs *attrs) {
     int err = inode_path(inode, NULL, &resolved);
     if (err) return err == ENOENT ? 0 : err; // A directory that is gone.
     if (attrs->has_extended) err = attrs_read_extended(txn, resolved.path, &extended);
+    if (!err && !attrs->has_capability) packed_take_out(&extended, CAPABILITY);
     if (!err) err = attrs_write(txn, resolved.path, attrs, &extended);
     bytes_free(&extended);
     return err;

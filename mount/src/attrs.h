@@ -38,7 +38,8 @@ int attrs_write(struct txn *txn, const char *path, struct attrs *attrs, const st
 // The record of an entry that was just made. What an image left in its place counts for nothing, and goes.
 int attrs_create(struct txn *txn, struct inode *parent, const char *path, struct attrs *attrs,
                  const struct bytes *extended);
-// The record that an entry has, with its extended attributes, gets other attributes.
+// The record that an entry has, with its extended attributes, gets other attributes. A capability goes where these have
+// none.
 int attrs_rewrite(struct txn *txn, struct inode *inode, struct attrs *attrs);
 // Moves the records of a path and of all below it to another path, where none stand then but these.
 int attrs_move(struct txn *txn, struct inode *parent, const char *from, struct inode *new_parent, const char *to);

@@ -37,10 +37,11 @@ bool busy_poll_ready(int device) {
     return poll(&comes, 1, 0) > 0;
 }
 
-bool busy_poll_wait(int device) {
-    if (!longest) return false;
+bool busy_poll_wait(int device, bool has_come) {
+    if (!longest) return has_come;
     begun = monotonic_ns();
     looks = soon >= enough;
+    if (has_come) return true;
     while (looks && monotonic_ns() - begun < longest)
         if (busy_poll_ready(device)) return true;
     return false;

@@ -8,8 +8,8 @@
 void busy_poll_set(unsigned microseconds);
 // Whether the next request is there.
 bool busy_poll_ready(int device);
-// Looks for it for so long, where the last ones came as soon as that: whether it is there.
-bool busy_poll_wait(int device);
+// Looks for it for so long, where the last ones came as soon as that, unless it was seen before: whether it is there.
+bool busy_poll_wait(int device, bool has_come);
 // The next request has come, whether it was looked for or not.
 void busy_poll_note(void);
 #endif

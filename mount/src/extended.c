@@ -1,63 +1,17 @@
-// Extended attributes, packed as the library has them in a record.
+// Gets, lists and sets extended attributes, which the record of an entry has.
 //
-// Invariant: names rise in byte order, so each is there once. A change packs all of them anew and writes the record
-// within one transaction.
+// Invariant: a change packs all of them anew and writes the record within one transaction.
 #include "extended.h"
 #include "fs_ops.h"
 #include "attrs.h"
 #include "memlimit.h"
+#include "packed.h"
 #include <assert.h>
 #include <errno.h>
 #include <string.h>
 #include <sys/xattr.h>
 
-enum { BYTES_OF_LENGTH = 4 };
 #define TRUSTED "trusted."
-
-// One of those that are packed. It takes the bytes from `at` to `end`.
-struct packed {
-    size_t at, end;
-    const char *name, *value;
-    size_t length;
-};
-
-static struct packed read_at(const struct bytes *all, size_t at) {
-    struct packed one = {.at = at, .name = all->at + at};
-    const unsigned char *length = (const unsigned char *)one.name + strlen(one.name) + 1;
-    for (int i = BYTES_OF_LENGTH; i-- > 0;) one.length = one.length << 8 | length[i];
-    one.value = (const char *)length + BYTES_OF_LENGTH;
-    one.end = (size_t)(one.value - all->at) + one.length;
-    return one;
-}
-
-// The one of a name: false where there is none, and then `out` is an empty one, in the place where it would stand.
-static bool find(const struct bytes *all, const char *name, struct packed *out) {
-    size_t at = 0;
-    for (; at < all->length; at = out->end) {
-        *out = read_at(all, at);
-        int order = strcmp(out->name, name);
-        if (order == 0) return true;
-        if (order > 0) break;
-    }
-    *out = (struct packed){.at = at, .end = at};
-    return false;
-}
-
-static int append_packed(struct bytes *out, const char *name, const char *value, size_t length) {
-    char digits[BYTES_OF_LENGTH];
-    for (int i = 0; i < BYTES_OF_LENGTH; i++) digits[i] = (char)(length >> 8 * i);
-    int err = bytes_append(out, name, strlen(name) + 1);
-    if (!err) err = bytes_append(out, digits, sizeof digits);
-    return err ? err : bytes_append(out, value, length);
-}
-
-// All of them but one, in whose place another value stands, or none.
-static int exchange(const struct bytes *all, const struct packed *gone, const char *name, const char *value,
-                    size_t length, struct bytes *out) {
-    int err = bytes_append(out, all->at, gone->at);
-    if (!err && value) err = append_packed(out, name, value, length);
-    return err ? err : bytes_append(out, all->at + gone->end, all->length - gone->end);
-}
 
 // All that an entry has. Mostly it has none, which is known without a look.
 static int read_all(struct mount *mount, struct inode *inode, struct bytes *out) {
@@ -84,7 +38,7 @@ int extended_get(struct mount *mount, struct inode *inode, const char *name, str
     struct bytes all = {NULL};
     struct packed one;
     int err = is_refused(name) ? EOPNOTSUPP : read_all(mount, inode, &all);
-    if (!err && !find(&all, name, &one)) err = ENODATA;
+    if (!err && !packed_find(&all, name, &one)) err = ENODATA;
     if (!err) err = bytes_append(out, one.value, one.length);
     bytes_free(&all);
     return err;
@@ -95,7 +49,7 @@ int extended_list(struct mount *mount, struct inode *inode, bool is_root, struct
     struct bytes all = {NULL};
     int err = read_all(mount, inode, &all);
     for (struct packed one = {0}; !err && one.end < all.length;) {
-        one = read_at(&all, one.end);
+        one = packed_read(&all, one.end);
         if (!is_root && !strncmp(one.name, TRUSTED, strlen(TRUSTED))) continue;
         err = bytes_append(out, one.name, strlen(one.name) + 1);
     }
@@ -123,10 +77,10 @@ static int change(const struct request *request, struct inode *inode, const char
     struct bytes all = {NULL}, changed = {NULL};
     struct packed one;
     int err = read_all(request->mount, inode, &all);
-    bool stands = !err && find(&all, name, &one);
+    bool stands = !err && packed_find(&all, name, &one);
     if (!err && stands && flags & XATTR_CREATE) err = EEXIST;
     if (!err && !stands && flags & XATTR_REPLACE) err = ENODATA;
-    if (!err) err = exchange(&all, &one, name, value, length, &changed);
+    if (!err) err = packed_exchange(&all, &one, name, value, length, &changed);
     if (!err) err = write_all(request->mount, inode, &changed, request->at);
     bytes_free(&all);
     bytes_free(&changed);

@@ -1,5 +1,4 @@
-// Extended attributes, as the library encodes them in a record: each as its name, a byte 0, four little-endian bytes of
-// its length, and its value, in ascending order of names.
+// Extended attributes of entries.
 #ifndef EXTENDED_H
 #define EXTENDED_H
 #include "request.h"

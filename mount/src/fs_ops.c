@@ -188,8 +188,11 @@ static uint64_t next_mtime(const struct truncation *truncation, const struct nod
     return truncation->is_wanted ? truncation->at : node_stat->mtime_ns;
 }
 
+static mode_t set_user_bits(mode_t mode) { return mode & (mode & S_IXGRP ? S_ISUID | S_ISGID : S_ISUID); }
+
 static void apply(const struct setattr *setattr, uint64_t mtime_ns, struct doorvervain_attributes *base) {
     if (setattr->mode) base->mode = *setattr->mode & 07777;
+    if (setattr->drops_set_user) base->mode &= ~set_user_bits(base->mode);
     if (setattr->user) base->user = *setattr->user;
     if (setattr->group) base->group = *setattr->group;
     if (!setattr->modify) return;
@@ -198,9 +201,11 @@ static void apply(const struct setattr *setattr, uint64_t mtime_ns, struct doorv
     base->has_modified = base->modified != mtime_ns;
 }
 
-static bool is_other(const struct doorvervain_attributes *one, const struct doorvervain_attributes *other) {
-    return one->mode != other->mode || one->user != other->user || one->group != other->group ||
-           one->has_modified != other->has_modified || (one->has_modified && one->modified != other->modified);
+static bool is_other(const struct attrs *attrs, const struct attrs *before) {
+    const struct doorvervain_attributes *one = &attrs->base, *other = &before->base;
+    return attrs->has_capability != before->has_capability || one->mode != other->mode || one->user != other->user ||
+           one->group != other->group || one->has_modified != other->has_modified ||
+           (one->has_modified && one->modified != other->modified);
 }
 
 static int cut_file(struct mount *mount, struct inode *inode, const struct truncation *truncation) {
@@ -259,10 +264,11 @@ int fs_setattr(struct request *request, struct inode *inode, const struct setatt
     uint64_t mtime_ns = next_mtime(&truncation, &node_stat);
     struct attrs wanted = *known;
     if (wanted.base.held != mtime_ns) wanted.base.has_modified = 0;
-    struct doorvervain_attributes before = wanted.base;
+    struct attrs before = wanted;
     apply(setattr, mtime_ns, &wanted.base);
+    if (setattr->drops_capability) wanted.has_capability = false;
     attrs_untrust(mount, &wanted.base);
-    err = set_attributes(request, inode, &truncation, &wanted, is_other(&wanted.base, &before));
+    err = set_attributes(request, inode, &truncation, &wanted, is_other(&wanted, &before));
     if (err) return err;
     inode->has_access |= setattr->access != NULL;
     if (setattr->access) inode->access = *setattr->access;
@@ -272,14 +278,15 @@ int fs_setattr(struct request *request, struct inode *inode, const struct setatt
 
 // ---- bytes
 
-// For writes and other cuts the kernel says so itself.
-static int drop_set_user(struct request *request, struct inode *inode) {
+// Mostly there is nothing to take.
+int fs_drop_privileges(struct request *request, struct inode *inode, bool drops) {
+    assert(request_lock_is_held(request->mount));
     const struct attrs *attrs;
     int err = attrs_of(request->mount, inode, &attrs);
-    mode_t mode = attrs->base.mode, less = mode & (mode & S_IXGRP ? S_ISUID | S_ISGID : S_ISUID);
-    if (err || !less) return err;
-    mode &= ~less;
-    return fs_setattr(request, inode, &(struct setattr){.mode = &mode});
+    bool has_bits = drops && set_user_bits(attrs->base.mode);
+    if (err || (!has_bits && !attrs->has_capability)) return err;
+    if (has_bits) request->stale = inode;
+    return fs_setattr(request, inode, &(struct setattr){.drops_set_user = drops, .drops_capability = true});
 }
 
 // Both are one change. Where that only waits, the entry has the attributes that it had.
@@ -287,7 +294,7 @@ static int cut_open(struct request *request, struct inode *inode, bool drops) {
     struct mount *mount = request->mount;
     struct attrs before = inode->attrs;
     replica_change_begins(mount);
-    int err = drops ? drop_set_user(request, inode) : 0;
+    int err = fs_drop_privileges(request, inode, drops);
     if (!err) err = cut_file(mount, inode, &(struct truncation){.is_wanted = true, .at = request->at});
     err = replica_change_ends(mount, err);
     if (err && mount->replica) inode->attrs = before;

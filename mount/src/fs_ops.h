@@ -20,6 +20,7 @@ struct setattr {
     const uint64_t *length;
     const struct timespec *access, *modify;
     bool modifies_now; // `modify` is the request's timestamp
+    bool drops_set_user, drops_capability;
 };
 
 // What is to be made under a new name.
@@ -40,6 +41,9 @@ int fs_node_stat(struct mount *mount, const struct inode *inode, struct node_sta
 void fs_fill_stat(struct mount *mount, struct inode *inode, struct node_stat node_stat, struct stat *out);
 int fs_setattr(struct request *request, struct inode *inode, const struct setattr *setattr);
 
+// What Linux takes off a file whose bytes change: its capability, and, where `drops` holds, set-user bits. That of the
+// group stands where no group may execute the file.
+int fs_drop_privileges(struct request *request, struct inode *inode, bool drops);
 // A file is opened, with flags as of open(2), and closed. One that is cut by it may drop its set-user bits.
 int fs_open(struct request *request, struct inode *inode, int flags, bool drops);
 int fs_release(struct request *request, struct inode *inode);

@@ -24,7 +24,8 @@ struct attrs {
     struct doorvervain_attributes base; // but the times below, and the extended attributes
     bool has_record;
     bool has_extended;
-    uint64_t changed; // the timestamp of the record
+    bool has_capability; // `security.capability` is one of them
+    uint64_t changed;    // the timestamp of the record
 };
 
 struct inode {

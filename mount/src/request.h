@@ -11,6 +11,7 @@ struct request {
     struct fuse_req *req;
     uint64_t at; // the timestamp of all that it changes, in nanoseconds since 1970
     struct mem_budget budget;
+    const struct inode *stale; // of a file that lost set-user bits, which the kernel does not know; null: there is none
 };
 
 // Whether this thread may use the tree: it holds the request lock, or is the one thread of a replica.

@@ -7,6 +7,7 @@
 // opened. The list of open handles is changed by the serving thread alone.
 #include "requests.h"
 #include "answers.h"
+#include "attrs.h"
 #include "orphan.h"
 #include "busy_poll.h"
 #include "delta_ioctl.h"
@@ -20,6 +21,7 @@
 #include "namei.h"
 #include "replica.h"
 #include "memlimit.h"
+#include "privileges.h"
 #include "snapshots.h"
 #include "status.h"
 #include "store.h"
@@ -72,13 +74,15 @@ static bool owes_much(struct mount *mount) {
     return does;
 }
 
-// Whether a step was left to be done. No size of the mount lets it take more than a call.
-static bool idle_once(struct mount *mount) {
+// Whether a step was left to be done; `has_come` is set where a request was seen instead. No size of the mount lets a
+// step take more than a call.
+static bool idle_once(struct mount *mount, bool *has_come) {
     const struct backend *backend = &mount->backend;
     struct mem_budget budget;
     lock_take(&request_lock);
     unsigned owed = backend_compaction_debt(backend);
-    bool is_due = owed > MOST_WAITING_STEPS || (owed && !busy_poll_ready(fuse_session_fd(session)));
+    if (owed && !*has_come) *has_come = busy_poll_ready(fuse_session_fd(session));
+    bool is_due = owed > MOST_WAITING_STEPS || (owed && !*has_come);
     memlimit_begin(&budget);
     if (is_due) backend_compact(backend, 1);
     memlimit_suspend();
@@ -94,11 +98,12 @@ static void trim_when_idle(void) {
 
 // One step is done while whoever was answered wakes up. The next request may come before there is time for others.
 void requests_idle(struct mount *mount) {
+    bool has_come = false;
     if (mount->store) store_idle(mount->store);
-    idle_once(mount);
-    while (owes_much(mount)) idle_once(mount);
-    if (busy_poll_wait(fuse_session_fd(session))) return;
-    while (!fuse_session_exited(session) && idle_once(mount)) continue;
+    idle_once(mount, &has_come);
+    while (owes_much(mount)) idle_once(mount, &has_come);
+    if (busy_poll_wait(fuse_session_fd(session), has_come)) return;
+    while (!fuse_session_exited(session) && idle_once(mount, &has_come)) continue;
     if (!mount->replica) trim_when_idle();
 }
 
@@ -155,11 +160,17 @@ int requests_end(const struct request *request, int err) {
     return end_changed(request, err, &has_changed);
 }
 
+// A file lost set-user bits by a request whose answer does not say so: whoever runs it next asks for its mode.
+static void notify_mode(const struct inode *inode) {
+    fuse_lowlevel_notify_inval_inode(session, (fuse_ino_t)(uintptr_t)inode, -1, 0);
+}
+
 // Leaves the lock, and answers a request that changes something.
 static void finish(const struct request *request, int err, struct answer answer) {
     bool has_changed;
     answer.request = *request;
     answer.err = end_changed(request, err, &has_changed);
+    if (request->stale && privileges_are_ours()) notify_mode(request->stale);
     answer_change(&answer, has_changed);
 }
 
@@ -190,6 +201,7 @@ static struct answer entry_answer(int err, const struct lookup_result *result) {
 static void on_init(void *mount, struct fuse_conn_info *connection) {
     (void)mount;
     connection->max_readahead = LARGEST_READ;
+    connection->want &= ~FUSE_CAP_HANDLE_KILLPRIV; // some libfuse would tell the kernel that it need not do it
 }
 
 static void on_lookup(fuse_req_t req, fuse_ino_t parent, const char *name) {
@@ -284,6 +296,9 @@ static void on_setattr(fuse_req_t req, fuse_ino_t ino, struct stat *wanted, int 
                   : which & FUSE_SET_ATTR_MTIME   ? &wanted->st_mtim
                                                   : NULL,
         .modifies_now = which & FUSE_SET_ATTR_MTIME_NOW,
+        .drops_set_user = privileges_are_lost(),
+        .drops_capability =
+            privileges_are_ours() && which & (FUSE_SET_ATTR_SIZE | FUSE_SET_ATTR_UID | FUSE_SET_ATTR_GID),
     };
     struct stat stat;
     (void)info;
@@ -455,7 +470,7 @@ static void close_handle(struct fuse_file_info *info) {
     mem_free(handle);
 }
 
-// Whether who cuts a file takes its set-user bits away: all but those who have CAP_FSETID.
+// Whether who changes a file takes its set-user bits away: all but those who have CAP_FSETID.
 static bool drops_set_user(const struct request *request) {
     char name[64], line[256];
     unsigned long long held = 0;
@@ -468,8 +483,15 @@ static bool drops_set_user(const struct request *request) {
 }
 
 // It is asked only where a file has such bits.
-static bool may_drop(const struct request *request, const struct inode *inode, int flags) {
-    return flags & O_TRUNC && inode->attrs.base.mode & (S_ISUID | S_ISGID) && drops_set_user(request);
+static bool may_drop(const struct request *request, struct inode *inode) {
+    const struct attrs *attrs;
+    bool has_bits = !attrs_of(request->mount, inode, &attrs) && attrs->base.mode & (S_ISUID | S_ISGID);
+    return has_bits && drops_set_user(request);
+}
+
+// The same of one that opens a file and may cut it, which the kernel may tell.
+static bool open_may_drop(const struct request *request, struct inode *inode, int flags) {
+    return flags & O_TRUNC && (privileges_are_ours() ? privileges_are_lost() : may_drop(request, inode));
 }
 
 // Where memory is wanting, the file is told of no sync that failed before.
@@ -482,7 +504,7 @@ static void on_open(fuse_req_t req, fuse_ino_t ino, struct fuse_file_info *info)
     struct request request = request_of(req);
     struct inode *inode = inode_of(&request, ino);
     int err = requests_begin(&request);
-    if (!err) err = fs_open(&request, inode, info->flags, may_drop(&request, inode, info->flags));
+    if (!err) err = fs_open(&request, inode, info->flags, open_may_drop(&request, inode, info->flags));
     if (!err) open_file(&request, info);
     finish(&request, err, (struct answer){.kind = ANSWER_OPENED, .info = *info});
 }
@@ -491,7 +513,7 @@ static void on_open(fuse_req_t req, fuse_ino_t ino, struct fuse_file_info *info)
 static int open_found(struct request *request, struct inode *folder, const char *name, int flags,
                       struct lookup_result *result) {
     int err = fs_lookup(request->mount, folder, name, result);
-    if (!err) err = fs_open(request, result->inode, flags, may_drop(request, result->inode, flags));
+    if (!err) err = fs_open(request, result->inode, flags, open_may_drop(request, result->inode, flags));
     return err ? err : fs_getattr(request->mount, result->inode, &result->stat);
 }
 
@@ -547,6 +569,7 @@ static void on_write(fuse_req_t req, fuse_ino_t ino, const char *bytes, size_t s
     size_t done = 0;
     int err = begin_write(&request, ino);
     if (!err && info->flags & O_APPEND) err = files_find_end(request.mount, inode, &at);
+    if (!err && privileges_are_ours()) err = fs_drop_privileges(&request, inode, privileges_are_lost());
     if (!err) err = fs_write(&request, inode, at, bytes, size, &done);
     if (!err && at != (uint64_t)offset) replica_note_moved(request.mount, inode);
     finish(&request, err, (struct answer){.kind = ANSWER_WRITTEN, .written = done});
@@ -555,9 +578,11 @@ static void on_write(fuse_req_t req, fuse_ino_t ino, const char *bytes, size_t s
 static void on_fallocate(fuse_req_t req, fuse_ino_t ino, int mode, off_t offset, off_t count,
                          struct fuse_file_info *info) {
     struct request request = request_of(req);
+    struct inode *inode = inode_of(&request, ino);
     (void)info;
     int err = requests_begin(&request);
-    if (!err) err = holes_allocate(&request, inode_of(&request, ino), mode, (uint64_t)offset, (uint64_t)count);
+    if (!err && privileges_are_ours()) err = fs_drop_privileges(&request, inode, may_drop(&request, inode));
+    if (!err) err = holes_allocate(&request, inode, mode, (uint64_t)offset, (uint64_t)count);
     finish_done(&request, err);
 }
 

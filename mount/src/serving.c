@@ -8,6 +8,7 @@
 #include "entry_count.h"
 #include "exit_report.h"
 #include "image.h"
+#include "privileges.h"
 #include "readahead.h"
 #include "replica.h"
 #include "requests.h"
@@ -51,10 +52,15 @@ static void ignore_signals(void) {
     for (size_t i = 0; i < sizeof numbers / sizeof *numbers; i++) signal(numbers[i], SIG_IGN);
 }
 
+static void process(struct fuse_session *session, const struct fuse_buf *buffer) {
+    privileges_note(buffer);
+    fuse_session_process_buf(session, buffer);
+}
+
 static void serve_one(struct fuse_session *session, struct fuse_buf *buffer) {
     struct pollfd comes = {.fd = fuse_session_fd(session), .events = POLLIN};
     bool is_there = poll(&comes, 1, 20) > 0 && comes.revents & POLLIN;
-    if (is_there && fuse_session_receive_buf(session, buffer) > 0) fuse_session_process_buf(session, buffer);
+    if (is_there && fuse_session_receive_buf(session, buffer) > 0) process(session, buffer);
     else usleep(1000);
 }
 
@@ -79,7 +85,7 @@ static bool serve_forgets(struct fuse_session *session, struct mount *mount, str
     while (requests_wait_for_forget(mount)) {
         if (!receive_now(session, buffer)) return false;
         if (!is_forget(buffer)) return true;
-        fuse_session_process_buf(session, buffer);
+        process(session, buffer);
     }
     return false;
 }
@@ -95,8 +101,8 @@ static int serve_all(struct fuse_session *session, struct mount *mount, struct f
         if (got <= 0) continue;
         busy_poll_note();
         bool has_other = !is_forget(buffer) && serve_forgets(session, mount, &other);
-        fuse_session_process_buf(session, buffer);
-        if (has_other) fuse_session_process_buf(session, &other);
+        process(session, buffer);
+        if (has_other) process(session, &other);
         requests_idle(mount);
     }
     free(other.mem);
@@ -149,6 +155,7 @@ static int mount_and_serve(const struct options *options, struct mount *mount, s
     int status = fuse_set_signal_handlers(session) || fuse_session_mount(session, options->mount_point);
     if (!status) {
         abort_watch_mounted(watch, options->mount_point);
+        if (!mount->replica) privileges_offer(session);
         raise_readahead(options->mount_point);
         stands();
         *stood = true;
