@@ -77,8 +77,16 @@ def is_mounted(point: Path) -> bool:
     return any(line.split()[4] == written for line in Path("/proc/self/mountinfo").read_text().splitlines())
 
 
+def take_back_ignored_signals() -> None:
+    """Below `nohup`, or in the background of a shell, these would be ignored, also by the mounts that they have to end."""
+    for number in (signal.SIGHUP, signal.SIGINT):
+        if signal.getsignal(number) == signal.SIG_IGN:
+            signal.signal(number, lambda *_: None)
+
+
 def run_cases() -> None:
     """Runs the cases, or those that are named; the status says whether all passed."""
+    take_back_ignored_signals()
     wanted = [run for run in CASES if run.__name__ in sys.argv[1:]] or CASES
     passed = sum(passes(run) for run in wanted)
     print(f"{passed} of {len(wanted)} cases work")

@@ -171,6 +171,7 @@ def rescued(folder: Path, name: str, what: str) -> int:
     try:
         assert mount.stands and not reported(mount), (name, what, mount.said())
         if "whether its bytes are right is not known" in done.stderr:
+            assert not name.startswith("snapshots"), (name, what, done.stderr)
             return len(seen(mount.point))
         return shown(mount, name.startswith("snapshots") or "snapshots" in done.stderr)
     except AssertionError as fault:

@@ -543,8 +543,9 @@ static int find_any_tree(struct store *store, struct checkpoint *out) {
     store->has_lost = true;
     if (err || !count) return err;
     store_name(name, "tree", out->number);
-    store_report(store, "%s: it is taken as it is: whether its bytes are right is not known", name);
     if (store_read_sum(store, out->number, &out->sum)) out->sum = (struct checkpoint_sum){.version = 1};
+    if (!store_is_tree_of(store, out->number, &out->sum))
+        store_report(store, "%s: it is taken as it is: whether its bytes are right is not known", name);
     return store_path(store, name, out->tree);
 }
 

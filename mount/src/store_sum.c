@@ -149,3 +149,9 @@ int store_check_files(const struct store *store, uint64_t number, const struct c
     if (!err && *sum->snapshots) err = check_file(store, "snapshots", number, sum->snapshots);
     return err;
 }
+
+bool store_is_tree_of(const struct store *store, uint64_t number, const struct checkpoint_sum *sum) {
+    char name[STORE_NAME], path[PATH_MAX], found[SHA256_DIGITS + 1] = "";
+    store_name(name, "tree", number);
+    return !store_path(store, name, path) && !sha256_of_file(path, found) && !strcmp(sum->tree, found);
+}
