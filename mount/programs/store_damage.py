@@ -143,8 +143,9 @@ def first_files(count: int) -> dict[str, bytes]:
     return {f"file{number:02}": contents(number) for number in range(count)}
 
 
-def shown(mount, lacks_snapshots: bool = False) -> int:
-    """How many of the first files a mount has: they are right, and so is the snapshot. One more may have no bytes yet."""
+def shown(mount, lacks_snapshots: bool = False, are_known: bool = True) -> int:
+    """How many of the first files a mount has: they are right, and so is the snapshot, unless the snapshots are not known to be.
+    One more file may have no bytes yet."""
     live = seen(mount.point)
     live.pop("large", None)
     count = len(live)
@@ -152,6 +153,8 @@ def shown(mount, lacks_snapshots: bool = False) -> int:
         del live[max(live)]
         count -= 1
     assert live == first_files(count), sorted(live)
+    if not are_known:
+        return count
     taken = os.listdir(mount.point / ".snapshots")
     assert taken in ([], ["taken"], ["large"], ["taken", "large"], ["large", "taken"]), taken
     assert "taken" in taken or count <= TAKEN or lacks_snapshots, (count, taken)
@@ -170,10 +173,11 @@ def rescued(folder: Path, name: str, what: str) -> int:
     mount = Mount(folder, "--store", new, *NEVER, name="rescued")
     try:
         assert mount.stands and not reported(mount), (name, what, mount.said())
-        if "whether its bytes are right is not known" in done.stderr:
+        unknown = re.findall(r"(tree|snapshots)\.\d+: it is taken as it is", done.stderr)
+        if "tree" in unknown:
             assert not name.startswith("snapshots"), (name, what, done.stderr)
             return len(seen(mount.point))
-        return shown(mount, name.startswith("snapshots") or "snapshots" in done.stderr)
+        return shown(mount, name.startswith("snapshots") or "snapshots" in done.stderr, "snapshots" not in unknown)
     except AssertionError as fault:
         raise AssertionError(name, what, done.stderr, mount.said()) from fault
     finally:

@@ -532,6 +532,15 @@ static int find_checkpoint(const struct store *store, struct checkpoint *out) {
     return err ? err : is_found ? 0 : EINVAL;
 }
 
+// Of a checkpoint that is not complete: if its tree is right, its snapshots are not.
+static void report_unknown(const struct store *store, const struct checkpoint *checkpoint) {
+    char name[STORE_NAME];
+    bool is_right = store_is_tree_of(store, checkpoint->number, &checkpoint->sum);
+    store_name(name, is_right ? "snapshots" : "tree", checkpoint->number);
+    if (store_has(store, name))
+        store_report(store, "%s: it is taken as it is: whether its bytes are right is not known", name);
+}
+
 // Where none is complete, a rescue takes the highest tree that there is, whatever its bytes are.
 static int find_any_tree(struct store *store, struct checkpoint *out) {
     struct bytes numbers = {NULL};
@@ -544,8 +553,7 @@ static int find_any_tree(struct store *store, struct checkpoint *out) {
     if (err || !count) return err;
     store_name(name, "tree", out->number);
     if (store_read_sum(store, out->number, &out->sum)) out->sum = (struct checkpoint_sum){.version = 1};
-    if (!store_is_tree_of(store, out->number, &out->sum))
-        store_report(store, "%s: it is taken as it is: whether its bytes are right is not known", name);
+    report_unknown(store, out);
     return store_path(store, name, out->tree);
 }
 
