@@ -260,14 +260,9 @@ def wrong_with(repository: Repository, crate: Crate, line: Line | None) -> str |
         "edits without a line": names - line.edits.keys(),
         "lines in tests/mutants/results of edits that are not there": line.edits.keys() - names,
         "edits that were not refused": kept,
-        "edits that were refused at goals that are not known": {it for it in names if is_at_unknown(line.edits.get(it))},
         "edits that are yet to be tried": left,
     }
     return next((f"has {len(which)} {what}: {some_of(which)}" for what, which in told.items() if which), None)
-
-
-def is_at_unknown(outcome: Outcome | None) -> bool:
-    return bool(outcome and outcome.is_refused and not outcome.goals)
 
 
 def some_of(names: set[str]) -> str:
