@@ -16,8 +16,8 @@ use Rattle.cow_map.specs.declared.edit.Edited.TheVariants.{Done, Absent, Refused
 use Rattle.cow_map.specs.Places.{Rises, at_key, place, place_past}
 use Rattle.cow_map.specs.CowMap.{joined, AreSized, AreRows, chunk_index}
 use Rattle.cow_map.proofs.Entries.{all_ahead, none_ahead, rises_put}
-use Rattle.cow_map.proofs.Parts.{at_between, drop_between, past_between, place_between, put_between, rises_drop, take_between}
-use Rattle.cow_map.proofs.TableFacts.{around, joined_cut, sized_at, sized_set}
+use Rattle.cow_map.proofs.Parts.{at_between, drop_between, past_between, place_between, put_between, rest_is, rises_drop, take_between}
+use Rattle.cow_map.proofs.TableFacts.{IsRow, around, joined_cut, sized_at, sized_set}
 
 module _ {X : Type 0} where
   -- ---- how many entries there are after a value was put
@@ -62,20 +62,6 @@ module _ {X : Type 0} where
 
     pub row_past : place_past k (joined rs) ≡ length (joined (take n rs)) + place_past k (get_or rs n [])
     row_past = (let c = around k rs n w e l in ap (place_past k) c.is ∙ past_between k c.front (get_or rs n []) c.back c.before c.behind ∙ ap (λ (t : List (List ℕ × X)). length t + place_past k (get_or rs n [])) c.is_front)
-
-    pub row_drop : (i m : ℕ) → i ≤ length (get_or rs n []) → m ≡ length (joined (take n rs)) + i → drop i (get_or rs n []) ++ joined (drop (n + 1) rs) ≡ drop m (joined rs)
-    row_drop i m b h =
-        let one : n + 1 ≡ suc n = omega arith in
-        ap (λ j. drop i (get_or rs n []) ++ joined (drop j rs)) one
-        ∙ sym (ap (λ j. drop j (joined rs)) h
-        ∙ ap (λ (t : List (List ℕ × X)). drop (length (joined (take n rs)) + i) t) (joined_cut n rs l)
-        ∙ drop_between (joined (take n rs)) (get_or rs n []) (joined (drop (suc n) rs)) i b)
-
-    pub row_take : (i m : ℕ) → i ≤ length (get_or rs n []) → m ≡ length (joined (take n rs)) + i → joined (take n rs) ++ take i (get_or rs n []) ≡ take m (joined rs)
-    row_take i m b h =
-        sym (ap (λ j. take j (joined rs)) h
-        ∙ ap (λ (t : List (List ℕ × X)). take (length (joined (take n rs)) + i) t) (joined_cut n rs l)
-        ∙ take_between (joined (take n rs)) (get_or rs n []) (joined (drop (suc n) rs)) i b)
 
     row_put : (v : X) (ss : List (List (List ℕ × X))) (row : List (List ℕ × X)) → ss ≡ slice_set rs n row → row ≡ insert_entry by_bytes (get_or rs n []) k v → joined ss ≡ insert_entry by_bytes (joined rs) k v
     row_put v ss row s h =
@@ -128,6 +114,36 @@ module _ {X : Type 0} where
           changed_rows ss h.row h.is (omega (arith, long, size.0)) (omega (arith, long, size.1)) (put_rises h.done.new ss (row_put h.done.new ss h.row h.is h.done.is))
       edit_rows (Absent back) r h = same_rows ss h.row h.is h.done.1
       edit_rows (Refused back) r h = same_rows ss h.row h.is h.done.0
+
+  -- ---- a place in the row that was found, among all entries
+
+  module _ (count : List (List ℕ × X) → ℕ) (rs : List (List (List ℕ × X))) (n i : ℕ) (es : List (List ℕ × X)) (f : IsRow rs n es) (lift : count (joined rs) ≡ length (joined (take n rs)) + count (get_or rs n [])) (is : i ≡ count es) (bound : i ≤ length es) where
+    whole : count (joined rs) ≡ length (joined (take n rs)) + i
+    whole = lift ∙ ap (λ j. length (joined (take n rs)) + j) (sym (is ∙ ap count f.own))
+
+    parts : joined rs ≡ joined (take n rs) ++ (es ++ joined (drop (suc n) rs))
+    parts = joined_cut n rs f.low ∙ ap (λ (t : List (List ℕ × X)). joined (take n rs) ++ (t ++ joined (drop (suc n) rs))) (sym f.own)
+
+    pub found_take : joined (take n rs) ++ take i es ≡ take (count (joined rs)) (joined rs)
+    found_take =
+        sym (ap (λ j. take j (joined rs)) whole
+        ∙ ap (λ (t : List (List ℕ × X)). take (length (joined (take n rs)) + i) t) parts
+        ∙ take_between (joined (take n rs)) es (joined (drop (suc n) rs)) i bound)
+
+    pub found_drop : drop i es ++ joined (drop (n + 1) rs) ≡ drop (count (joined rs)) (joined rs)
+    found_drop =
+        let one : n + 1 ≡ suc n = omega arith in
+        ap (λ j. drop i es ++ joined (drop j rs)) one
+        ∙ sym (ap (λ j. drop j (joined rs)) whole
+        ∙ ap (λ (t : List (List ℕ × X)). drop (length (joined (take n rs)) + i) t) parts
+        ∙ drop_between (joined (take n rs)) es (joined (drop (suc n) rs)) i bound)
+
+    -- as a cursor begins there: with what is left of the row, and the rows behind it
+    pub found_rest : take (length es - i) (drop i es) ++ joined (take (length rs - (n + 1)) (drop (n + 1) rs)) ≡ drop (count (joined rs)) (joined rs)
+    found_rest =
+        ap (λ (t : List (List ℕ × X)). t ++ joined (take (length rs - (n + 1)) (drop (n + 1) rs))) (rest_is i es)
+        ∙ ap (λ (t : List (List (List ℕ × X))). drop i es ++ joined t) (rest_is (n + 1) rs)
+        ∙ found_drop
 
   -- ---- the first entries leave
 

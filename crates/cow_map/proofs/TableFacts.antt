@@ -4,7 +4,7 @@ use Rattle.std.specs.declared.cmp.Ordering.TheVariants.{Less, Greater}
 use Rattle.std.specs.Ordering.{is_le}
 use Rattle.std.specs.List.{slice_set, insert}
 use Rattle.std.specs.List.Sorted.{IsStrictlySortedBy, IsPartitionPoint}
-use Rattle.std.proofs.lemmas.List.{length-take, length-drop, take-append-drop, take_more, drop_more, take_all, drop_all}
+use Rattle.std.proofs.lemmas.List.{get_or_default, length-take, length-drop, take-append-drop, take_more, drop_more, take_all, drop_all}
 use Rattle.pathkey.specs.Order.{by_bytes}
 use Rattle.cow_map.specs.Places.{Rises, place, reaches, AreBefore, AreFrom}
 use Rattle.cow_map.specs.CowMap.{joined, AreSized, AreRows, starts_at_or_before, row_number, chunk_index}
@@ -77,6 +77,18 @@ module _ {X : Type 0} where
   row_rises rs n w l =
       let all = subst (λ (t : List (List ℕ × X)). Rises t) (joined_cut n rs l) w.rises in
       rises_left (get_or rs n []) (joined (drop (suc n) rs)) (rises_right (joined (take n rs)) (get_or rs n [] ++ joined (drop (suc n) rs)) all)
+
+  -- ---- the entries of the row that a look-up found
+
+  pub record IsRow (rs : List (List (List ℕ × X))) (n : ℕ) (es : List (List ℕ × X)) : Type 0 where
+    pub low : n < length rs
+    pub own : es ≡ get_or rs n []
+
+  pub row_found : (rs : List (List (List ℕ × X))) (n : ℕ) (row es : List (List ℕ × X)) → n < length rs → row ≡ get_or rs n row → es ≡ row → IsRow rs n es
+  row_found rs n row es l at e = record { low = l; own = e ∙ at ∙ get_or_default rs n row [] l }
+
+  pub found_rises : (rs : List (List (List ℕ × X))) (n : ℕ) (es : List (List ℕ × X)) → AreRows rs → IsRow rs n es → Rises es
+  found_rises rs n es w f = subst (λ (t : List (List ℕ × X)). Rises t) (sym f.own) (row_rises rs n w f.low)
 
   -- ---- the number of a row
 
@@ -231,17 +243,27 @@ module _ {X : Type 0} where
 
   -- ---- the row that has entries on both sides of a key
 
-  module _ (k : List ℕ) (rs : List (List (List ℕ × X))) (n at : ℕ) (w : AreRows rs) (e : n ≡ chunk_index k rs) (l : n < length rs) (p : at ≡ place k (get_or rs n [])) where
+  -- the place of a key in the row to which it belongs
+  pub record IsPlace (k : List ℕ) (rs : List (List (List ℕ × X))) (n at : ℕ) : Type 0 where
+    pub rows : AreRows rs
+    pub number : n ≡ chunk_index k rs
+    pub low : n < length rs
+    pub spot : at ≡ place k (get_or rs n [])
+
+  pub place_found : (k : List ℕ) (rs : List (List (List ℕ × X))) (n at : ℕ) (es : List (List ℕ × X)) → AreRows rs → n ≡ chunk_index k rs → IsRow rs n es → at ≡ place k es → IsPlace k rs n at
+  place_found k rs n at es w e f p = record { rows = w; number = e; low = f.low; spot = p ∙ ap (λ (t : List (List ℕ × X)). place k t) f.own }
+
+  module _ (k : List ℕ) (rs : List (List (List ℕ × X))) (n at : ℕ) (s : IsPlace k rs n at) where
     pub front_at : (fs : List (List ℕ × X)) → fs ≡ joined (take n rs) ++ take at (get_or rs n []) → AreBefore k fs
     front_at fs h =
-        let here : AllBefore k (take at (get_or rs n [])) = subst (λ m. AllBefore k (take m (get_or rs n []))) (sym p) (taken_before k (get_or rs n [])) in
-        subst (λ (t : List (List ℕ × X)). AreBefore k t) (sym h) (are_before k _ (all_append (λ y. by_bytes k y ≡ Greater) (joined (take n rs)) (take at (get_or rs n [])) (front_before k rs n w e l) here))
+        let here : AllBefore k (take at (get_or rs n [])) = subst (λ m. AllBefore k (take m (get_or rs n []))) (sym s.spot) (taken_before k (get_or rs n [])) in
+        subst (λ (t : List (List ℕ × X)). AreBefore k t) (sym h) (are_before k _ (all_append (λ y. by_bytes k y ≡ Greater) (joined (take n rs)) (take at (get_or rs n [])) (front_before k rs n s.rows s.number s.low) here))
 
     pub back_at : (fs : List (List ℕ × X)) → fs ≡ drop at (get_or rs n []) ++ joined (drop (n + 1) rs) → AreFrom k fs
     back_at fs h =
         let one : n + 1 ≡ suc n = omega arith in
-        let here : AllFrom k (drop at (get_or rs n [])) = subst (λ m. AllFrom k (drop m (get_or rs n []))) (sym p) (dropped_from k (get_or rs n []) (row_rises rs n w l)) in
-        let behind : AllBehind k (joined (drop (n + 1) rs)) = subst (λ m. AllBehind k (joined (drop m rs))) (sym one) (back_behind k rs n w e l) in
+        let here : AllFrom k (drop at (get_or rs n [])) = subst (λ m. AllFrom k (drop m (get_or rs n []))) (sym s.spot) (dropped_from k (get_or rs n []) (row_rises rs n s.rows s.low)) in
+        let behind : AllBehind k (joined (drop (n + 1) rs)) = subst (λ m. AllBehind k (joined (drop m rs))) (sym one) (back_behind k rs n s.rows s.number s.low) in
         subst (λ (t : List (List ℕ × X)). AreFrom k t) (sym h)
         (are_from k _ (all_append (λ y. reaches k y ≡ true) (drop at (get_or rs n [])) (joined (drop (n + 1) rs)) here (weaker (λ y. by_bytes k y ≡ Less) (λ y. reaches k y ≡ true) _ (λ y g. ap is_le g) behind)))
 
@@ -252,14 +274,14 @@ module _ {X : Type 0} where
     pub back_none : at ≡ 0 → AreFrom k (joined (drop n rs))
     back_none z =
         back_at (joined (drop n rs))
-        (ap (λ (t : List (List (List ℕ × X))). joined t) (drop_more rs n [] l)
+        (ap (λ (t : List (List (List ℕ × X))). joined t) (drop_more rs n [] s.low)
         ∙ sym (ap (λ m. drop m (get_or rs n []) ++ joined (drop (n + 1) rs)) z))
 
     -- all of them do
     pub front_all : length (get_or rs n []) ≤ at → AreBefore k (joined (take (n + 1) rs))
     front_all z =
         front_at (joined (take (n + 1) rs))
-        (ap (λ (t : List (List (List ℕ × X))). joined t) (take_more rs n [] l)
+        (ap (λ (t : List (List (List ℕ × X))). joined t) (take_more rs n [] s.low)
         ∙ joined_push (take n rs) (get_or rs n [])
         ∙ ap (λ (t : List (List ℕ × X)). joined (take n rs) ++ t) (sym (take_all at (get_or rs n []) z)))
 

@@ -1,22 +1,17 @@
-use Rattle.std.proofs.Common.{◌≡◌, ◌<◌, ◌≤◌, ◌+◌, ◌-◌, ◌++◌, ◌∙◌, [], ap, subst, sym, rules, length, get_or, take, drop}
-use Rattle.std.proofs.lemmas.List.{get_or_default}
-use Rattle.cow_map.specs.Places.{Rises, place_past}
-use Rattle.cow_map.specs.CowMap.{joined, AreSized}
-use Rattle.cow_map.proofs.Lifts.{row_drop, row_past}
+use Rattle.std.proofs.Common.{◌+◌, ◌∙◌, subst, sym, rules}
+use Rattle.cow_map.specs.Places.{place_past}
+use Rattle.cow_map.specs.CowMap.{AreSized}
+use Rattle.cow_map.proofs.Lifts.{found_rest, row_past}
 use Rattle.cow_map.proofs.Parts.{rest_is}
-use Rattle.cow_map.proofs.TableFacts.{row_rises, sized_drop}
+use Rattle.cow_map.proofs.TableFacts.{found_rises, row_found, sized_drop}
 use Rattle.cow_map.proofs.neighbours.walk_past_among.Goals as goal
 
 pub count_past-at-requires : goal.count_past-at-requires
 count_past-at-requires g c =
     let rs = c.args.rows.now in
-    let k = c.args.key.now in
     let n = c.chunk_index-n.result in
-    let r = c.in-Some.row.now in
-    let low : n < length rs = search rules in
-    let at : r ≡ get_or rs n r = search rules in
-    let own : c.entries-entries.result.now ≡ get_or rs n [] = c.entries-entries.ensures.entries ∙ at ∙ get_or_default rs n r [] low in
-    subst (λ t. Rises t) (sym own) (row_rises rs n c.requires low)
+    let f = row_found rs n c.in-Some.row.now c.entries-entries.result.now (search rules) (search rules) c.entries-entries.ensures.entries in
+    found_rises rs n c.entries-entries.result.now c.requires f
 
 pub of-requires-2 : goal.of-requires-2
 of-requires-2 g c = subst (λ t. AreSized t) (sym (rest_is (c.chunk_index-n.result + 1) c.args.rows.now)) (sized_drop (c.chunk_index-n.result + 1) c.args.rows.now c.requires.sized)
@@ -26,12 +21,6 @@ returns g c =
     let rs = c.args.rows.now in
     let k = c.args.key.now in
     let n = c.chunk_index-n.result in
-    let r = c.in-Some.row.now in
-    let low : n < length rs = search rules in
-    let at : r ≡ get_or rs n r = search rules in
-    let own : c.entries-entries.result.now ≡ get_or rs n [] = c.entries-entries.ensures.entries ∙ at ∙ get_or_default rs n r [] low in
-    let i = c.count_past-at.result in
-    let spot : i ≡ place_past k (get_or rs n []) = c.count_past-at.ensures.place ∙ ap (λ t. place_past k t) own in
-    let bound : i ≤ length (get_or rs n []) = subst (λ t. i ≤ length t) own c.count_past-at.ensures.bound in
-    let whole : place_past k (joined rs) ≡ length (joined (take n rs)) + i = row_past k rs n c.requires c.chunk_index-n.ensures.number low ∙ ap (λ j. length (joined (take n rs)) + j) (sym spot) in
-    c.of-2.ensures ∙ ap (λ t. t ++ joined (take (length rs - (n + 1)) (drop (n + 1) rs))) (rest_is i c.entries-entries.result.now) ∙ ap (λ t. drop i c.entries-entries.result.now ++ joined t) (rest_is (n + 1) rs) ∙ ap (λ t. drop i t ++ joined (drop (n + 1) rs)) own ∙ row_drop k rs n c.requires c.chunk_index-n.ensures.number low i (place_past k (joined rs)) bound whole
+    let f = row_found rs n c.in-Some.row.now c.entries-entries.result.now (search rules) (search rules) c.entries-entries.ensures.entries in
+    let lift = row_past k rs n c.requires c.chunk_index-n.ensures.number f.low in
+    c.of-2.ensures ∙ found_rest (place_past k) rs n c.count_past-at.result c.entries-entries.result.now f lift c.count_past-at.ensures.place c.count_past-at.ensures.bound
