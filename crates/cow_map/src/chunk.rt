@@ -1,4 +1,7 @@
 //! A chunk of entries, which several maps may share.
+//!
+//! Invariant: the stored head is that of the first remaining entry's key, and no more entries are consumed than there are. The
+//! vector is changed only by its sole owner; if it is shared, a change works on a copy.
 ghost use Rattle.std.specs.Prelude.{◌≡◌, ◌<◌, ◌≤◌, [], take, drop, length, OnOk, OnErr, IfOk, IfErr};
 ghost use Rattle.pathkey.specs.Order.{by_bytes};
 ghost use Rattle.cow_map.specs.Places.{BeginsHeaded};

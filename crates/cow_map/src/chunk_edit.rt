@@ -1,4 +1,7 @@
 //! Changes of the entries of one chunk, once it is not shared.
+//!
+//! Each change says what it applies to and what the entries are afterwards. If an allocation fails, the entries are unchanged and
+//! what was to be added is returned.
 ghost use Rattle.std.specs.Prelude.{◌≡◌, ◌<◌, ◌≤◌, ◌+◌, ◌++◌, ℕ, List, Result, length, take, drop, OnOk, OnErr, IfOk, IfErr, vec_len, vec_capacity, ⊤};
 ghost use Rattle.std.specs.List.{insert};
 ghost use Rattle.cow_map.specs.Places.{Rises, IsHolder};

@@ -1,4 +1,7 @@
-//! The chunks of a map in order: which of them has a key, the walk to it, and how chunks are split and merged.
+//! The chunks of a map in order: which of them a key belongs to, how one is changed, and how chunks are split and merged.
+//!
+//! Invariant (`AreRows`): the keys of all chunks, concatenated, rise strictly, and each chunk has 1 to 64 entries. A split or a
+//! merge does not change the concatenated entries.
 ghost use Rattle.std.specs.Prelude.{◌≡◌, ◌+◌, ◌-◌, ◌<◌, ◌≤◌, ◌^◌, ◌++◌, ◌∷◌, [], length, take, drop, None, Some, OnOk, OnErr, IfOk, IfErr, IfNone, IfSome, true, false, vec_len, vec_capacity};
 ghost use Rattle.std.specs.List.{insert, remove_range, slice_get, slice_index_or, slice_set};
 ghost use Rattle.cow_map.specs.Places.{AreBefore, AreFrom};

@@ -1,4 +1,7 @@
 //! Extracts the entries of a range from chunks.
+//!
+//! If the range begins and ends within one chunk that has other entries too, only that chunk changes. Otherwise the chunks are
+//! split at both ends, and what is before the range is joined with what is after it.
 ghost use Rattle.std.specs.Prelude.{◌≡◌, ◌+◌, ◌≤◌, ◌++◌, not, length, OnOk, OnErr, IfOk, IfSome, vec_len, vec_capacity};
 ghost use Rattle.std.specs.List.{filter};
 ghost use Rattle.std.specs.Option.{option_copied};

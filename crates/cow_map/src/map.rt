@@ -1,4 +1,6 @@
 //! The map, as callers see it.
+//!
+//! Invariant: that of its chunks (`chunks`), so the entries are sorted by key without duplicates.
 ghost use Rattle.std.specs.Prelude.{◌≡◌, ◌+◌, ◌^◌, ◌<◌, ◌≤◌, ◌++◌, ◌∷◌, [], not, true, false, length, take, drop, OnOk, OnErr, IfOk, IfNone, IfSome};
 ghost use Rattle.std.specs.Option.{option_copied, option_map};
 ghost use Rattle.std.specs.List.{filter, slice_get};

@@ -1,4 +1,7 @@
 //! The entries next to a key, on either side of it.
+//!
+//! Each is found in the chunk to which the key belongs, or in the chunks next to that one: the earlier chunks have only keys before
+//! the key, and the later ones only keys after it.
 ghost use Rattle.std.specs.Prelude.{◌≡◌, ◌++◌, take, drop};
 ghost use Rattle.std.specs.Option.{option_map};
 ghost use Rattle.cow_map.specs.Places.{last_of, place, place_past};

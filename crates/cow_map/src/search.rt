@@ -1,4 +1,8 @@
 //! Search for a key among sorted entries.
+//!
+//! Invariant of the search: the entries before the remaining ones are before the key, and those after them are after it. It also
+//! maintains how many leading bytes the key has in common with the last entry compared on either side; all entries between the two
+//! share the lesser number of bytes with the key, and comparisons skip these.
 ghost use Rattle.std.specs.Prelude.{◌≡◌, ◌+◌, ◌<◌, ◌≤◌, length, IfOk, IfErr};
 ghost use Rattle.std.specs.Option.{option_copied};
 ghost use Rattle.cow_map.specs.Places.{Rises, at_key, place, place_past, IsFound, IsHolder};

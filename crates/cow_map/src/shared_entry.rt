@@ -1,4 +1,7 @@
 //! One entry behind a pointer, which several chunks may share.
+//!
+//! Invariant: the stored head is that of the entry's key. An entry is changed only by its sole owner; if it is shared, a change
+//! works on a copy.
 ghost use Rattle.std.specs.Prelude.{◌≡◌, take, OnOk, OnErr, IfOk, IfErr};
 ghost use Rattle.std.specs.Ordering.{is_gt};
 ghost use Rattle.pathkey.specs.Order.{by_bytes};

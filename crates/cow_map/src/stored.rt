@@ -1,4 +1,4 @@
-//! The values of a map.
+//! The values of a map: what a value must support so that a shared entry can be copied before a change.
 ghost use Rattle.std.specs.Prelude.{◌≡◌, IfOk};
 
 use pathkey::{Key, NoMemory};

@@ -1,4 +1,6 @@
-//! The slot with the most pending messages, which a flush relieves most.
+//! The slot with the most pending messages, whose flush moves the most.
+//!
+//! Invariant of the descent: the longest list of the tree is in the current node or below it, as the stored weights say.
 ghost use Rattle.std.specs.Prelude.{◌≡◌, ◌+◌, ◌≤◌, ◌<◌, ◌++◌, ◌∷◌, ◌↔◌, [], true, false, IfSome, MatchOption, length};
 ghost use Rattle.flush.specs.Heaviest.{AreLight, FlushesHeaviest, IsFirst, IsFirstOf, IsWalkable, loads};
 ghost use Rattle.node.specs.Places.{way};

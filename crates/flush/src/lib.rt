@@ -1,8 +1,11 @@
-//! Flushes: pending messages that go one level down.
+//! Flushes: pending messages that move one level down.
 //!
 //! A flush moves the oldest messages of one slot to the slot's child, as many as the child has room for. The value at every
 //! key stays: what was pending above is now pending, or applied, below (Brodal and Fagerberg 2003). `heaviest` names the
 //! flush that moves most: that of a slot than which no slot has more pending messages.
+//!
+//! `inner` is the flush into an inner node and `leaf` the flush into a leaf. `room` and `apply_pass` apply messages to a leaf's
+//! entries, one by one or in one pass, and `heaviest_slot` finds the fullest slot.
 #![tactic(auto)]
 
 mod apply_pass;

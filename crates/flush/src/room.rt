@@ -1,4 +1,6 @@
 //! Whether a leaf has room for a message, and one message applied to a leaf's entries.
+//!
+//! Only a put or an update of a key that the leaf lacks can add an entry, so only these need room.
 ghost use Rattle.std.specs.Prelude.{◌≡◌, ◌≤◌, ◌<◌, ◌∷◌, [], None, true, false, length, ◌⊎◌};
 ghost use Rattle.std.specs.Option.{option_copied};
 ghost use Rattle.message.specs.Oldest.{given_at};

@@ -1,4 +1,6 @@
-//! Building a job, without its tree.
+//! Builds a job, without its tree.
+//!
+//! The subtree means what the child under the job's messages means, is as deep as the child, and is lawful for the slot's range.
 ghost use Rattle.std.specs.Prelude.{◌≡◌, IfOk, IfErr};
 ghost use Rattle.jobs.specs.Job.{FitBelow};
 ghost use Rattle.jobs.specs.Replies.{IsBuilt};
@@ -13,10 +15,10 @@ use pathkey::NoMemory;
 use std::alloc::Global;
 use std::sync::Arc;
 
-/// How many nodes deep a build looks for room below the child's slots: as many as a place can name.
+/// How many levels below the child's slots messages are flushed: as many as a place can name.
 const LEVELS: u8 = 15;
 
-/// A copy of the node's own level, with copies of the messages behind what waits in its slots.
+/// A copy of the node's own level, with copies of the messages appended to the lists of its slots.
 fn grown<U: Update>(
     alloc: Global,
     node: &Arc<Node<U>>,
@@ -29,7 +31,7 @@ fn grown<U: Update>(
     let mut copy = Arc::try_clone(node)?;
     let own = Arc::make_mut(&mut copy)?;
     let Body::Inner(slots) = own.body_mut() else {
-        // Not met: the messages fit below an inner node.
+        // Unreachable: the messages fit below an inner node.
         return Ok(copy);
     };
     append_within(alloc, slots.as_mut_slice(), msgs, most as usize)?;
@@ -38,7 +40,7 @@ fn grown<U: Update>(
 }
 
 impl<U: Update> Job<U> {
-    /// What is built of the job.
+    /// The result of the job.
     fn built(&self, alloc: Global) -> Result<Done<U>, NoMemory>
         ensures { IfOk result (λ d. IsBuilt U.means self.now d) }
     {
@@ -61,10 +63,10 @@ impl<U: Update> Job<U> {
         })
     }
 
-    /// Builds the job: a subtree with the job's messages in it, which sink as far as there is room. Where a growth is refused
-    /// before all messages stand in the subtree, the job comes back as it was.
+    /// Builds the job: a subtree that contains the job's messages, flushed as far down as there is room. If an allocation fails
+    /// before the subtree contains all messages, the job is returned unchanged.
     ///
-    /// It needs no tree and no lock. It copies the nodes that it changes, one level each, and shares all others.
+    /// It needs neither the tree nor a lock. It copies the nodes that it changes, one level each, and shares all others.
     pub fn build(self, alloc: Global) -> Result<Done<U>, Job<U>>
         ensures ok { IfOk result (λ d. IsBuilt U.means self d) }
         ensures err { IfErr result (λ job. job ≡ self) }

@@ -1,6 +1,6 @@
-//! How far messages sink in a subtree that stands in no tree.
+//! How far messages are flushed in a subtree that is not part of a tree.
 //!
-//! No claim rests on the choices that are made here: every flush keeps what the subtree means, and is proved to.
+//! No claim depends on the choices that are made here: every flush preserves what the subtree means, and is proved to.
 ghost use Rattle.std.specs.Prelude.{IsTrue};
 ghost use Rattle.std.specs.Option.{option_copied};
 ghost use Rattle.node.specs.Shapes.{is_shape};
@@ -16,7 +16,7 @@ use pathkey::Key;
 use std::alloc::Global;
 use std::sync::Arc;
 
-/// Flushes a slot of the node at a place, and says whether an inner node is below it, into which messages may have come.
+/// Flushes a slot of the node at a place, and returns whether an inner node is below it, which may have got messages.
 fn flush_slot<U: Update>(
     alloc: Global,
     shape: Shape,
@@ -31,7 +31,7 @@ fn flush_slot<U: Update>(
 {
     match step_subtree(alloc, &InnerFlush, shape, top, hi, at, slot) {
         StepReply::NotThere => {
-            // A leaf may be below. Where nothing waits, or no such slot is, this is not there either.
+            // A leaf may be below. If nothing is pending or there is no such slot, this does nothing either.
             step_subtree(alloc, &LeafFlush, shape, top, hi, at, slot);
             false
         }
@@ -40,8 +40,8 @@ fn flush_slot<U: Update>(
     }
 }
 
-/// Flushes the slots of the node at a place, and those of the nodes below into which messages came, down to `levels` nodes
-/// deeper. Where there is no room, or no memory, the messages wait.
+/// Flushes the slots of the node at a place, and those of the nodes below that got messages, down to `levels` levels deeper. If
+/// a node has no room, or an allocation fails, the messages stay pending.
 pub fn flush_below<U: Update>(
     alloc: Global,
     shape: Shape,
@@ -58,7 +58,7 @@ pub fn flush_below<U: Update>(
         if !flush_slot(alloc, shape, top, hi, at, slot) || levels == 0 {
             continue;
         }
-        // There always is one: a build begins at the root with 15 levels.
+        // There always is one: `build` begins at the root with 15 levels.
         if let Some(under) = at.under(slot) {
             flush_below(alloc, shape, top, hi, under, levels - 1);
         }

@@ -1,4 +1,7 @@
-//! A job, and what was built of it.
+//! A job, and the subtree that was built from it.
+//!
+//! Invariant of a job: its messages fit below its child, an inner node that is lawful for the job's range. Invariant of the result:
+//! the subtree is lawful for that range.
 ghost use Rattle.std.specs.Prelude.{◌≡◌, OnOk, OnErr, IfErr, IfSome};
 ghost use Rattle.jobs.specs.Content.{done_content};
 ghost use Rattle.jobs.specs.Marks.{MarkHas};
@@ -15,7 +18,7 @@ use std::sync::Arc;
 
 /// The oldest messages of a slot of a root, and its child.
 pub struct Job<U: UpdateTarget> {
-    /// Which job it is.
+    /// The number of the job.
     pub(crate) ticket: u64,
     /// The tree's shape.
     pub(crate) shape: Shape,
@@ -23,11 +26,11 @@ pub struct Job<U: UpdateTarget> {
     pub(crate) range: KeyRange,
     /// The messages, the oldest first.
     pub(crate) msgs: Vec<Msg<U>>,
-    /// The child.
+    /// The slot's child.
     pub(crate) child: Arc<Node<U>>,
 }
 
-// Written out, as that of `pathkey::Key`.
+// Drop is implemented by hand, as for `pathkey::Key`.
 impl<U: UpdateTarget + Drop> Drop for Job<U> {
     fn drop(self) {
         let Job {
@@ -61,10 +64,10 @@ impl<U: UpdateTarget> Job<U> {
         Ticket::of(self.ticket)
     }
 
-    /// The child, as one more owner of it; none where no further owner can be counted. It takes no memory.
+    /// Another reference to the child; `None` if the count of references is at its maximum. It does not allocate.
     ///
-    /// The last owner frees what no other subtree shares. So who keeps this one until the job is installed frees it, and not the
-    /// install.
+    /// The last reference frees the nodes that no other subtree shares. A caller that holds this one until the job is installed
+    /// frees these nodes itself, rather than during the installation.
     pub fn subtree(&self) -> Option<Arc<Node<U>>>
         ensures { IfSome result (λ n. n.value ≡ self.now.child) }
     {
@@ -72,21 +75,21 @@ impl<U: UpdateTarget> Job<U> {
     }
 }
 
-/// A subtree that has the messages of a job in it.
+/// The result of a job: a subtree that contains its messages.
 pub struct Done<U: UpdateTarget> {
-    /// Which job it was.
+    /// The number of the job.
     pub(crate) ticket: u64,
     /// The tree's shape.
     pub(crate) shape: Shape,
     /// The slot's range.
     pub(crate) range: KeyRange,
-    /// How many messages it has.
+    /// The number of the job's messages.
     pub(crate) count: u32,
     /// The subtree.
     pub(crate) child: Arc<Node<U>>,
 }
 
-// Written out, as that of `pathkey::Key`.
+// Drop is implemented by hand, as for `pathkey::Key`.
 impl<U: UpdateTarget + Drop> Drop for Done<U> {
     fn drop(self) {
         let Done {
@@ -113,7 +116,7 @@ impl<U: UpdateTarget> Model for Done<U> {
 }
 
 impl<U: UpdateTarget> Done<U> {
-    /// The ticket of the job of which it was built.
+    /// The job's ticket.
     pub fn ticket(&self) -> Ticket
         ensures { result.number ≡ self.now.ticket }
     {
@@ -122,7 +125,7 @@ impl<U: UpdateTarget> Done<U> {
 }
 
 impl<U: Update> Done<U> {
-    /// Puts what was built in the place of the child of the mark's slot. Where that is refused it comes back.
+    /// Replaces the child of the mark's slot by the subtree. If an allocation fails the result is returned.
     pub(crate) fn place(self, tree: &mut Tree<U>, mark: &Mark) -> Result<(), Done<U>>
         requires { MarkHas U.means mark.now (done_content U.means self) tree.old }
         ensures ok { OnOk result (IsPlaced U.means self tree.old tree.new) }

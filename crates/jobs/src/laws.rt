@@ -1,11 +1,10 @@
-//! What callers rest on between a taking and its installing.
+//! Laws that callers use between the taking of a job and its installation: what keeps the content of a mark.
 ghost use Rattle.jobs.specs.Laws.{BuiltLaw, FewerLaw, KeptLaw, MoreLaw, WithoutLaw};
 
 use message::Update;
 
-/// A mark whose slot has a job's content has the content of what was built of the job; and whatever content the marks of a
-/// ticket have, they have it still where each mark keeps its content, where marks are taken away, and where one of another
-/// ticket comes.
+/// A mark whose slot has a job's content also has the content of the job's result. The marks of a ticket keep their content if
+/// each mark keeps its own, if marks are removed, and if a mark of another ticket is added.
 pub fn fits<U: Update>()
     ensures built { BuiltLaw U.means }
     ensures kept { KeptLaw U.means }

@@ -1,8 +1,11 @@
-//! Jobs: a subtree that is built beside the tree, and installed when it is done.
+//! Jobs: a subtree that is built without the tree, and installed when it is done.
 //!
-//! A job is taken at a slot of the root: it shares the slot's child and has the slot's oldest messages. It is built without
-//! the tree, which may change in between, into a subtree that has the messages in it. A mark of the slot is kept beside
-//! the tree; while it stands the slot means what was taken, and the subtree can take the child's place.
+//! A job is taken from a slot of the root: it shares the slot's child and has copies of the slot's oldest messages. It is built
+//! into a subtree that contains the messages, while the tree may change. A *mark* beside the tree reserves the slot. While the mark
+//! exists, the slot's oldest messages over its child mean what was taken, so the subtree can replace both.
+//!
+//! `job` has a job and its result, and `build` and `flush_below` build it. `mark` is one mark, `marks` the list of them with taking,
+//! installing and steps, and `marked_tree` a tree with its marks. `laws` says what keeps the content of a mark.
 #![tactic(auto)]
 
 pub mod build;

@@ -1,4 +1,7 @@
 //! A tree with the marks of the jobs taken from it.
+//!
+//! Invariant: each mark's slot exists, is over an inner node and has at least the mark's messages; no two marks share a slot; tickets
+//! rise, and there are at most 64 marks.
 ghost use Rattle.std.specs.Prelude.{◌≡◌, ◌↔◌, [], ℕ, List, None, false, OnOk, OnErr};
 ghost use Rattle.jobs.specs.Content.{job_content};
 ghost use Rattle.jobs.specs.Job.{IsJob};
@@ -22,7 +25,7 @@ use pathkey::NoMemory;
 use std::alloc::Global;
 use std::marker::Model;
 
-/// A tree and its marks, at most one a slot of the root and at most 64. Each mark's slot stands, which the type keeps.
+/// A tree and its marks, at most one for each slot of the root and at most 64.
 #[derive(Drop)]
 pub struct MarkedTree<U: UpdateTarget> {
     tree: Tree<U>,
@@ -65,7 +68,7 @@ impl<U: Update> MarkedTree<U> {
         &self.tree
     }
 
-    /// Takes away the mark with the ticket, if it stands. It takes no memory.
+    /// Removes the mark with the ticket, if there is one. It does not allocate.
     pub fn cancel(&mut self, ticket: Ticket)
         ensures tree { self.new.tree ≡ self.old.tree }
         ensures marks { self.new.marks ≡ without ticket.number self.old.marks }
@@ -75,7 +78,7 @@ impl<U: Update> MarkedTree<U> {
         self.marks.cancel(ticket);
     }
 
-    /// Takes all marks away. It takes no memory.
+    /// Removes all marks. It does not allocate.
     pub fn cancel_all(&mut self)
         ensures tree { self.new.tree ≡ self.old.tree }
         ensures marks { self.new.marks ≡ [] }
@@ -85,8 +88,8 @@ impl<U: Update> MarkedTree<U> {
         self.marks.cancel_all();
     }
 
-    /// Puts messages into the root's slots, whole or not at all. The list of a marked slot stays as it was, with the new
-    /// pieces behind it.
+    /// Appends messages to the root's slots, atomically. The list of a marked slot stays as it was, with the new pieces after
+    /// it.
     pub fn append(&mut self, alloc: Global, msgs: Vec<Msg<U>>) -> Result<(), NoMemory>
         ensures ok { OnOk result (Appended U.means msgs.items self.old.tree self.new.tree) }
         ensures marks { self.new.marks ≡ self.old.marks }
@@ -99,7 +102,7 @@ impl<U: Update> MarkedTree<U> {
         self.tree.append_kept(alloc, msgs, kept.as_slice())
     }
 
-    /// Does a step of the tree, and where it is done takes away the marks that do not outlive it.
+    /// Does a step of the tree and, if it is done, removes the marks that do not survive it.
     pub fn step(&mut self, alloc: Global, step: TreeStep) -> StepReply
         ensures answers { StepAnswers U.means step.kind (way step.at) step.slot result self.old.tree self.new.tree }
         ensures marks { self.new.marks ≡ left_by result (survives step.kind (way step.at) step.slot self.old.tree.root) self.old.marks }
@@ -110,7 +113,7 @@ impl<U: Update> MarkedTree<U> {
         self.marks.step(alloc, &mut self.tree, step)
     }
 
-    /// Takes a job of the root's slot with this number, as `Marks::take_job` does, and counts it.
+    /// Takes a job from the root's slot with this index, as `Marks::take_job` does, and counts it.
     pub fn take_job(&mut self, alloc: Global, slot: u8) -> TakeOutcome<U>
         ensures taken { IfTaken result (λ job. IsTaken slot job self.old self.new) }
         ensures job { IfTaken result (λ job. IsJob job.shape job.range job.msgs job.child) }
@@ -136,7 +139,7 @@ impl<U: Update> MarkedTree<U> {
         }
     }
 
-    /// Puts what was built of a job in the place of the child of the mark's slot, as `Marks::install` does.
+    /// Replaces the child of the mark's slot by the result of its job, as `Marks::install` does.
     pub fn install(&mut self, done: Done<U>) -> InstallOutcome<U>
         requires { FitsMark U.means done self.old.tree self.old.marks }
         ensures installed { IfInstalled result (IsInstalled U.means done self.old self.new) }

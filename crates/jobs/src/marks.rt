@@ -1,4 +1,7 @@
-//! The marks of the jobs taken from one tree, which stand beside it.
+//! The marks of the jobs taken from one tree.
+//!
+//! They are stored beside the tree in the order of their tickets, and each call that changes the tree says which marks it removes:
+//! the slots of the others keep the content that their jobs rely on (`AreMarks`).
 ghost use Rattle.std.specs.Prelude.{◌≡◌, ◌<◌, ◌++◌, [], IfOk, OnOk, IfSome, length};
 ghost use Rattle.std.specs.List.{remove};
 ghost use Rattle.jobs.specs.Marks.{kept_at, kept_numbers, kept_in, position, without};
@@ -20,7 +23,7 @@ pub mod install;
 pub mod step;
 pub mod take;
 
-/// How many marks stand at most, over all lists that have one count.
+/// The maximum number of marks, over all lists that share a count.
 pub const MOST_MARKS: usize = 64;
 
 /// The marks of a tree, in the order of their tickets.
@@ -41,7 +44,7 @@ impl Model for Marks {
     ghost view = { λ m. m.list.items };
 }
 
-/// How many messages the mark of the slot that begins at `lo` has, or 0. It takes no memory.
+/// The number of messages of the mark of the slot that begins at `lo`; 0 if it has no mark. It does not allocate.
 fn kept_at(marks: &[Mark], lo: &Key) -> u32
     ensures { result ≡ kept_at marks.now lo.now }
 {
@@ -54,7 +57,7 @@ fn kept_at(marks: &[Mark], lo: &Key) -> u32
     kept_at(others, lo)
 }
 
-/// Puts behind the numbers that of each slot.
+/// Appends that number for each slot.
 fn push_kept<U: Update>(
     marks: &[Mark],
     slots: &[Slot<U>],
@@ -69,7 +72,7 @@ fn push_kept<U: Update>(
     push_kept(marks, later, kept)
 }
 
-/// The number of the mark with the ticket. It takes no memory.
+/// The index of the mark with the ticket. It does not allocate.
 fn position(marks: &[Mark], ticket: u64) -> Option<usize>
     ensures place { result ≡ position ticket marks.now }
     ensures bound { IfSome result (λ i. i < length marks.now) }
@@ -86,7 +89,7 @@ fn position(marks: &[Mark], ticket: u64) -> Option<usize>
     }
 }
 
-/// Takes away the mark with the number.
+/// Removes the mark at the index.
 fn remove_mark(marks: &mut Vec<Mark>, i: usize)
     requires { i < length marks.old.items }
     ensures { marks.new.items ≡ remove marks.old.items i }
@@ -94,13 +97,13 @@ fn remove_mark(marks: &mut Vec<Mark>, i: usize)
     marks.remove(i);
 }
 
-/// The number of the root's slot that holds the key.
+/// The index of the root's slot that contains the key.
 pub(crate) fn number_in<U: Update>(root: &Node<U>, key: &Key) -> usize
     requires { IsRoot root.now }
     ensures { result ≡ number_in root.now key.now }
 {
     let Body::Inner(slots) = root.body() else {
-        // Not met: a root is an inner node.
+        // Unreachable: a root is an inner node.
         return 0;
     };
     slot_of(slots.as_slice(), key)
@@ -116,14 +119,14 @@ impl Marks {
         }
     }
 
-    /// How many marks stand.
+    /// The number of marks.
     pub fn len(&self) -> usize
         ensures { result ≡ length self.now }
     {
         self.list.len()
     }
 
-    /// Takes away the mark with the ticket, if it stands. It takes no memory.
+    /// Removes the mark with the ticket, if there is one. It does not allocate.
     pub fn cancel(&mut self, ticket: Ticket)
         ensures { self.new ≡ without ticket.number self.old }
     {
@@ -133,20 +136,20 @@ impl Marks {
         remove_mark(&mut self.list, i);
     }
 
-    /// Takes all marks away. It takes no memory.
+    /// Removes all marks. It does not allocate.
     pub fn cancel_all(&mut self)
         ensures { self.new ≡ [] }
     {
         self.list.clear();
     }
 
-    /// How many messages are kept in each slot of a root.
+    /// For each slot of a root, the number of messages of its mark, or 0: `append_kept` of the tree does not condense these.
     pub fn kept<U: Update>(&self, alloc: Global, root: &Node<U>) -> Result<Vec<u32>, NoMemory>
         ensures { IfOk result (λ v. v.items ≡ kept_in self.now root.now) }
     {
         let mut kept = Vec::new(alloc);
         let Body::Inner(slots) = root.body() else {
-            // Not met for the root of a tree, which is an inner node.
+            // Unreachable for the root of a tree, which is an inner node.
             return Ok(kept);
         };
         push_kept(self.list.as_slice(), slots.as_slice(), &mut kept)?;

@@ -1,28 +1,28 @@
-//! The replies of taking and installing.
+//! The replies of taking and installing jobs.
 
 use crate::job::{Done, Job};
 use message::UpdateTarget;
 
-/// The reply of taking a job. Every reply but `Taken` leaves all as it was.
+/// The reply of taking a job. Every reply but `Taken` changes nothing.
 #[derive(Drop)]
 pub enum TakeOutcome<U: UpdateTarget> {
-    /// The job, and its mark stands.
+    /// The job; its mark was added.
     Taken(Job<U>),
-    /// There is no such slot, its child is a leaf, nothing waits there, or it has a mark.
+    /// There is no such slot, its child is a leaf, nothing is pending there, or it has a mark.
     NotThere,
-    /// The pieces of the first message have no room in the child, 64 marks stand, or no ticket is left.
+    /// The pieces of the first message have no room in the child, there are 64 marks, or no ticket is left.
     NoRoom,
-    /// A growth was refused.
+    /// An allocation failed.
     NoMemory,
 }
 
-/// The reply of installing. Every reply but `Installed` leaves all as it was.
+/// The reply of installing. Every reply but `Installed` changes nothing.
 #[derive(Drop)]
 pub enum InstallOutcome<U: UpdateTarget> {
-    /// The subtree stands in the child's place.
+    /// The subtree has replaced the child.
     Installed,
-    /// The mark is gone.
+    /// The mark was removed.
     Stale,
-    /// A growth was refused: the value comes back, and the mark stays.
+    /// An allocation failed: the result is returned, and the mark stays.
     NoMemory(Done<U>),
 }

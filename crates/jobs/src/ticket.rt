@@ -1,4 +1,4 @@
-//! The number of a job.
+//! The number of a job, by which its mark is found.
 ghost use Rattle.std.specs.Prelude.{◌≡◌};
 
 /// The number of a job: the first that is taken has 0, and no two have the same.

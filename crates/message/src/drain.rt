@@ -1,4 +1,6 @@
-//! Messages that have left a list, to be handed on one by one.
+//! Messages that were removed from a list, to be handed on one by one.
+//!
+//! Invariant: the messages that remain are in their order, the oldest first.
 ghost use Rattle.std.specs.Prelude.{◌≡◌, ◌++◌, [], IfNone};
 ghost use Rattle.std.specs.Option.{option_to_list};
 
@@ -7,7 +9,7 @@ use crate::update::{Update, UpdateTarget};
 use std::collections::VecDeque;
 use std::marker::Model;
 
-/// Messages that have left a list, the oldest first.
+/// Messages that were removed from a list, the oldest first.
 #[derive(Drop)]
 pub struct MsgDrain<U: UpdateTarget> {
     msgs: VecDeque<Msg<U>>,
@@ -23,7 +25,7 @@ impl<U: UpdateTarget> Model for MsgDrain<U> {
 }
 
 impl<U: Update> MsgDrain<U> {
-    /// These messages, the oldest first. It takes no memory.
+    /// These messages, the oldest first. It does not allocate.
     pub fn of(msgs: Vec<Msg<U>>) -> MsgDrain<U>
         ensures { result ≡ msgs.items }
     {
@@ -32,7 +34,7 @@ impl<U: Update> MsgDrain<U> {
         }
     }
 
-    /// The oldest of those that are left. It takes no memory.
+    /// The oldest of those that remain. It does not allocate.
     pub fn next(&mut self) -> Option<Msg<U>>
         ensures moved { self.old ≡ option_to_list result ++ self.new }
         ensures end { IfNone result (self.old ≡ []) }

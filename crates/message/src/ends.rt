@@ -1,4 +1,6 @@
-//! Ends of ranges: the later of two beginnings, the earlier of two ends.
+//! Ends of ranges: the later of two beginnings, the earlier of two ends, and whether a key is before an end.
+//!
+//! An end is exclusive, and `None` is no end, which is after every key.
 ghost use Rattle.std.specs.Prelude.{◌≡◌, IfOk};
 ghost use Rattle.std.specs.Option.{option_copied};
 ghost use Rattle.pathkey.specs.Keys.{is_below};
@@ -42,7 +44,7 @@ pub fn copy_end(alloc: Global, end: Option<&Key>) -> Result<Option<Key>, NoMemor
     }
 }
 
-/// Whether the end stands at or before the end `most`; `None` is no end.
+/// Whether the end is at or before the end `most`; `None` is no end.
 pub fn ends_by(end: Option<&Key>, most: Option<&Key>) -> bool
     ensures { result ≡ ends_within (option_copied end.entry) (option_copied most.entry) }
 {
@@ -53,7 +55,7 @@ pub fn ends_by(end: Option<&Key>, most: Option<&Key>) -> bool
     }
 }
 
-/// Whether the key lies before the end; `None` is no end.
+/// Whether the key is before the end; `None` is no end.
 #[inline(always)]
 pub fn is_before_end(key: &Key, end: Option<&Key>) -> bool
     ensures { result ≡ is_below key.now (option_copied end.entry) }
@@ -64,7 +66,7 @@ pub fn is_before_end(key: &Key, end: Option<&Key>) -> bool
     }
 }
 
-/// Whether the key lies from `lo` up to and without `hi`; `None` is no end.
+/// Whether the key is in the range from `lo` up to but excluding `hi`; `None` is no end.
 pub fn is_within(key: &Key, lo: &Key, hi: Option<&Key>) -> bool
     ensures { result ≡ within lo.now (option_copied hi.entry) key.now }
 {

@@ -1,4 +1,7 @@
-//! Messages: which keys they touch, what they make of a value, and the part of a message that lies in a range.
+//! Messages: which keys they touch, what they make of a value, and the part of a message in a range.
+//!
+//! The part of a message in a range has the message's effect at each key of the range, and none at any other key. So a message can
+//! be cut at the pivots of a node without changing what the tree means.
 ghost use Rattle.std.specs.Prelude.{◌≡◌, IfOk};
 ghost use Rattle.std.specs.Option.{option_copied};
 ghost use Rattle.message.specs.Effects.{touches as is_touched, effect, point_key as point_of};
@@ -17,9 +20,9 @@ use std::alloc::Global;
 pub enum Msg<U: UpdateTarget> {
     /// The key gets the value.
     Put(Key, U::Value),
-    /// The key has no value any more.
+    /// The key's value is removed, if it has one.
     Del(Key),
-    /// No key of the range has a value any more.
+    /// The values of all keys of the range are removed.
     DelRange(KeyRange),
     /// The key's value, or its absence, is changed by the update.
     Edit(Key, U),
@@ -58,7 +61,7 @@ impl<U: Update> Msg<U> {
         }
     }
 
-    /// The value at `key` after the message, where `old` was there.
+    /// The value at `key` after the message, if `old` was there.
     pub fn apply_msg(
         &self,
         alloc: Global,
@@ -77,7 +80,7 @@ impl<U: Update> Msg<U> {
         }
     }
 
-    /// The part of the message that lies from `lo` up to and without `hi`; `None` is no end.
+    /// The part of the message in the range from `lo` up to but excluding `hi`; `None` is no end.
     pub fn cut_between(
         &self,
         alloc: Global,
@@ -99,7 +102,7 @@ impl<U: Update> Msg<U> {
     }
 }
 
-/// The value after the update, where `old` was there. It is changed in its place where the update can.
+/// The value after the update, if `old` was there. It is changed in place if the update can.
 pub fn edited<U: Update>(
     alloc: Global,
     update: &U,
@@ -117,7 +120,7 @@ pub fn edited<U: Update>(
     }
 }
 
-/// A range-delete of the part of a range from `lo` up to and without `hi`, if any key can lie there.
+/// A range-delete of the part of a range from `lo` up to but excluding `hi`, if there can be a key there.
 fn cut_range_delete<U: Update>(
     alloc: Global,
     range: &KeyRange,
@@ -145,7 +148,7 @@ pub fn touches<U: Update>(msg: &Msg<U>, key: &Key) -> bool
 }
 
 /// The part of the message inside the range: it has the message's effect at each key of the range, and none
-/// at any other; `None` where no part is left.
+/// at any other; `None` if no part is left.
 pub fn cut<U: Update>(
     alloc: Global,
     msg: &Msg<U>,

@@ -1,5 +1,6 @@
-//! Two ranges of keys, each from a key up to and without an end: whether they share a key, and whether one holds the other; and
-//! whether a message has a part in a range.
+//! Tests of two key ranges: whether they share a key and whether one contains the other; and whether a message has a part in a range.
+//!
+//! A range is from a key up to but excluding an end; `None` is no end.
 ghost use Rattle.std.specs.Prelude.{◌≡◌, ◌&&◌, true, is_some};
 ghost use Rattle.std.specs.Option.{option_copied};
 ghost use Rattle.message.specs.Cuts.{cut_to};
@@ -11,7 +12,7 @@ use crate::msg::Msg;
 use crate::update::Update;
 use pathkey::Key;
 
-/// Whether a key can lie both from `low` up to and without `high` and from `lo` up to and without `hi`; `None` is no end.
+/// Whether a key can be both from `low` up to `high` and from `lo` up to `hi`, excluding the ends; `None` is no end.
 pub fn overlaps(low: &Key, high: Option<&Key>, lo: &Key, hi: Option<&Key>) -> bool
     ensures { result ≡ is_below (later_key lo.now low.now) (earlier_end (option_copied hi.entry) (option_copied high.entry)) }
 {
@@ -19,7 +20,7 @@ pub fn overlaps(low: &Key, high: Option<&Key>, lo: &Key, hi: Option<&Key>) -> bo
     is_before_end(from, earlier(hi, high))
 }
 
-/// Whether the message has a part from `lo` up to and without `hi`; `None` is no end.
+/// Whether the message has a part from `lo` up to but excluding `hi`; `None` is no end.
 pub fn overlaps_range<U: Update>(msg: &Msg<U>, lo: &Key, hi: Option<&Key>) -> bool
     ensures { result ≡ is_some (cut_to lo.now (option_copied hi.entry) msg.now) }
 {
@@ -29,7 +30,7 @@ pub fn overlaps_range<U: Update>(msg: &Msg<U>, lo: &Key, hi: Option<&Key>) -> bo
     }
 }
 
-/// Whether a range has keys and all of them lie from `lo` up to and without `hi`; `None` is no end.
+/// Whether a range has keys and all of them are from `lo` up to but excluding `hi`; `None` is no end.
 pub fn is_within_range(lo: &Key, hi: Option<&Key>, low: &Key, high: Option<&Key>) -> bool
     ensures is { result ≡ (is_below low.now (option_copied high.entry) && (reaches lo.now low.now && ends_within (option_copied high.entry) (option_copied hi.entry))) }
     ensures some { result ≡ true → is_below low.now (option_copied high.entry) ≡ true }
@@ -39,7 +40,7 @@ pub fn is_within_range(lo: &Key, hi: Option<&Key>, low: &Key, high: Option<&Key>
     is_before_end(low, high) && covers_range(lo, hi, low, high)
 }
 
-/// Whether every key from `lo` up to and without `hi` lies from `low` up to and without `high`; `None` is no end.
+/// Whether every key from `lo` up to `hi` is from `low` up to `high`, excluding the ends; `None` is no end.
 pub fn covers_range(low: &Key, high: Option<&Key>, lo: &Key, hi: Option<&Key>) -> bool
     ensures { result ≡ (reaches low.now lo.now && ends_within (option_copied hi.entry) (option_copied high.entry)) }
 {

@@ -1,4 +1,4 @@
-//! What a pending list says of the value at a key.
+//! What a pending list says of the value at a key: nothing, a value whatever is below, or a change of what is below.
 
 /// What a pending list says of the value at a key, whatever its slot's child has there.
 #[derive(Drop)]

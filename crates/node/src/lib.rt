@@ -3,9 +3,9 @@
 //! A node is a leaf of entries sorted by key, or an inner node of slots. A slot is a pivot (the start of its range), a
 //! child, and the messages pending for that child, the oldest first. What this crate guarantees:
 //!
-//! - - every tree is lawful: leaves at equal depth, pivots and keys sorted, no node past the limits of the tree's shape;
-//! - - what a tree means at a key is one value: the leaf's entry with the messages on the path to it applied;
-//! - - nodes are persistent: a change takes ownership of the nodes on its path and copies those that are shared, one level
+//! - every tree is lawful: leaves at equal depth, pivots and keys sorted, no node past the limits of the tree's shape;
+//! - what a tree means at a key is one value: the leaf's entry with the messages on the path to it applied;
+//! - nodes are persistent: a change takes ownership of the nodes on its path and copies those that are shared, one level
 //!   each, so that `share` only takes another reference to the root.
 #![tactic(auto)]
 

@@ -1,6 +1,8 @@
 //! The nodes of a tree.
 //!
-//! Contracts see a node as a pure tree (`PNode`), without pointers, capacities or sharing.
+//! Contracts see a node as a pure tree (`PNode`), without pointers, capacities or sharing. Invariant: if a node stores its weight,
+//! it is that of its slots and of all nodes below. That leaves are at equal depth and that keys are sorted is an invariant of
+//! the whole tree (`tree`): a single node may be anything while a step changes it.
 
 use message::UpdateTarget;
 use pathkey::Key;

@@ -1,4 +1,4 @@
-//! The node at which a step works.
+//! The node at which a step works, as the path of slot indexes from the root.
 ghost use Rattle.std.specs.Prelude.{◌≡◌, ◌≤◌, ◌++◌, [], ◌∷◌, take, MatchOption};
 
 use crate::step::StepKind;

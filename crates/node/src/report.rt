@@ -1,4 +1,4 @@
-//! How large a tree is.
+//! How large a tree is: its levels, slots, pending pieces and entries.
 
 /// The size of a tree, exactly.
 #[derive(Clone, Copy, Debug, PartialEq, Eq)]

@@ -1,4 +1,7 @@
 //! The limits of a tree's nodes.
+//!
+//! A tree has one shape for its lifetime, and no node exceeds it, except that the root's pending lists have no limit: so an append
+//! fails only if an allocation does.
 ghost use Rattle.std.specs.Prelude.{◌≡◌};
 
 /// The least limit on the slots of an inner node that a shape may set, and the least limit on the entries of a leaf.

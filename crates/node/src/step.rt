@@ -1,4 +1,6 @@
 //! The steps of a tree: their names and their replies.
+//!
+//! A step never changes the value at a key. `docs/STEPS.md` says which nodes it changes and when it cannot be done.
 
 /// What a step does.
 #[derive(Clone, Copy, Debug, PartialEq, Eq)]

@@ -1,4 +1,8 @@
 //! A whole tree: its shape and its root.
+//!
+//! Invariant (`IsLawful`): the root is an inner node, all leaves are at the same depth, pivots and keys are sorted and within the
+//! ranges of their slots, and no node exceeds the limits of the shape. Every public function that changes a tree keeps this, so no
+//! contract repeats it.
 ghost use Rattle.std.specs.Prelude.{◌≡◌, IfOk, OnOk, OnErr, IsTrue, IsOk, []};
 ghost use Rattle.node.specs.Appended.{Appended};
 ghost use Rattle.node.specs.Lawful.{IsLawful};
@@ -30,7 +34,7 @@ pub struct Tree<U: UpdateTarget> {
     root: Arc<Node<U>>,
 }
 
-// Written out, as that of `pathkey::Key`.
+// Drop is implemented by hand, as for `pathkey::Key`.
 impl<U: UpdateTarget + Drop> Drop for Tree<U> {
     fn drop(self) {
         let Tree { shape: _, root: _ } = self;

@@ -1,4 +1,7 @@
 //! The components between the separators of a text or of a key, and the first error among them.
+//!
+//! Texts are separated by `/`, and keys by a byte 0. A component that is not a file name is reported before one that is too long,
+//! wherever they are.
 ghost use Rattle.std.specs.Prelude.{◌≡◌, ◌≢◌, ◌<◌, [], ◌∷◌, ◌++◌, All, MatchOption, length, take, slice_index};
 ghost use Rattle.std.specs.List.{list_any};
 ghost use Rattle.pathkey.specs.Texts.{is_dots, is_forbidden, is_malformed, is_long, component_faults};

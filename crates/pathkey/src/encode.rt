@@ -1,4 +1,7 @@
 //! Encodes paths and blocks as keys, and decodes keys to paths.
+//!
+//! Encoding is injective: two paths, two blocks, or a path and a block never have the same key, and decoding a path's key gives the
+//! path.
 ghost use Rattle.std.specs.Prelude.{◌≡◌, ◌≢◌, [], IfOk, MatchBool, List, ℕ};
 ghost use Rattle.pathkey.specs.Names.{IsPath};
 ghost use Rattle.pathkey.specs.PathKeys.{IsPathKey, IsPathOf};

@@ -1,4 +1,6 @@
-//! The errors of calls.
+//! The errors of calls: their POSIX names, numbers and messages.
+//!
+//! `NoMemory` is the error of the layers below: an allocation failed, and the call changed nothing. It becomes `ENOMEM`.
 ghost use Rattle.std.specs.Prelude.{◌≡◌};
 ghost use Rattle.pathkey.specs.declared.errno.Errno.TheVariants.{ENOMEM};
 ghost use Rattle.pathkey.specs.Numbers.{number_of, sentence_of, word_of};

@@ -1,4 +1,7 @@
 //! Keys: byte strings in lexicographic order.
+//!
+//! Invariant: the stored head of a key is its first eight bytes as a big-endian number, padded with zeros. So if the heads of two
+//! keys differ, they decide the order.
 ghost use Rattle.std.specs.Prelude.{◌≡◌, ◌≤◌, [], ◌∷◌, ◌++◌, length, take, IfOk, map, slice_index_or};
 ghost use Rattle.std.specs.Cmp.{partial_order_from_agreeing_total};
 ghost use Rattle.std.specs.Ordering.{as_partial_cmp, eq_by_cmp};

@@ -1,4 +1,6 @@
 //! The names of a path, from the root down.
+//!
+//! Invariant: the bytes that remain are the encoding of the names that remain, each followed by a byte 0.
 ghost use Rattle.std.specs.Prelude.{◌≡◌, [], ◌∷◌, MatchOption};
 ghost use Rattle.pathkey.specs.Names.{IsName};
 ghost use Rattle.pathkey.specs.Texts.{names_of};

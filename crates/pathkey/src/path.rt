@@ -1,4 +1,6 @@
 //! Paths, each stored as its key.
+//!
+//! Invariant: the stored key is the encoding of valid names, so it can be decoded, and the length limits of names and texts hold.
 ghost use Rattle.std.specs.Prelude.{◌≡◌, ◌≤◌, [], ◌∷◌, ◌++◌, length, map, IfOk, MatchOption, Ok, true, false};
 ghost use Rattle.std.specs.Option.{option_copied};
 ghost use Rattle.pathkey.specs.Names.{IsPath, is_root, parent_path, last_name, is_under, same_path};

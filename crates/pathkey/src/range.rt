@@ -1,4 +1,6 @@
-//! Key ranges.
+//! Key ranges, from a key up to but excluding another, and those of a subtree and of a file's blocks.
+//!
+//! A range may be empty: nothing requires that its lower bound is before its upper one.
 ghost use Rattle.std.specs.Prelude.{◌≡◌, ◌≢◌, [], IfOk};
 ghost use Rattle.pathkey.specs.Keys.{subtree, blocks_from, is_in, is_below};
 

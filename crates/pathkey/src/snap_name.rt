@@ -1,4 +1,6 @@
-//! Names of snapshots: 1 to 64 bytes of ASCII letters, digits, `.`, `_` and `-`.
+//! Names of snapshots.
+//!
+//! Invariant: a name is 1 to 64 bytes of ASCII letters, digits, `.`, `_` and `-`.
 ghost use Rattle.std.specs.Prelude.{◌≡◌, IfOk, IsTrue};
 ghost use Rattle.std.specs.List.{list_all};
 ghost use Rattle.std.specs.Cmp.{partial_order_from_agreeing_total};

@@ -1,9 +1,9 @@
 //! The pending messages of one slot: changes of keys and of ranges of keys.
 //!
-//! What it stands for: a list of messages, the oldest first. An insertion promises only its effect, so the list is sorted and
+//! What it means: a list of messages, the oldest first. An insertion promises only its effect, so the list is sorted and
 //! condensed.
 //!
-//! What it relies on:
+//! Its invariants:
 //!
 //! - the sorted part is older than the tail, which has messages in the order of their arrival;
 //! - in the sorted part no range-delete is newer than a point message that it touches, so range-deletes come before point

@@ -1,9 +1,9 @@
 //! The point messages of a slot, by key: puts, deletes and updates that are pending.
 //!
-//! What it stands for: a list of pairs of a key and the operations of that key, the oldest first. The keys are in ascending
+//! What it means: a list of pairs of a key and the operations of that key, the oldest first. The keys are in ascending
 //! order.
 //!
-//! What it relies on:
+//! Its invariants:
 //!
 //! - each key has at least one operation;
 //! - a put or a delete is the only operation of its key: it needs no older one, and an update that follows is applied to it,

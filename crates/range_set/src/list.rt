@@ -1,4 +1,6 @@
 //! The range set, as callers see it.
+//!
+//! Invariant (`AreRanges`): each range contains a key and ends before the next begins, and `count` is the number of ranges.
 ghost use Rattle.std.specs.Prelude.{◌≡◌, ◌≢◌, ◌+◌, ◌≤◌, ◌<◌, ◌^◌, ◌++◌, List, ℕ, true, false, [], length, take, drop, Some, None, OnOk, OnErr, IfOk};
 ghost use Rattle.std.specs.Option.{option_map, option_copied};
 ghost use Rattle.std.specs.List.{slice_get};

@@ -1,4 +1,6 @@
 //! The ranges next to a key.
+//!
+//! Since the ranges are disjoint and sorted, the last one that begins at or before a key is the only one that can contain it.
 ghost use Rattle.std.specs.Prelude.{◌≡◌, true, false, Some, List, ℕ, IfOk};
 ghost use Rattle.std.specs.Option.{option_copied};
 ghost use Rattle.pathkey.specs.Keys.{is_below};

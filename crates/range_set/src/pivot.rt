@@ -1,4 +1,7 @@
 //! Splits and merges of range sets at a pivot.
+//!
+//! A split preserves the set of keys, and so does a merge: a range with keys on both sides of the pivot is cut there, and two ranges
+//! that touch there become one again.
 ghost use Rattle.std.specs.Prelude.{◌≡◌, ◌+◌, ◌≤◌, true, [], Some, None, length, OnOk, IfOk};
 ghost use Rattle.message.specs.Cuts.{IsJoined, LieIn};
 ghost use Rattle.range_set.specs.Disjoint.{range_msgs, AreApart};

@@ -1,4 +1,6 @@
 //! Replaces the ranges that begin within a range by it.
+//!
+//! No range that remains overlaps the new one or touches it, so the ranges stay disjoint.
 ghost use Rattle.std.specs.Prelude.{◌≡◌, ◌+◌, ◌<◌, ◌^◌, true, false, length, OnOk, OnErr, IfOk};
 ghost use Rattle.std.specs.BTreeMap.{insert_entry};
 ghost use Rattle.std.specs.Option.{option_copied};

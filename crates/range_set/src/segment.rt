@@ -1,4 +1,6 @@
 //! The end of a segment of keys that are all in the set or all not.
+//!
+//! A segment ends at the next key at which a range begins or ends; membership in the set can change there, and nowhere before.
 ghost use Rattle.std.specs.Prelude.{◌≡◌, true, take};
 ghost use Rattle.std.specs.Option.{option_copied};
 ghost use Rattle.pathkey.specs.Keys.{is_below};

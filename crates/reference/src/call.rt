@@ -1,4 +1,6 @@
 //! The eleven file calls.
+//!
+//! `docs/PROFILE.md` says which errors each call returns, and in which order.
 
 use bytes::Bytes;
 use pathkey::Path;

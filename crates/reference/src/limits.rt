@@ -1,4 +1,6 @@
 //! The limits of files and of reads.
+//!
+//! They bound every length and offset that a call can reach, so that the layers above compute with them without overflow.
 ghost use Rattle.std.specs.Prelude.{◌≡◌, ◌+◌, nat_le};
 ghost use Rattle.reference.specs.Calls.{greatest_file};
 

@@ -1,4 +1,6 @@
 //! The replies of file calls.
+//!
+//! Replies are compared as data: contracts see the bytes and the names in them as lists, without their capacity.
 ghost use Rattle.std.specs.Prelude.{◌≡◌, ◌∷◌, [], map};
 
 use pathkey::Errno;

@@ -1,4 +1,7 @@
-//! A subtree under a range-delete of its whole range, which is dropped at once.
+//! Drops a subtree under a range-delete of its whole range at once.
+//!
+//! The slot then has an empty subtree of the same depth, and its list has what is newer than the range-delete. No value changes:
+//! the range-delete had deleted every key below.
 ghost use Rattle.std.specs.Prelude.{◌≡◌, ◌∷◌, [], IfOk};
 ghost use Rattle.std.specs.Option.{option_copied};
 ghost use Rattle.node.specs.Places.{way};

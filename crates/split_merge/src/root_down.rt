@@ -1,4 +1,6 @@
-//! The root lowered by one level.
+//! Lowers the root by one level: its only child becomes the root.
+//!
+//! The root's messages are newer than those in the child's slots, so they are appended to these, each cut to the slots' ranges.
 ghost use Rattle.std.specs.Prelude.{◌≡◌, ◌∷◌, [], None, IfOk, IfErr};
 ghost use Rattle.std.specs.Option.{option_copied};
 ghost use Rattle.node.specs.Appended.{batches_by_slot, HaveTaken, IsAppended};

@@ -1,4 +1,7 @@
-//! The root raised by one level.
+//! Raises the root by one level: a new root with one slot is put above the old one.
+//!
+//! The new slot has all messages of the old root, whose slots then have none. So the old root, which is now below the root, has no
+//! more pending than a node may have. The lists are of disjoint ranges, and may follow one another in any order.
 ghost use Rattle.std.specs.Prelude.{◌≡◌, ◌≤◌, ◌<◌, [], true, false, map, IfOk, IfErr};
 ghost use Rattle.message.specs.Effects.{Takes};
 ghost use Rattle.node.specs.RootSteps.{levels, AnswersUp};

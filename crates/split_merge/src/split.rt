@@ -1,4 +1,7 @@
-//! An inner node split in two.
+//! Splits an inner node in two.
+//!
+//! The two halves together have the slots of the node, and each gets the part of the pending list for its own range. A range-delete
+//! across the pivot is then pending in both lists, for which the node above needs room.
 ghost use Rattle.std.specs.Prelude.{◌≡◌, IfOk};
 ghost use Rattle.node.specs.Places.{way};
 ghost use Rattle.node.specs.Pure.{inner};

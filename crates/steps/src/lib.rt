@@ -1,4 +1,7 @@
 //! Every step of a tree by its name, and what to do next: the heaviest flush, or what makes room for it.
+//!
+//! `do_step` runs the step that a `TreeStep` names, for a scheduler that chooses steps itself. `compaction` chooses a useful step
+//! and `room` the step that has to come first.
 #![tactic(auto)]
 
 ghost use Rattle.node.specs.Places.{way};

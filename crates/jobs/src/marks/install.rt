@@ -1,4 +1,7 @@
-//! Installing what was built of a job.
+//! Installs the subtree that was built from a job.
+//!
+//! It removes exactly the job's messages and its mark. If the mark no longer exists, the tree may have changed below the slot, and
+//! nothing is installed.
 ghost use Rattle.std.specs.Prelude.{◌≡◌, ◌↔◌, None, List, ℕ};
 ghost use Rattle.jobs.specs.Marks.{AllKept, AreMarks, position, without};
 ghost use Rattle.jobs.specs.Replies.{FitsMark, IsPlaced, IfInstalled, UnlessInstalled, IfGivenBack};
@@ -12,10 +15,10 @@ use message::Update;
 use node::Tree;
 
 impl Marks {
-    /// Puts what was built of a job in the place of the child of the mark's slot, and takes away the messages that it has in
-    /// it, and the mark. What came after the taking stays in the slot.
+    /// Replaces the child of the mark's slot by the result of its job, and removes the messages that the result contains from
+    /// the slot, and the mark. Messages that are newer than the job stay in the slot.
     ///
-    /// It answers `Stale`, without memory, where the mark is gone.
+    /// It returns `Stale`, without allocating, if the mark was removed.
     pub fn install<U: Update>(&mut self, tree: &mut Tree<U>, done: Done<U>) -> InstallOutcome<U>
         requires { FitsMark U.means done tree.old self.old }
         ensures installed { IfInstalled result ((self.new ≡ without done.ticket self.old) × IsPlaced U.means done tree.old tree.new) }

@@ -1,4 +1,7 @@
-//! Steps of a tree with marks.
+//! Runs a step of a tree with marks.
+//!
+//! A mark survives if its slot is neither named by the step nor above the step's node; a step that replaces the root removes all
+//! marks.
 ghost use Rattle.std.specs.Prelude.{◌≡◌, ◌<◌, ◌+◌, ◌++◌, ℕ, length, take, drop};
 ghost use Rattle.jobs.specs.Marks.{AllKept, AreMarks};
 ghost use Rattle.jobs.specs.Survive.{is_outside, survives, left_by, removed_by};
@@ -15,7 +18,7 @@ use node::{Node, StepKind, StepReply, Tree, TreeStep};
 use std::alloc::Global;
 use steps::do_step;
 
-/// How many slots of a node a step names. It takes no memory.
+/// How many slots of a node a step names. It does not allocate.
 fn width(kind: StepKind) -> usize
     ensures { result ≡ width kind }
 {
@@ -30,7 +33,7 @@ fn width(kind: StepKind) -> usize
     }
 }
 
-/// Whether a number is none of the `count` from `first` on. It takes no memory.
+/// Whether a number is none of the `count` from `first` on. It does not allocate.
 fn is_outside(first: usize, count: usize, number: usize) -> bool
     requires { first + count < 65536 }
     ensures { result ≡ is_outside first count number }
@@ -38,7 +41,7 @@ fn is_outside(first: usize, count: usize, number: usize) -> bool
     number < first || first + count <= number
 }
 
-/// Whether the number is that of a root slot that a step neither names nor lies below. It takes no memory.
+/// Whether the index is that of a root slot that a step does not name and whose subtree it does not change. It does not allocate.
 fn is_elsewhere(kind: StepKind, numbers: &[u8], slot: u8, number: usize) -> bool
     ensures { result ≡ is_outside (root_slot numbers.now slot) (root_width kind numbers.now) number }
 {
@@ -48,7 +51,7 @@ fn is_elsewhere(kind: StepKind, numbers: &[u8], slot: u8, number: usize) -> bool
     }
 }
 
-/// Whether a mark outlives a step that is done. It takes no memory.
+/// Whether a mark survives a step that is done. It does not allocate.
 fn survives<U: Update>(step: TreeStep, root: &Node<U>, mark: &Mark) -> bool
     requires { IsRoot root.now }
     ensures { result ≡ survives step.kind (way step.at) step.slot root.now mark.now }
@@ -60,10 +63,11 @@ fn survives<U: Update>(step: TreeStep, root: &Node<U>, mark: &Mark) -> bool
     is_elsewhere(step.kind, step.at.numbers(), step.slot, number)
 }
 
-/// Does a step, and takes away the marks from number `k` on that do not outlive it.
+/// Does a step, and removes the marks from index `k` on that do not survive it.
 ///
-/// Which marks outlive the step is asked of the root before it, and they go only once it is done. So each call keeps one answer
-/// while the next does the rest: no list of answers is needed, for which memory could be refused. At most 64 marks stand.
+/// Which marks survive is decided by the root before the step, but they are removed only if it is done. So each call keeps the
+/// decision for one mark while the recursion does the rest, and no list of decisions has to be allocated. There are at most 64
+/// marks.
 fn do_step_from<U: Update>(
     alloc: Global,
     tree: &mut Tree<U>,
@@ -85,7 +89,7 @@ fn do_step_from<U: Update>(
     reply
 }
 
-/// Takes the mark with the number away where a step was done.
+/// Removes the mark at the index if the step was done.
 fn remove_if_done(reply: StepReply, marks: &mut Vec<Mark>, k: usize)
     requires { k < length marks.old.items }
     ensures { marks.new.items ≡ removed_by reply k marks.old.items }
@@ -95,7 +99,7 @@ fn remove_if_done(reply: StepReply, marks: &mut Vec<Mark>, k: usize)
     }
 }
 
-/// A tree is lawful, as its type keeps. It does nothing.
+/// Brings the invariant of a tree, that it is lawful, into a proof. It does nothing at run time.
 fn assert_tree_invariant<U: Update>(tree: &Tree<U>)
     ensures { IsLawful tree.now }
 {
@@ -103,7 +107,7 @@ fn assert_tree_invariant<U: Update>(tree: &Tree<U>)
 }
 
 impl Marks {
-    /// Does a step of the tree, and where it is done takes away the marks that do not outlive it.
+    /// Does a step of the tree and, if it is done, removes the marks that do not survive it.
     pub fn step<U: Update>(
         &mut self,
         alloc: Global,

@@ -1,4 +1,7 @@
-//! Taking a job.
+//! Takes a job from a slot of the root, and adds its mark.
+//!
+//! The tree itself does not change: the job shares the child and copies the messages, which stay in the slot until the subtree is
+//! installed. If an allocation fails, no mark is added.
 ghost use Rattle.std.specs.Prelude.{◌≡◌, ◌^◌, ◌+◌, ◌↔◌, ◌≤◌, ◌<◌, ◌++◌, ◌∷◌, [], List, true, false, None, length, IfOk, OnOk, OnErr, MatchOption};
 ghost use Rattle.jobs.specs.Content.{job_content};
 ghost use Rattle.jobs.specs.Job.{FitBelow, IsJob};
@@ -26,7 +29,7 @@ use pathkey::{KeyRange, NoMemory};
 use std::alloc::Global;
 use std::sync::Arc;
 
-/// Whether the slot with number `i` has a message, an inner node below it and no mark. It takes no memory.
+/// Whether the slot with index `i` has a message, an inner node below it and no mark. It does not allocate.
 fn is_free<U: Update>(marks: &[Mark], slots: &[Slot<U>], i: usize) -> bool
     ensures { result ≡ can_take_first marks.now (slots_from i (seen_slots slots.now)) }
 {
@@ -36,13 +39,12 @@ fn is_free<U: Update>(marks: &[Mark], slots: &[Slot<U>], i: usize) -> bool
     is_flushable(slots, i) && kept_at(marks, &slots[i].lo) == 0
 }
 
-/// Whether the root's slot with number `i` has a message, an inner node below it and no mark. It takes
-/// no memory.
+/// Whether the root's slot with index `i` has a message, an inner node below it and no mark. It does not allocate.
 fn can_take<U: Update>(marks: &[Mark], root: &Node<U>, i: usize) -> bool
     ensures { result ≡ can_take_at i marks.now root.now }
 {
     let Body::Inner(slots) = root.body() else {
-        // Not met for the root of a tree, which is an inner node.
+        // Unreachable for the root of a tree, which is an inner node.
         return false;
     };
     is_free(marks, slots.as_slice(), i)
@@ -61,7 +63,7 @@ fn fitting_front<U: Update>(
     let few = few_oldest(&slot.pending, free_pieces(&slot.child, most));
     let mut front = slot.pending.copy_front(alloc, few)?;
     let Body::Inner(below) = slot.child.body() else {
-        // Not met: `can_take` has found an inner node.
+        // Unreachable: `can_take` has found an inner node.
         return Ok(Vec::new(alloc));
     };
     let count = count_fitting(below.as_slice(), front.as_slice(), most as usize);
@@ -69,7 +71,7 @@ fn fitting_front<U: Update>(
     Ok(front)
 }
 
-/// The job of these messages, the slot's oldest, which have room below.
+/// The job with these messages, the slot's oldest, which have room below.
 fn slot_job<U: Update>(
     alloc: Global,
     ticket: u64,
@@ -85,7 +87,7 @@ fn slot_job<U: Update>(
     ensures slot { IfOk result (λ job. AtSlot (IsOf job) i None (seen_slots slots.now)) }
 {
     if i >= slots.len() {
-        // Not met: there is a slot with this number.
+        // Unreachable: there is a slot with this index.
         return Err(NoMemory);
     }
     let slot = &slots[i];
@@ -101,7 +103,7 @@ fn slot_job<U: Update>(
     })
 }
 
-/// The job of the slot with number `i`, where the pieces of its first message have room below.
+/// A job from the slot with index `i`; `None` if the pieces of its first message have no room below.
 fn job_at<U: Update>(
     alloc: Global,
     ticket: u64,
@@ -114,7 +116,7 @@ fn job_at<U: Update>(
     ensures { IfOk result (λ o. MatchOption o (IsFullBelow shape.pending (slots_from i (seen_slots slots.now))) (λ job. (job.ticket ≡ ticket) × (job.shape ≡ shape) × AtSlot (IsOf job) i None (seen_slots slots.now))) }
 {
     if i >= slots.len() {
-        // Not met: `can_take` has found the slot.
+        // Unreachable: `can_take` has found the slot.
         return Ok(None);
     }
     let msgs = fitting_front(alloc, &slots[i], shape.pending)?;
@@ -125,8 +127,7 @@ fn job_at<U: Update>(
     Ok(Some(job))
 }
 
-/// The job of the slot with number `i` of a tree's root, where the pieces of its first message have
-/// room below.
+/// A job from the slot with index `i` of a tree's root; `None` if the pieces of its first message have no room below.
 fn job_of<U: Update>(
     alloc: Global,
     ticket: u64,
@@ -139,7 +140,7 @@ fn job_of<U: Update>(
     let shape = tree.shape();
     let root = tree.root();
     let Body::Inner(slots) = root.body() else {
-        // Not met: a root is an inner node.
+        // Unreachable: a root is an inner node.
         return Err(NoMemory);
     };
     job_at(alloc, ticket, shape, slots.as_slice(), i)
@@ -158,7 +159,7 @@ fn mark_of<U: Update>(alloc: Global, job: &Job<U>) -> Result<Mark, NoMemory>
     })
 }
 
-/// Puts the mark of a job at the end.
+/// Appends the mark of a job.
 fn push_mark<U: Update>(alloc: Global, marks: &mut Vec<Mark>, job: &Job<U>) -> Result<(), NoMemory>
     ensures ok { OnOk result (marks.new.items ≡ marks.old.items ++ mark_of job.now ∷ []) }
     ensures err { OnErr result (marks.new.items ≡ marks.old.items) }
@@ -170,11 +171,11 @@ fn push_mark<U: Update>(alloc: Global, marks: &mut Vec<Mark>, job: &Job<U>) -> R
 }
 
 impl Marks {
-    /// Takes a job of the root's slot with this number: it shares the slot's child and has the slot's oldest messages, as many
-    /// as have room in the child. So many jobs were given before it, and so many marks stand in all, also in other lists.
+    /// Takes a job from the root's slot with this index: it shares the slot's child and has the slot's oldest messages, as many
+    /// as have room in the child. `given` jobs were taken before it, and there are `all` marks, also in other lists.
     ///
-    /// It answers `NotThere`, without memory, where the slot is missing, its child is a leaf, nothing waits there or it has a
-    /// mark; and `NoRoom` where the first message has no room in the child, 64 marks stand, or no ticket is left.
+    /// It returns `NotThere`, without allocating, if the slot is missing, its child is a leaf, nothing is pending there or it has
+    /// a mark; and `NoRoom` if the first message has no room in the child, there are 64 marks, or no ticket is left.
     pub fn take_job<U: Update>(
         &mut self,
         alloc: Global,
@@ -206,7 +207,7 @@ impl Marks {
             Ok(None) => TakeOutcome::NoRoom,
             Ok(Some(job)) => {
                 let Ok(()) = push_mark(alloc, &mut self.list, &job) else {
-                    // The job is let go: nothing has changed yet.
+                    // The job is dropped: nothing has changed yet.
                     return TakeOutcome::NoMemory;
                 };
                 TakeOutcome::Taken(job)

@@ -1,5 +1,7 @@
-//! New messages in the slots of a root. Slots from which a job was taken keep their lists, with the new messages after
-//! them.
+//! Appends new messages to the slots of a root.
+//!
+//! The messages are newer than all that are pending. The list of a slot from which a job was taken is not condensed: it stays as it
+//! was, with the new messages after it, so that the job's messages are still its oldest.
 ghost use Rattle.std.specs.Prelude.{◌≡◌, ◌↔◌, ◌+◌, ◌<◌, ◌≤◌, ◌++◌, [], ◌∷◌, true, None, OnOk, OnErr, map, length, get_or};
 ghost use Rattle.message.specs.Effects.{Takes};
 ghost use Rattle.node.specs.Appended.{batches_by_slot as parts_of, HaveTaken, IsAppended};

@@ -1,4 +1,6 @@
-//! A step in a subtree that is not part of a tree.
+//! A step in a subtree that is not part of a tree, as a job builds it.
+//!
+//! Invariant: the subtree stays lawful for its range, and means what it meant at each key of the range.
 ghost use Rattle.std.specs.Prelude.{◌≡◌, IsTrue, ℕ, List};
 ghost use Rattle.std.specs.Option.{option_copied};
 ghost use Rattle.node.specs.Lawful.{IsLawfulNode};

@@ -1,4 +1,7 @@
 //! A change of the slots of one node, which a walk down the tree carries to that node.
+//!
+//! A new kind of step implements `SlotStep`: whether it applies, whether it has room, and the change itself. The walks, the replies
+//! and the proof that everything else is unchanged are written once.
 ghost use Rattle.std.specs.Prelude.{◌≡◌, IsTrue, true, false, ℕ, List, Option};
 ghost use Rattle.std.specs.Option.{option_copied};
 ghost use Rattle.node.specs.Pure.{inner};

@@ -1,4 +1,6 @@
 //! A copy of one level of a tree: the children are shared.
+//!
+//! The copy means what the original means, so that a change of a shared node can work on it.
 ghost use Rattle.std.specs.Prelude.{◌≡◌, IfOk, map};
 ghost use Rattle.node.specs.See.{see_slot};
 

@@ -1,4 +1,6 @@
-//! How much a node holds.
+//! How much a node holds: pending messages, the pieces of a message, and the totals of a tree.
+//!
+//! Walks of a whole tree stop counting at `u128::MAX`, which no tree in memory reaches.
 ghost use Rattle.std.specs.Prelude.{◌≡◌, ◌≤◌, ◌<◌, ◌+◌, ◌*◌, ◌^◌, ◌∷◌, [], true, false, length, take, drop};
 ghost use Rattle.node.specs.Lawful.{pending as pending_of};
 ghost use Rattle.node.specs.Report.{own as own_of, total as total_of, width};

@@ -1,4 +1,7 @@
-//! A slot split in two.
+//! Splits a slot in two at a pivot.
+//!
+//! The two lists together mean at each key what the list meant: messages for one key go to the side of their key, and a range-delete
+//! across the pivot to both sides.
 ghost use Rattle.std.specs.Prelude.{◌≡◌, ◌≤◌, length, IfOk, OnErr};
 ghost use Rattle.node.specs.Cutting.{IsCutAt};
 

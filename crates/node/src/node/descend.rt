@@ -1,5 +1,8 @@
-//! The walks down to the node of a step: the first only reads, and finds whether the step can be done there and has room;
-//! the second does it.
+//! The two walks down to the node of a step: the first only reads, and finds whether the step applies there and has room; the
+//! second does it.
+//!
+//! The second walk takes ownership of each node on the path, and copies those that are shared. Whatever it returns, the tree means
+//! what it meant, and the slots off the path are untouched.
 ghost use Rattle.std.specs.Prelude.{◌≡◌, IsTrue, Some};
 ghost use Rattle.std.specs.Option.{option_copied};
 ghost use Rattle.node.specs.Pure.{inner};

@@ -1,4 +1,7 @@
 //! The entries of a leaf: the position of a key among them, the effect of a message on them, and leaves split in halves.
+//!
+//! Invariant: the entries are sorted by key without duplicates. If an allocation fails while a message is applied, the entries are
+//! unchanged.
 ghost use Rattle.std.specs.Prelude.{◌≡◌, ℕ, ◌<◌, ◌≤◌, List, [], ◌∷◌, None, Some, length, IfOk, OnOk, OnErr};
 ghost use Rattle.pathkey.specs.Keys.{is_in};
 ghost use Rattle.pathkey.specs.Order.{same};

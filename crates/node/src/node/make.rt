@@ -1,4 +1,4 @@
-//! New nodes.
+//! New nodes: an empty leaf, and the root of an empty tree, which is one slot over an empty leaf.
 ghost use Rattle.std.specs.Prelude.{◌≡◌, IfOk, []};
 ghost use Rattle.node.specs.Pure.{empty_root, leaf as pure_leaf};
 ghost use Rattle.node.specs.Searchable.{IsRoot};

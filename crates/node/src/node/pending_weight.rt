@@ -1,8 +1,8 @@
 //! What a node stores about the messages pending at or below it, so that neither the fullest slot nor the count of all
 //! pending messages requires a walk of the tree.
 //!
-//! A change of a node clears its weight and those of the nodes above it; each is computed again from the node's slots and
-//! the weights that its children store.
+//! Invariant: a stored weight is exact. A change of a node clears its weight and those of the nodes above it; each is computed
+//! again from the node's slots and the weights that its children store.
 ghost use Rattle.std.specs.Prelude.{◌≡◌, ◌≤◌, ◌<◌, ◌+◌, ◌^◌, max};
 ghost use Rattle.std.specs.Borrow.{Lends, sem};
 ghost use Rattle.node.specs.See.{see};

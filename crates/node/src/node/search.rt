@@ -1,4 +1,7 @@
-//! Which slot holds a key, and the end of a slot's range.
+//! Which slot contains a key, and the end of a slot's range.
+//!
+//! The slots are sorted by pivot, and each range ends where the next slot begins: the slot of a key is the last whose pivot is at or
+//! before it.
 ghost use Rattle.std.specs.Prelude.{◌≡◌, ◌<◌, ◌&&◌, true, length, None, IfSome, MatchOption};
 ghost use Rattle.std.specs.Option.{option_copied};
 ghost use Rattle.pathkey.specs.Keys.{is_below};

@@ -1,4 +1,6 @@
-//! New messages in trees. Slots of the root from which a job was taken keep their lists.
+//! Appends new messages to trees, to one or to two atomically.
+//!
+//! Slots of the root from which a job was taken are not condensed, as in `node::append`.
 ghost use Rattle.std.specs.Prelude.{◌≡◌, OnOk, OnErr, IsOk, [], ◌∷◌};
 ghost use Rattle.node.specs.Appended.{Appended};
 ghost use Rattle.node.specs.Grafts.{KeepsLists};

@@ -1,4 +1,6 @@
-//! A subtree that replaces the child of a root's slot.
+//! Replaces the child of a root's slot by a subtree that was built without the tree.
+//!
+//! The subtree contains the slot's oldest messages, which are removed from the slot: so the value at every key is unchanged.
 ghost use Rattle.std.specs.Prelude.{◌≡◌, ◌≤◌, length, OnOk, OnErr, IfErr, drop, None};
 ghost use Rattle.node.specs.Grafts.{AtSlot, AtRootSlot, CanReplace, Grafted, IsGrafted};
 ghost use Rattle.node.specs.Pure.{inner};

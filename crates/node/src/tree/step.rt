@@ -1,4 +1,6 @@
-//! The steps of a tree.
+//! Runs a step at a node of a tree.
+//!
+//! Whatever the reply, the tree is lawful and means what it meant. Every reply but `Did` leaves it as it was.
 ghost use Rattle.node.specs.Places.{way};
 ghost use Rattle.node.specs.Steps.{Answers};
 

@@ -1,4 +1,7 @@
 //! The eleven file calls on a tree.
+//!
+//! A call is computed in two parts: what it changes, and then the mtimes of the parent directories. The tree is replaced only at the
+//! end, so that it is unchanged if an allocation fails.
 ghost use Rattle.std.specs.Prelude.{◌≡◌, IfOk, OnErr};
 ghost use Rattle.reference.specs.Calls.{Outcome, changed, does as outcome};
 ghost use Rattle.reference.specs.Plain.{tree_of, HasEffect};

@@ -1,4 +1,6 @@
 //! The bytes of a file: truncated, extended, overwritten, and read.
+//!
+//! Each function copies the bytes that it needs. A file that is extended is padded with zeros.
 ghost use Rattle.std.specs.Prelude.{◌≡◌, ◌+◌, ◌<◌, ◌^◌, length, take, drop, IfOk};
 ghost use Rattle.reference.specs.Tree.{over, sized as first_bytes};
 

@@ -1,4 +1,6 @@
 //! The lengths of the texts below a tree.
+//!
+//! A rename makes the text of every path below the moved entry longer or shorter, and fails if one would exceed the limit.
 ghost use Rattle.std.specs.Prelude.{◌≡◌, nat_le};
 ghost use Rattle.reference.specs.Calls.{deepest, deepest_of};
 ghost use Rattle.reference.specs.Plain.{tree_of, entries_of};

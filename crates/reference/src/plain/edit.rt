@@ -1,4 +1,7 @@
 //! Adds or removes one entry of a tree.
+//!
+//! The result is a new tree: the directories from the root down to the entry's parent have the changed entry, and all other entries
+//! are equal to the old ones.
 ghost use Rattle.std.specs.Prelude.{◌≡◌, ◌∷◌, IfOk};
 ghost use Rattle.reference.specs.Tree.{set_entry, edited};
 ghost use Rattle.reference.specs.Plain.{tree_of, entries_of, tree_given};

@@ -1,4 +1,6 @@
 //! The effect of a call on a tree.
+//!
+//! A call that fails, or only reads, has no new tree.
 ghost use Rattle.std.specs.Prelude.{◌≡◌};
 
 use super::tree::Tree;

@@ -1,4 +1,6 @@
 //! The entries of one directory: lookup, insertion, removal and listing.
+//!
+//! Entries are in byte order of their names: an insertion keeps this order, and replaces an entry of the same name.
 ghost use Rattle.std.specs.Prelude.{◌≡◌, ◌++◌, IfOk};
 ghost use Rattle.reference.specs.Tree.{named, put, take_out};
 ghost use Rattle.reference.specs.Calls.{listing};

@@ -1,4 +1,6 @@
 //! The calls that create or write: `mkdir`, `create`, `write`, `truncate`.
+//!
+//! Each finds its error first, and only then builds the new tree.
 ghost use Rattle.std.specs.Prelude.{◌≡◌, []};
 ghost use Rattle.reference.specs.Tree.{Dir, File, nothing, with_entry};
 ghost use Rattle.reference.specs.Calls.{faults_of_new, first_fault, made, truncated, written};

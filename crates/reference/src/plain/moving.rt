@@ -1,4 +1,4 @@
-//! `rename`.
+//! `rename`: errors of the old path, of the new path and of both together, and then the move.
 ghost use Rattle.std.specs.Prelude.{◌≡◌, ◌+◌, false, nat_lt};
 ghost use Rattle.reference.specs.Tree.{Found, entry_at, with_entry, without};
 ghost use Rattle.reference.specs.Calls.{deepest, faults_of_rename, faults_of_replacing, first_fault, is_root, renamed, text_len};

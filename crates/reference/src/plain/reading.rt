@@ -1,4 +1,4 @@
-//! The calls that only read: `read`, `stat`, `readdir`.
+//! The calls that only read: `read`, `stat`, `readdir`. The tree stays as it is.
 ghost use Rattle.std.specs.Prelude.{◌≡◌, IfOk};
 ghost use Rattle.reference.specs.Calls.{Outcome, read, asked, listed};
 ghost use Rattle.reference.specs.Plain.{tree_of};

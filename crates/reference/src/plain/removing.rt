@@ -1,4 +1,6 @@
 //! The calls that remove entries: `unlink`, `rmdir`, `rmtree`.
+//!
+//! Each finds its error first. None removes the root.
 ghost use Rattle.std.specs.Prelude.{◌≡◌};
 ghost use Rattle.reference.specs.Tree.{without};
 ghost use Rattle.reference.specs.Calls.{directory_removed, faults_of_rmdir, first_fault, removed, unlinked};

@@ -1,4 +1,6 @@
 //! The mtimes of the directories in which a call adds or removes an entry.
+//!
+//! They change only if the call succeeds, and to the time of the call.
 ghost use Rattle.std.specs.Prelude.{◌≡◌, IfOk};
 ghost use Rattle.reference.specs.Tree.{Tree as Trees, dated, touched};
 ghost use Rattle.reference.specs.Calls.{Outcome, parent, parents_of, is_done as done, touching, all_touching};

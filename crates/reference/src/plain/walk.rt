@@ -1,4 +1,6 @@
 //! The walk along a path, from the root down.
+//!
+//! A walk that fails keeps failing in the same way, so that the first missing name or file on the path decides the error.
 ghost use Rattle.std.specs.Prelude.{◌≡◌, ◌∷◌, fold};
 ghost use Rattle.reference.specs.Tree.{onward, entry_at};
 ghost use Rattle.reference.specs.Calls.{parent, parent_fault, path_fault, no_directory_fault};

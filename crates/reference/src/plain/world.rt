@@ -1,4 +1,6 @@
 //! A world: the live tree, and the trees of the named snapshots.
+//!
+//! File calls change only the live tree. A snapshot has a tree of its own, and at most 64 are taken.
 ghost use Rattle.std.specs.Prelude.{◌≡◌, IfOk, OnOk, OnErr};
 ghost use Rattle.std.specs.FinMap as finite;
 ghost use Rattle.pathkey.specs.Outcomes.{IsOrLacksMemory};
