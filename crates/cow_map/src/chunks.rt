@@ -159,7 +159,7 @@ fn row_of<T: CopyValue>(alloc: Global, item: SharedEntry<T>) -> Result<Chunk<T>,
 }
 
 /// Splits the chunk to which the key belongs if it is full. Returns the index of the chunk to which the key then belongs, and
-/// which has room for one more entry; `None` if an allocation fails.
+/// which has space for one more entry; `None` if an allocation fails.
 pub(crate) fn split_full<T: CopyValue>(rows: &mut Vec<Chunk<T>>, key: &Key) -> Option<usize>
     requires rows { AreRows rows.old.items }
     requires some { 0 < length rows.old.items }
@@ -177,7 +177,7 @@ pub(crate) fn split_full<T: CopyValue>(rows: &mut Vec<Chunk<T>>, key: &Key) -> O
     chunk_with_space(rows.as_slice(), key)
 }
 
-/// The index of the chunk to which the key belongs, if it has room.
+/// The index of the chunk to which the key belongs, if it is not full.
 fn chunk_with_space<T: CopyValue>(rows: &[Chunk<T>], key: &Key) -> Option<usize>
     requires rows { AreRows rows.now }
     requires some { 0 < length rows.now }

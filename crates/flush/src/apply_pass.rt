@@ -3,6 +3,9 @@
 //! Messages are mostly sorted by key, as entries are. So a pass moves the entries, in their order, from a queue of those
 //! that are left to a vector of those that are done: for each message those up to its key, and then the message is applied
 //! to the last one, or makes a new one there. It never moves the entries after a new one to make a place for it.
+//!
+//! Invariant: the entries that are done, followed by those that are left, are the leaf's entries after the messages so far, sorted
+//! by key.
 ghost use Rattle.std.specs.Prelude.{◌≡◌, ◌≤◌, ◌<◌, ◌+◌, ◌-◌, ◌∷◌, ◌++◌, [], ℕ, List, None, Some, true, false, length, vec_capacity, slice_get, IfNone};
 ghost use Rattle.std.specs.Option.{option_to_list};
 ghost use Rattle.pathkey.specs.Keys.{is_below};

@@ -2,6 +2,9 @@
 //!
 //! Messages for one key are moved into the slots that hold their keys, those of a key at once if possible. Range-deletes at
 //! the front of a list are copied, since their pieces need keys of their own.
+//!
+//! Invariant: messages leave the slot in their order, the oldest first, and only once the child has them, where they are newer
+//! than what is pending. So the value at every key stays, also if an allocation fails half-way.
 ghost use Rattle.std.specs.Prelude.{◌≡◌, ℕ, true, false, ◌+◌, ◌≤◌, ◌<◌, ◌∷◌, [], length, take, map, None, IfOk, OnOk, OnErr};
 ghost use Rattle.node.specs.Appended.{batches_by_slot, HaveTaken};
 ghost use Rattle.node.specs.Lawful.{pending as pending_of};

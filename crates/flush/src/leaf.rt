@@ -4,6 +4,9 @@
 //! message needs one more entry is the leaf split in two, on a copy: the messages up to that one then leave the slot, and
 //! the next flush finds a leaf with half its room free. So messages for keys that the full leaf has, of which one may come
 //! with each new entry, do not delay the split.
+//!
+//! Invariant: the slot loses exactly the messages that were applied, which are its oldest. So the value at every key stays, also
+//! if an allocation fails half-way.
 ghost use Rattle.std.specs.Prelude.{◌≡◌, ◌≤◌, ◌<◌, ◌∷◌, [], None, true, false, length, take, drop, ◌⊎◌, ⊤, IsTrue, IfOk, OnErr, MatchOption};
 ghost use Rattle.std.specs.Option.{option_copied};
 ghost use Rattle.message.specs.Oldest.{given_at, put_at};
@@ -344,7 +347,7 @@ fn split_leaf<U: Update>(
         return StepReply::NoMemory;
     };
     let Ok(()) = slots.insert(i + 1, back) else {
-        // Room for it was reserved before the split.
+        // Capacity for it was reserved before the split.
         unreachable!()
     };
     StepReply::Did(count as u32)

@@ -1,6 +1,6 @@
 //! Hexadecimal digits of bytes, and the percent-encoding of names.
 //!
-//! The encoding is injective and its result is printable, so a name is one word of an image's line.
+//! Distinct names have distinct encodings, so a tree is determined by its image.
 ghost use Rattle.std.specs.Prelude.{◌≡◌, ◌∷◌, [], ◌<◌, MatchOption};
 ghost use Rattle.reference.specs.Image.{digit as digit_of, percent, two_digits};
 

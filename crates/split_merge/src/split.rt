@@ -114,7 +114,7 @@ impl<U: Update> SlotStep<U> for InnerSplit {
             return StepReply::NoMemory;
         };
         let Ok(()) = slots.insert(i + 1, back) else {
-            // Room for it was reserved before the split.
+            // Capacity for it was reserved before the split.
             unreachable!()
         };
         StepReply::Did(0)

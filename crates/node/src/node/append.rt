@@ -19,7 +19,7 @@ use pathkey::NoMemory;
 use pending::Pending;
 use std::alloc::Global;
 
-/// Appends a part to a list that has room for it; if `plain`, the list stays as it was.
+/// Appends a part to a list that has capacity for it; if `plain`, the list is not condensed.
 fn push_batch<U: Update>(pending: &mut Pending<U>, slot_batch: &mut Vec<Msg<U>>, plain: bool)
     requires { length slot_batch.old.items ≤ pending.old.1 }
     ensures takes { Takes U.means pending.old.0 slot_batch.old.items pending.new.0 }
@@ -42,8 +42,8 @@ fn first_kept(kept: &[u32]) -> (bool, &[u32])
     }
 }
 
-/// Appends each part to its slot's pending list, which has room for it; if the slot's number is above 0, the list stays as
-/// it was.
+/// Appends each part to its slot's pending list, which has capacity for it; if the slot's number is above 0, the list is not
+/// condensed.
 pub fn push_batches<U: Update>(
     slots: &mut [Slot<U>],
     batches_by_slot: &mut [Vec<Msg<U>>],
@@ -75,7 +75,7 @@ fn is_kept(kept: &[u32], i: usize) -> bool
     }
 }
 
-/// Appends a message to a list that has room for it; if `plain`, the list stays as it was.
+/// Appends a message to a list that has capacity for it; if `plain`, the list is not condensed.
 fn push_msg<U: Update>(pending: &mut Pending<U>, msg: Msg<U>, plain: bool)
     requires { 0 < pending.old.1 }
     ensures takes { Takes U.means pending.old.0 (msg ∷ []) pending.new.0 }
@@ -89,8 +89,8 @@ fn push_msg<U: Update>(pending: &mut Pending<U>, msg: Msg<U>, plain: bool)
     }
 }
 
-/// Appends each message as it is to the pending list of the slot with the index at its position, which has room for it; if
-/// a slot's number in `kept` is above 0, its list stays as it was.
+/// Appends each message as it is to the pending list of the slot with the index at its position, which has capacity for it;
+/// if a slot's number in `kept` is above 0, its list is not condensed.
 fn push_unsplit<U: Update>(
     slots: &mut [Slot<U>],
     msgs: &mut MsgDrain<U>,
@@ -117,8 +117,8 @@ fn push_unsplit<U: Update>(
     push_unsplit(slots, msgs, homes, kept)
 }
 
-/// Appends the messages to the slots' pending lists, which have room for them; if a slot's number is above 0, its list
-/// stays as it was.
+/// Appends the messages to the slots' pending lists, which have capacity for them; if a slot's number is above 0, its list
+/// is not condensed.
 fn put_batch<U: Update>(slots: &mut [Slot<U>], batch: Batch<U>, kept: &[u32])
     requires { HasRoomFor slots.old batch }
     ensures taken { HaveTaken U.means (seen_slots slots.old) (batch_parts batch (seen_slots slots.old)) (seen_slots slots.new) }
@@ -136,7 +136,7 @@ fn put_batch<U: Update>(slots: &mut [Slot<U>], batch: Batch<U>, kept: &[u32])
     }
 }
 
-/// Appends messages to the pending lists of a root's slots; if a slot's number is above 0, its list stays as it was.
+/// Appends messages to the pending lists of a root's slots; if a slot's number is above 0, its list is not condensed.
 fn append_slots<U: Update>(
     alloc: Global,
     slots: &mut [Slot<U>],
@@ -207,7 +207,7 @@ impl<U: Update> Node<U> {
         append_one(alloc, slots.as_mut_slice(), msg)
     }
 
-    /// Appends messages to the slots of a root; if a slot's number is above 0, its list stays as it was.
+    /// Appends messages to the slots of a root; if a slot's number is above 0, its list is not condensed.
     pub fn append_kept(
         &mut self,
         alloc: Global,

@@ -1,9 +1,9 @@
-//! New messages for the slots of a root, cut at the pivots, with room reserved for them.
+//! New messages for the slots of a root, cut at the pivots, with capacity reserved for them.
 //!
-//! An append has two steps. `prepare` cuts the messages at the pivots and reserves room in every slot that takes some: an
-//! allocation may fail, and the tree looks the same. `put_batch` (in `append`) moves the parts into that room and cannot
-//! fail. So two trees are appended to together: prepare, prepare, put, put. A few messages that have all their keys in one
-//! slot each go to their slots as they are, without a part for each slot.
+//! An append has two steps. `prepare` cuts the messages at the pivots and reserves capacity in every slot that takes some: an
+//! allocation may fail, and the tree means the same. `put_batch` (in `append`) moves the parts into the slots' lists and cannot
+//! fail. So an append to two trees is atomic: prepare, prepare, put, put. A few messages that each have all their keys in one
+//! slot are moved to these slots as they are, without a part for each slot.
 ghost use Rattle.std.specs.Prelude.{◌≡◌, true, OnOk, OnErr, IfOk, map, length, ◌++◌, [], None};
 ghost use Rattle.std.specs.Option.{option_copied, option_to_list};
 ghost use Rattle.node.specs.Appended.{batches_by_slot as parts_of, placed};
@@ -117,7 +117,7 @@ pub(crate) fn copy_batches<U: Update>(
     Ok(batches_by_slot)
 }
 
-/// Reserves room in each slot's list for its part. The slots mean what they meant, whatever the result.
+/// Reserves capacity in each slot's list for its part. The slots mean what they meant, whatever the result.
 pub(crate) fn reserve_each<U: Update>(
     slots: &mut [Slot<U>],
     batches_by_slot: &[Vec<Msg<U>>],
@@ -148,9 +148,9 @@ pub enum Batch<U: UpdateTarget> {
     Parts(Vec<Vec<Msg<U>>>),
 }
 
-/// Reserves room for `count` messages in the slot that takes each of the messages as it is, and notes the slot's index at
-/// the message's position; returns whether each has one. The slots mean what they meant, and have the room that they had,
-/// whatever the result.
+/// Reserves capacity for `count` messages in the slot that takes each of the messages as it is, and notes the slot's index at
+/// the message's position; returns whether each has one. The slots mean what they meant, and keep the capacity that they
+/// had, whatever the result.
 fn reserve_targets<U: Update>(
     slots: &mut [Slot<U>],
     count: usize,
@@ -177,7 +177,7 @@ fn reserve_targets<U: Update>(
     reserve_targets(slots, count, later, homes)
 }
 
-/// Cuts the messages for a root's slots and reserves room for the parts in them.
+/// Cuts the messages for a root's slots and reserves capacity for the parts in them.
 fn prepare_batches<U: Update>(
     alloc: Global,
     slots: &mut [Slot<U>],
@@ -193,8 +193,8 @@ fn prepare_batches<U: Update>(
     Ok(batches_by_slot)
 }
 
-/// Cuts the messages for a root's slots and reserves room in them, but a few messages that have all
-/// their keys in one slot each go to their slots as they are.
+/// Cuts the messages for a root's slots and reserves capacity in them; a few messages that each have all their keys in one
+/// slot are not cut.
 pub fn prepare<U: Update>(
     alloc: Global,
     slots: &mut [Slot<U>],
