@@ -1,4 +1,4 @@
-//! Numbers of eight bytes in little-endian order.
+//! Numbers of eight bytes in little-endian order, as all numbers of a log are.
 ghost use Rattle.std.specs.Prelude.{◌≡◌, ◌++◌, ◌<◌, MatchOption, OnOk, length};
 ghost use Rattle.wal.specs.Entries.{IsWord, word};
 
