@@ -94,7 +94,7 @@ pub fn truncate(
     done(alloc, Reply::Done, set, block)
 }
 
-/// The messages that cut the blocks of a file of `old` bytes to the first `len`; none if it has no more.
+/// The messages that truncate the blocks of a file from `old` bytes to `len`; none if it is not longer.
 fn cut_from(
     alloc: Global,
     index: &BlockIndex,

@@ -16,7 +16,7 @@ use Rattle.volume.specs.Changes.{Receives}
 use Rattle.volume.specs.Marked.{PLive, KeepMarkedLists, KeepsMarks}
 use Rattle.volume.specs.Volumes.{PVolume, Means, live_of}
 
--- what the setting of an mtime is compiled to, unless memory was refused
+-- what setting an mtime is compiled to, unless an allocation fails
 abbrev pub Compiles : Indexes → Path → ℕ → Result (Reply × Batch) NoMemory → Type 0
 Compiles i p at compiled = IfOk compiled (λ x. CompilesMtime i p at x.0 (messages x.1))
 
@@ -41,8 +41,8 @@ pub record TakesOne (old new : PLive) : Type 0 where
   pub block : new.indexes.block ≡ old.indexes.block
   pub lists : KeepMarkedLists msgs old new
 
--- an mtime that was to be set: in each world that was meant it is replied as the world's live tree says, and the world with the mtime is
--- meant, or ENOMEM is replied. A fault changes nothing. At most one message came, no snapshot changes, and all marks stay
+-- setting an mtime: in each world the reply is that of the world's live tree, and the volume then abstracts to the world with the mtime,
+-- or the reply is ENOMEM. A fault changes nothing. At most one message is sent, no snapshot changes, and all marks stay
 pub record SetsMtime (p : Path) (at : ℕ) (r : Reply) (old new : PVolume) : Type 0 where
   pub leads : (w : World) → Means old w → Sets p at r new w ⊎ (r ≡ Fault ENOMEM)
   pub refused : (e : Errno) → r ≡ Fault e → new ≡ old

@@ -91,7 +91,7 @@ pub enum TakeAnswer {
     Taken(Ticket),
     /// There is no such slot, its child is a leaf, no message is pending there, or it has a mark.
     NotThere,
-    /// The child has no room for the pieces of the first message, there are 64 marks, or no ticket is left.
+    /// The first message does not fit into the child, there are 64 marks, or no ticket is left.
     NoRoom,
     /// An allocation failed.
     NoMemory,
