@@ -33,7 +33,7 @@ first_behind [] more h = refl
 first_behind (None ∷ faults) more h = first_behind faults more h
 first_behind (Some d ∷ faults) more h = absurd (cc)
 
--- one more fault, which applies or not
+-- a last fault, if it applies
 last_comes : (b : Bool) (e : Errno) → b ≡ true → first_fault (when b e ∷ []) ≡ Some e
 last_comes b e h = ap (λ (x : Bool). first_fault (when x e ∷ [])) h
 

@@ -45,8 +45,8 @@ zeros_joined b a m n =
 
 -- ---- in blocks
 
--- the blocks hold the file with zeros over some of its bytes, if each is unchanged, or is deleted and entirely among those
--- bytes, and none with one of those bytes remains unchanged
+-- the blocks hold the file with zeros over some of its bytes, if every block with one of those bytes is deleted, only
+-- blocks entirely among them are deleted, and all others are unchanged
 pub zeros_hold : (a n : ℕ) (block new : ℕ → Option (List ℕ)) (b : List ℕ) → Hold block b → a + n ≤ length b
     → ((i : ℕ) → i < most_blocks → (new i ≡ block i) ⊎ ((new i ≡ None) × (a ≤ 4096 * i) × (4096 * i + 4096 ≤ a + n)))
     → ((i j : ℕ) → i < most_blocks → j < 4096 → a ≤ 4096 * i + j → 4096 * i + j < a + n → new i ≡ None)

@@ -1,4 +1,4 @@
--- A struct of one pointer and one ghost field that says what lies there, as C has a handle or a place for one.
+-- A struct of one pointer and one ghost field for the value at the pointer: the C form of a handle or an out-parameter.
 use Rattle.doorvervain.proofs.Steps.{◌≡◌, List, [], ◌∷◌, ap, Ptr, Val, vstruct, of_list, ptr_val, RattleType, Fml, fsep, Struct}
 use Rattle.std.specs.Prelude.{Option}
 use base.Stored.{Coded}

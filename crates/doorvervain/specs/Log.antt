@@ -1,4 +1,4 @@
--- What the exports of logs tell.
+-- What the exports of logs report.
 use Rattle.std.specs.Prelude.{◌≡◌, ◌⊎◌, ◌++◌, ◌≤◌, ◌+◌, ◌^◌, ℕ, List, length, Option, Some, None, Result, Ok, Err}
 use Rattle.pathkey.specs.declared.errno.Errno.{Errno}
 use Rattle.pathkey.specs.declared.errno.Errno.TheVariants.{EINVAL, ENOENT}
@@ -13,7 +13,7 @@ abbrev pub FindsRecord : List ℕ → ℕ → List ℕ → Result ℕ Errno → 
 FindsRecord salt n log (Ok size) = (body : List ℕ) × (rest : List ℕ) × (log ≡ record_of salt n body ++ rest) × (size ≡ length body)
 FindsRecord salt n log (Err e) = (e ≡ ENOENT) × LacksRecord salt n log
 
--- where a run stopped, by what was told and by how many changes were done
+-- where a replay stopped, from the reported error and the number of changes that were applied
 abbrev pub stopped_of : Result (Unit {0}) Errno → ℕ → Option ReplayError
 stopped_of (Ok u) done = None
 stopped_of (Err e) done = Some (record { done = done; fault = e })

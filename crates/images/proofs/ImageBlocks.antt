@@ -27,7 +27,7 @@ trimmed_end (x ∷ xs) b ne = trimmed_is x (xs ++ b ∷ []) ∙ ap (keep x) (tri
     some zero (y ∷ ys) = refl
     some (suc x) xs = refl
 
--- a last byte that is zero goes
+-- a last byte that is zero is trimmed
 pub trimmed_less : (bytes : List ℕ) (k : ℕ) → get_or bytes k 0 ≡ 0 → trimmed (take k bytes) ≡ trimmed (take (k + 1) bytes)
 trimmed_less bytes k e = trimmed_same (take k bytes) (take (k + 1) bytes) at
   where
@@ -71,7 +71,7 @@ zero_at n k = ⊎_elim
     (λ (h : n ≤ k). get_or_past (zeros_of n) k 0 (let l : length (zeros_of n) ≡ n = length-replicate n 0 in omega arith))
     (cases_lt k n)
 
--- zeros behind bytes are trimmed away
+-- zeros after bytes are trimmed
 trimmed_zeros : (v : List ℕ) (n : ℕ) → trimmed (v ++ zeros_of n) ≡ trimmed v
 trimmed_zeros v n = trimmed_same (v ++ zeros_of n) v (λ j. ⊎_elim
     (λ (h : j < length v). get_or_append_left v (zeros_of n) 0 j h)

@@ -63,7 +63,7 @@ took_piece shape text piece old new taken still answer loads form refuses took =
     go Starved e = tt
     go (Spoiled n) e = λ rest. subst (IsBadAt n) (sym (append_assoc text piece rest)) (refuses n (sym e) text rest was.0)
 
--- a piece behind a refusal
+-- a piece after a failure
 pub took_refused : (shape : Shape) (text piece : Text) (l : ImageLoader) (fault : LoadFault) → answer_of l.intake ≡ Err fault → Took shape text l → Took shape (text ++ piece) l
 took_refused shape text piece l fault = go l.intake
   where
