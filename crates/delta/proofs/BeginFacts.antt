@@ -26,7 +26,7 @@ use Rattle.delta.proofs.WalkFacts.{none_left, some_left}
 
 -- ---- commands that make any lines of any others
 
--- the old lines go, one by one, and the new ones come
+-- the old lines are deleted, one by one, and the new ones are inserted
 abbrev pub whole : List Line → List Line → List Command
 whole [] new = map Come new
 whole (l ∷ old) new = Go 1 ∷ whole old new
@@ -72,7 +72,7 @@ begun cs h i a b x y commands f text = λ t u m k.
 pub begun_none : (h : Option (List ℕ)) (a b : LineCursor) → BeginsAll h h a b
 begun_none h a b = begun [] h h a b a b (All-nil IsCommand) (patches_none a b) (all_is_part h h [] (Appends-nil h))
 
--- the line at which the new walk stands was begun
+-- a prefix of the insertion of the new cursor's line was written
 pub begun_come : (h i : Option (List ℕ)) (a b : LineCursor) → b.there ≡ true → AppendsPart h i (commands_text (Come b.line.items ∷ [])) → BeginsAll h i a b
 begun_come h i a b there text = λ t u m k.
     let l : Line = b.line.items in
@@ -85,7 +85,7 @@ begun_come h i a b there text = λ t u m k.
       all = come_made (l ∷ []) (lines_from t a) new rest (whole_makes (lines_from t a) new) ∙ ap Some (sym (some_left u b there));
     }
 
--- commands were written, and behind them others were begun
+-- commands were written, and after them a prefix of others
 pub begun_then : (cs : List Command) (h i j : Option (List ℕ)) (a b x y : LineCursor) → Puts cs h i a b x y → BeginsAll i j x y → BeginsAll h j a b
 begun_then cs h i j a b x y f more = λ t u m k.
     let g = more t u (mean_at a x t f.patches.old_tree m) (mean_at b y u f.patches.new_tree k) in
@@ -113,7 +113,7 @@ some_put cs h i a b x y f = λ t u m k.
 pub some_none : (h : Option (List ℕ)) (a b : LineCursor) → PutsSome h h a b
 some_none h a b = some_put [] h h a b a b (puts_none h a b)
 
--- the line at which the new walk stands was written
+-- the insertion of the new cursor's line was written
 pub some_come : (h i : Option (List ℕ)) (a b : LineCursor) → b.there ≡ true → Appends h i (commands_text (Come b.line.items ∷ [])) → PutsSome h i a b
 some_come h i a b there text = λ t u m k.
     let l : Line = b.line.items in
@@ -166,7 +166,7 @@ delta_none h digest t u sum is = delta_heading h h digest t u sum is (part_befor
 pub delta_no_line : (h : Option (List ℕ)) (digest : List ℕ) (t u : Tree) → IsDigest digest → digest ≡ sha256 (image Second t) → BeginsLines h h t u
 delta_no_line h digest t u sum is = let (text, difference, part) = delta_none h digest t u sum is in (text, difference, ([], text, refl, Appends-nil h, inl refl))
 
--- behind the first line
+-- after the first line
 module _ (h i j : Option (List ℕ)) (digest : List ℕ) (a b : LineCursor) (r s : FsRoot) (t u : Tree) (at_a : IsAtStart r a) (at_b : IsAtStart s b) (m : MeanRooted r t) (n : MeanRooted s u)
     (sum : IsDigest digest) (is : digest ≡ sha256 (image Second t)) (first : Appends h i (text_of (heading digest ∷ []))) where
   mean_a : MeanRooted a.printing.tree t

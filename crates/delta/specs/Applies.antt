@@ -74,7 +74,8 @@ DoesAll cs old s l = (lines : List Line) × (patched cs old ≡ Some lines) × T
 
 -- ---- laws
 
--- what a delta of two trees makes of a volume that means the first is one that means the second, moments and all
+-- applying a delta of two trees to a volume that abstracts to the first gives one that abstracts to the second, mtimes
+-- included
 abbrev pub RoundTripLaw : Type 0
 RoundTripLaw = (text : Text) (t u : Tree) (shape : Shape) (v : PVolume) → IsTree t → IsTree u → IsDifference text t u → Applied text t shape v → Means v (alone u)
 

@@ -90,7 +90,7 @@ impl LineCursor {
         self.read(alloc)
     }
 
-    // Reads the next line, which may come in several pieces.
+    // Reads the next line, which may be printed in several pieces.
     fn read(&mut self, alloc: Global) -> Result<(), NoMemory>
         ensures { OnOk result (ReadsLine self.old self.new) }
     {

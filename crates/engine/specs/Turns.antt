@@ -24,7 +24,7 @@ use Rattle.engine.specs.declared.flusher.TurnReply.TheVariants.{Idle, Stepped, I
 abbrev pub Untouched : PVolume → PVolume → Type 0
 Untouched old new = new ≡ old
 
--- the job was taken of some slot: its mark was added, and nothing else has changed
+-- the job was taken of some slot: its mark was added, and nothing else changed
 pub record TakesJob (job : Job) (old new : PVolume) : Type 0 where
   pub index : Index
   pub slot : ℕ
@@ -32,8 +32,8 @@ pub record TakesJob (job : Job) (old new : PVolume) : Type 0 where
   pub root : new.live.modified ≡ old.live.modified
   pub snapshots : new.snapshots ≡ old.snapshots
 
--- what was built of a job took its place: its mark stood and is gone, each key has the value that it had, and neither the other
--- index nor a snapshot has changed
+-- a built job was installed: its mark existed and was removed, each key has the same value, and neither the other index nor a
+-- snapshot changed
 pub record PutIn (done : Done) (old new : PVolume) : Type 0 where
   pub stood : mark_for done old.marks ≢ None
   pub placed : Installs done (live_of old) (live_of new)
@@ -41,7 +41,7 @@ pub record PutIn (done : Done) (old new : PVolume) : Type 0 where
   pub root : new.live.modified ≡ old.live.modified
   pub snapshots : new.snapshots ≡ old.snapshots
 
--- the mark with the ticket is gone, and nothing else has changed
+-- the mark with the ticket was removed, and nothing else changed
 abbrev pub Cancels : ℕ → PVolume → PVolume → Type 0
 Cancels ticket old new = new ≡ record old { marks = without_mark ticket old.marks }
 
@@ -66,8 +66,8 @@ Relieves NoMemory old new = ⊥
 
 -- ---- holds of the lock
 
--- a hold, in which a flusher that had seen v has come to see w: it found a volume and left one, both mean what the history which it
--- has seen leaves, and the marks that it left are of takings which it has seen
+-- a critical section in which a flusher that had seen v came to see w: it found one volume and left another, both abstract to the
+-- world after the history that it has seen, and the marks that it left are of takings that it has seen
 pub record Hold (o : PVolume) (v w : Watched) : Type 0 where
   pub found : PVolume
   pub left : PVolume
@@ -111,8 +111,8 @@ RelievesIn o Installed v w = ⊥
 RelievesIn o Stale v w = ⊥
 RelievesIn o NoMemory v w = ⊥
 
--- the rest of a turn that has taken the job: what was built of it is put in, or its mark was gone; or memory was refused, and then
--- the mark goes
+-- the rest of a turn that has taken the job: what was built of it is installed, or its mark had been removed; or an allocation
+-- failed, and then the mark is removed
 abbrev pub Finishes : PVolume → Job → TurnReply → Watched → Watched → Type 0
 Finishes o job Installed v w = (done : Done) × Builds job done × Found o v w (PutIn done)
 Finishes o job Stale v w = (done : Done) × Builds job done × Held o v w (Puts done Stale)

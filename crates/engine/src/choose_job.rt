@@ -51,7 +51,7 @@ pub fn choose_job(volume: &mut Volume, alloc: Global) -> TakeReply
     }
 }
 
-/// Installs what was built, or cancels its job if an allocation fails. Returns `Stale` if and only if the job's mark is gone.
+/// Installs a built job, or cancels it if an allocation fails. Returns `Stale` if and only if the job's mark was removed.
 pub fn install_or_cancel(volume: &mut Volume, done: Done) -> TurnReply
     requires { DoneFits done (live_of volume.old) }
     ensures puts { Puts done result volume.old volume.new }

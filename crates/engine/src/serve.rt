@@ -153,7 +153,7 @@ fn work_beside<J: EngineId + Send + Sync, W: ClientTask + Sync, R: Threads + Wai
     )
 }
 
-/// Starts the flushers, runs the clients, and then tells the flushers to stop.
+/// Starts the flushers, runs the clients, and then signals the flushers to stop.
 fn work_in<'s, E, J: EngineId + Send + Sync + 's, W: ClientTask + Sync, R: Threads + Wait + Sync>(
     scope: &Scope<'s, E>,
     rt: &'s R,

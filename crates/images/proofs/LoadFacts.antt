@@ -332,7 +332,7 @@ line_read text items old new short loads h =
       holds = holds_nothing;
     }
 
--- a line fails for the same reason as the part of it that is kept
+-- if a line fails, so does the part of it that is kept
 refused_left : (left items : Text) (l : LoadState) → Holds left items → RefusesLine items l → RefusesLine left l
 refused_left left items l h refuses = ⊎_elim
     (λ (s : 65536 < length left). long_refused left l s)

@@ -100,7 +100,7 @@ pub record FitsAt (i len : ℕ) (l : LoadState) (offset : ℕ) : Type 0 where
   pub at : offset ≡ 4096 * i
   pub inside : offset + len ≤ file
 
--- a call at a timestamp had a count as its answer
+-- a call at a timestamp was executed, and its answer is a count
 abbrev pub Counts : Call → ℕ → PVolume → PVolume → Type 0
 Counts call at old new = (n : ℕ) × Called call at (Count n) old new
 

@@ -1,4 +1,4 @@
--- How a script goes on: line by line, piece by piece, and where it ends.
+-- How a script continues: line by line, piece by piece, and how it ends.
 use Rattle.std.proofs.Common.{Bool, ◌≡◌, ◌⊎◌, ℕ, ◌≤◌, ◌<◌, ◌==◌, nat_lt, List, [], ◌∷◌, ◌++◌, length, true, false, refl, sym, ap, ◌∙◌, subst, inl, inr, append_assoc, append-nil, arith}
 use Rattle.std.proofs.lemmas.Bool.{ne_eqb, cases_lt, lt-ltb}
 use Rattle.pathkey.specs.Texts.{onto_first}
@@ -119,7 +119,7 @@ stopped_weaker D E H I f g first text written after s = record {
 
 -- ---- the line so far
 
--- what a line that is too long asks for
+-- the request of a line that is too long
 too_long : (xs : List ℕ) → 65536 < length xs → request_of xs ≡ Overlong
 too_long xs long =
     let e : nat_lt 65536 (length xs) ≡ true = lt-ltb 65536 (length xs) long in
@@ -324,7 +324,7 @@ script_of_one D line other a b out f (after, reply, rest, does, is, end) = (afte
 abbrev pub Carries : Line → Type 0
 Carries D = (held items : List ℕ) (a b : State) (reply : List ℕ) → Holds held items → D a items reply b → D a held reply b
 
--- a last line of which no more is held than shows that it is too long
+-- a last line of which no more is kept than shows that it is too long
 pub script_held : (D : Line) → Carries D → (held items : List ℕ) (a b : State) (out : List ℕ) → Holds held items → Lines D a (last_line items) out b
     → Lines D a (last_line held) out b
 script_held D carries held items a b out holds did = go (cases_lt 65536 (length held))

@@ -53,7 +53,7 @@ rules = number_rule (codes "flushers") 0 8
     ∷ new_rule (codes "SCRIPT")
     ∷ []
 
--- the program by its name, with the option that asks for the release and no other
+-- the program with its name, and only the option that prints the release
 abbrev pub bare_betr : App
 bare_betr =
     let app = new_app (codes "betr") in

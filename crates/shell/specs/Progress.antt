@@ -1,4 +1,4 @@
--- How far a script has come within its text.
+-- How much of its text a script has executed.
 use Rattle.std.specs.Prelude.{◌≡◌, ℕ, List, [], ◌∷◌, ◌++◌, ⊤}
 use Rattle.shell.specs.Script.{Cut, Line, Lines, Script, State}
 use Rattle.textio.specs.Held.{IsFree}

@@ -1,4 +1,4 @@
--- What is asked of a state that means worlds.
+-- What is required of a state that abstracts to worlds.
 use Rattle.reference.specs.Worlds.{World, Event, Answer, Fits, next}
 use Rattle.reference.specs.declared.reply.Reply.{Reply}
 use Rattle.volume.specs.HistoryOf.{Tells}
@@ -11,6 +11,6 @@ use Rattle.shell.specs.Script.{call_of}
 abbrev pub Goes : Worlds → Worlds → Event → Answer → Type 0
 Goes meant means e a = (w : World) → meant w → Fits w e a × means (next w e a)
 
--- the reply to a look is that of the tree that is meant, or want of memory
+-- the reply to a read is that of the tree, or ENOMEM
 abbrev pub IsReported : ReadCall → Reply → FsRoot → Type 0
 IsReported look r i = Tells (call_of look) r i

@@ -1,7 +1,7 @@
 //! Numbers that look random, and are the same at each run.
 ghost use Rattle.std.specs.Prelude.{◌<◌};
 
-/// Each number comes from the one before (a linear congruential generator).
+/// A linear congruential generator.
 #[derive(Drop)]
 pub struct Random(pub u32);
 

@@ -18,7 +18,7 @@ impl Row {
         self.0[at as usize]
     }
 
-    /// Lays the message on the value at each key.
+    /// Applies the message to the value at each key.
     pub fn lay(&mut self, message: Plain) {
         for at in 0..=u8::MAX {
             self.0[at as usize] = message.value_after(at, self.0[at as usize]);

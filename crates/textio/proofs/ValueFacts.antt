@@ -146,6 +146,6 @@ pub decoded_itself : (text : List ℕ) → AllByRecursion (λ b. b ≢ 37) text 
 decoded_itself [] h = percent_decode-nil
 decoded_itself (b ∷ text) h = percent_decode_not_percent b text h.0 ∙ ap (λ (rest : List ℕ). b ∷ rest) (decoded_itself text h.1)
 
--- so a plain text is read as it stands
+-- so a plain text is parsed without decoding
 pub plain_path : (text : List ℕ) → is_plain text ≡ true → path_of text ≡ parsed text
 plain_path text h = ap parsed (decoded_itself text (lacks_percent text h))

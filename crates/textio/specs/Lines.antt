@@ -10,7 +10,7 @@ lines_of text = pieces 10 text
 abbrev pub words_of : List ℕ → List (List ℕ)
 words_of line = pieces 32 (line ++ 32 ∷ [])
 
--- a word before and behind its first `@` (64), where it has one
+-- the word before and after its first `@` (64), if it has one
 abbrev pub at_sign : List ℕ → Option (List ℕ × List ℕ)
 at_sign [] = None
 at_sign (b ∷ word) = if b == 64 then Some ([], word) else option_map (λ cut. (b ∷ cut.0, cut.1)) (at_sign word)

@@ -11,6 +11,6 @@ hex_text (b ∷ bytes) = flat_map (two_digits 87) (b ∷ bytes)
 abbrev pub number_line : List ℕ → ℕ → List ℕ
 number_line word n = word ++ decimal n ++ codes "\n"
 
--- a byte that stands for itself in percent form
+-- a byte that is not escaped in percent form
 abbrev pub IsPlain : ℕ → Type 0
 IsPlain byte = percent byte ≡ byte ∷ []

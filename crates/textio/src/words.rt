@@ -22,7 +22,7 @@ pub fn split_line(text: &[u8]) -> Option<(&[u8], &[u8])>
     cut_at(text, b'\n')
 }
 
-/// A text before and behind its first space; none where it has none.
+/// The text before and after its first space; `None` if it has none.
 pub fn split_space(text: &[u8]) -> Option<(&[u8], &[u8])>
     ensures { MatchOption result (All (λ b. b ≢ 32) text.now)
         (λ cut. (text.now ≡ cut.0.now ++ 32 ∷ cut.1.now) × All (λ b. b ≢ 32) cut.0.now) }
@@ -30,7 +30,7 @@ pub fn split_space(text: &[u8]) -> Option<(&[u8], &[u8])>
     cut_at(text, b' ')
 }
 
-// A text before and behind the first byte that is this one.
+// The text before and after the first byte `wanted`; `None` if it has none.
 fn cut_at(text: &[u8], wanted: u8) -> Option<(&[u8], &[u8])>
     ensures { MatchOption result (All (λ b. b ≢ wanted) text.now)
         (λ cut. (text.now ≡ cut.0.now ++ wanted ∷ cut.1.now) × All (λ b. b ≢ wanted) cut.0.now) }
@@ -40,7 +40,7 @@ fn cut_at(text: &[u8], wanted: u8) -> Option<(&[u8], &[u8])>
     Some((front, &rest[1..]))
 }
 
-/// A word before and behind its first `@`; none where it has none.
+/// The word before and after its first `@`; `None` if it has none.
 pub fn split_at_sign(word: &[u8]) -> Option<(&[u8], &[u8])>
     ensures { option_map (λ cut. (cut.0.now, cut.1.now)) result ≡ at_sign word.now }
 {
