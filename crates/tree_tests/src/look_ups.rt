@@ -1,4 +1,4 @@
-//! Values through messages that wait in the root, by rows of messages.
+//! Tests of look-ups through messages that are pending in the root.
 use crate::trees::{Course, SMALL, all_go, append, goes_anew, has};
 use node::Tree;
 use std::alloc::Global;
@@ -37,7 +37,7 @@ fn is_alone(alloc: Global, tree: &mut Tree<Digit>, shared: &Tree<Digit>) -> bool
         && has(alloc, shared, 3, None)
 }
 
-/// Whether a tree without a value and its share part.
+/// Whether a tree without a value and a share of it become independent.
 fn parts_from_its_share(alloc: Global, tree: &mut Tree<Digit>) -> bool {
     match tree.share() {
         Ok(shared) => is_alone(alloc, tree, &shared),
@@ -45,7 +45,7 @@ fn parts_from_its_share(alloc: Global, tree: &mut Tree<Digit>) -> bool {
     }
 }
 
-/// Nothing is found in a tree, and it and its share part.
+/// A look-up finds nothing in a new tree, and the tree and its share become independent.
 struct Parting;
 
 impl Course for Parting {

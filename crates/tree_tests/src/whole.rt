@@ -1,4 +1,5 @@
-//! Whole trees: steps of every kind work between messages, and each look-up is compared with a plain row of numbers.
+//! Tests of whole trees: steps of every kind are done between messages, and each look-up is compared with a reference
+//! array of numbers.
 use crate::pair::Pair;
 use crate::some_steps::{Done, try_step};
 use crate::trees::{Course, SMALLEST, append, goes_anew, has};
@@ -13,7 +14,7 @@ fn take_first(alloc: Global, tree: &mut Tree<Digit>, kind: StepKind) -> StepRepl
     take(alloc, tree, kind, 0)
 }
 
-/// Whether steps of these kinds at the root's first slot are all answered so.
+/// Whether steps of these kinds at the root's first slot all have this reply.
 fn are_answered(
     alloc: Global,
     tree: &mut Tree<Digit>,
@@ -53,7 +54,7 @@ fn new_tree_has_no_step_to_do(rt: HostRuntime) {
     assert!(rt; goes_anew(rt.alloc(), SMALLEST, &NoStep));
 }
 
-/// Whether a tree has at each of the five keys the key's number; or nothing at any.
+/// Whether a tree has at each of the five keys the key's number; or no value at any.
 fn has_five(alloc: Global, tree: &Tree<Digit>, are_there: bool) -> bool {
     for name in *b"abcde" {
         let wanted = if are_there { Some(name as u64) } else { None };
@@ -64,7 +65,7 @@ fn has_five(alloc: Global, tree: &Tree<Digit>, are_there: bool) -> bool {
     true
 }
 
-/// Puts five keys of one byte, or deletes them, by a message each.
+/// Puts five keys of one byte, or deletes them, with a message each.
 fn send_five(alloc: Global, tree: &mut Tree<Digit>, is_put: bool) -> bool {
     for name in *b"abcde" {
         let message = if is_put {
@@ -79,7 +80,7 @@ fn send_five(alloc: Global, tree: &mut Tree<Digit>, is_put: bool) -> bool {
     true
 }
 
-/// Does as many steps of the heaviest slot as there are messages; whether none is left to do.
+/// Does as many steps of the heaviest slot as there are messages; returns whether none is left to do.
 fn sink(alloc: Global, tree: &mut Tree<Digit>) -> bool {
     for _ in 0..5 {
         relieve_heaviest(alloc, tree);
@@ -87,7 +88,8 @@ fn sink(alloc: Global, tree: &mut Tree<Digit>) -> bool {
     heaviest(tree).is_none()
 }
 
-/// Sinks five messages; whether no step is left to do, and the five keys have their values before each step and after the last.
+/// Flushes five messages; returns whether no step is left to do, and the five keys have their values before each step and after
+/// the last.
 fn sink_unseen(alloc: Global, tree: &mut Tree<Digit>) -> bool {
     for _ in 0..5 {
         if !has_five(alloc, tree, true) {
@@ -108,13 +110,13 @@ fn is_first_heaviest(tree: &Tree<Digit>) -> bool {
     }
 }
 
-/// Whether five entries lie in two slots or more, and nothing is pending.
+/// Whether five entries are in two slots or more, and nothing is pending.
 fn holds_five(tree: &Tree<Digit>) -> bool {
     let report = tree.shape_report();
     report.entries == 5 && report.pending == 0 && report.slots >= 2
 }
 
-/// Five keys of a new tree sink into two leaves.
+/// Five keys of a new tree are flushed into two leaves.
 struct Sinking;
 
 impl Course for Sinking {
@@ -148,7 +150,7 @@ fn goes_up_and_down(alloc: Global, tree: &mut Tree<Digit>) -> bool {
     true
 }
 
-/// A tree whose five keys have sunk goes up and down, and no value changes.
+/// The height of a tree whose five keys were flushed is raised and lowered, and no value changes.
 struct UpAndDown;
 
 impl Course for UpAndDown {
@@ -162,7 +164,7 @@ fn root_goes_up_and_down_again(rt: HostRuntime) {
     assert!(rt; goes_anew(rt.alloc(), SMALLEST, &UpAndDown));
 }
 
-/// Whether the leaves become one by as many merges as there are slots but one, and by no more.
+/// Whether the leaves are merged into one by one merge less than there are slots, and not by more.
 fn merge_all(alloc: Global, tree: &mut Tree<Digit>) -> bool {
     for _ in 1..tree.shape_report().slots {
         if take_first(alloc, tree, StepKind::MergeLeaves) != StepReply::Did(0) {
@@ -173,7 +175,7 @@ fn merge_all(alloc: Global, tree: &mut Tree<Digit>) -> bool {
         && take_first(alloc, tree, StepKind::MergeLeaves) == StepReply::NotThere
 }
 
-/// The leaves of a tree whose five keys have sunk and gone become one.
+/// The leaves of a tree whose five keys were flushed and deleted are merged.
 struct Leaving;
 
 impl Course for Leaving {
@@ -192,7 +194,8 @@ fn empty_leaves_become_one(rt: HostRuntime) {
     assert!(rt; goes_anew(rt.alloc(), SMALLEST, &Leaving));
 }
 
-/// How many changes, with a step after each, searches find what the row has after, before the first that they do not.
+/// The number of changes, each followed by a step, after which scans find what the array has, before the first that
+/// fails.
 fn count_found(alloc: Global, pair: &mut Pair) -> u32 {
     let mut random = Random(3);
     let mut done = Done::new();
@@ -207,7 +210,7 @@ fn count_found(alloc: Global, pair: &mut Pair) -> u32 {
     10_000
 }
 
-/// What a tree beside a row is taken through.
+/// A test of a tree with its reference array.
 #[derive(Clone, Copy)]
 enum Way {
     Found,
@@ -215,7 +218,7 @@ enum Way {
     Kept,
 }
 
-/// How many rounds of the way come out as they should, before the first that does not.
+/// The number of rounds of the test that pass, before the first that fails.
 fn count(alloc: Global, pair: &mut Pair, way: Way) -> u32 {
     match way {
         Way::Found => count_found(alloc, pair),
@@ -224,7 +227,7 @@ fn count(alloc: Global, pair: &mut Pair, way: Way) -> u32 {
     }
 }
 
-/// How many rounds of the way come out as they should with a new tree and a new row, before the first that does not.
+/// The number of rounds of the test that pass with a new tree and a new array, before the first that fails.
 fn count_anew(alloc: Global, way: Way) -> u32 {
     match Pair::new(alloc) {
         Ok(mut pair) => count(alloc, &mut pair, way),
@@ -237,7 +240,7 @@ fn searches_find_the_pairs_of_the_row(rt: HostRuntime) {
     assert_eq!(rt; count_anew(rt.alloc(), Way::Found), 10_000);
 }
 
-/// Whether a tree and a row agree at some key after a change and three steps.
+/// Whether a tree and an array agree at some key after a change and three steps.
 fn agrees_after_steps(
     alloc: Global,
     random: &mut Random,
@@ -255,8 +258,8 @@ fn agrees_after_steps(
     pair.agrees_at(alloc, random.byte())
 }
 
-/// After how many rounds of changes and steps they agree, before the first after which they do not; none where they do not agree at
-/// each key at the end, or too few steps of some kind were done.
+/// The number of rounds of changes and steps after which they agree, before the first after which they do not; `None` if they do
+/// not agree at each key at the end, or too few steps of some kind were done.
 fn count_alike(alloc: Global, pair: &mut Pair) -> u32 {
     let mut random = Random(11);
     let mut done = Done::new();
@@ -277,7 +280,7 @@ fn no_step_changes_a_value(rt: HostRuntime) {
     assert_eq!(rt; count_anew(rt.alloc(), Way::Alike), 20_000);
 }
 
-/// Keeps a share of a tree beside the row that it means now.
+/// Stores a share of a tree with a copy of its array.
 fn keep(kept: &mut Vec<Pair>, pair: &Pair) -> bool {
     match pair.share() {
         Ok(pair) => kept.push(pair).is_ok(),
@@ -285,7 +288,7 @@ fn keep(kept: &mut Vec<Pair>, pair: &Pair) -> bool {
     }
 }
 
-/// Changes a tree, with a step after each change, and keeps a share at each hundredth.
+/// Changes a tree, with a step after each change, and stores a share after each hundredth.
 fn change_and_keep(alloc: Global, pair: &mut Pair, kept: &mut Vec<Pair>) -> bool {
     let mut random = Random(23);
     let mut done = Done::new();
@@ -300,7 +303,7 @@ fn change_and_keep(alloc: Global, pair: &mut Pair, kept: &mut Vec<Pair>) -> bool
     true
 }
 
-/// How many of the shares mean what they meant.
+/// How many of the shares still agree with their arrays.
 fn count_unchanged(alloc: Global, kept: &[Pair]) -> u32 {
     let mut count = 0u32;
     for old in kept {
@@ -311,7 +314,7 @@ fn count_unchanged(alloc: Global, kept: &[Pair]) -> u32 {
     count
 }
 
-/// How many of the shares of a tree mean what they meant, once it has changed.
+/// How many of the shares of a tree still agree with their arrays after the tree has changed.
 fn count_kept(alloc: Global, pair: &mut Pair) -> u32 {
     let mut kept = Vec::new(alloc);
     if !change_and_keep(alloc, pair, &mut kept) {
