@@ -1,4 +1,4 @@
-//! How often listings and reads ask the tree: never for what lies below a name, and once a block.
+//! Tests of the number of look-ups in listings and reads: none for what is below a listed name, and one for each block.
 use crate::blocks::{self, Course, goes_anew};
 use crate::metadata::{Asked, asks, put};
 use block_index::BlockIndex;
@@ -36,10 +36,10 @@ fn fill(alloc: Global, index: &mut MetaIndex) -> bool {
         && put(alloc, index, "/b", Meta::Dir { modified: 0 })
 }
 
-/// What stands in the root: two names, for which the tree is walked three times at most, for 36 pairs.
+/// The entries of the root: two names, for which the tree is walked at most three times, for 36 pairs.
 const BOTH: Asked = Asked::Listed(&[(Kind::Dir, "a"), (Kind::Dir, "b")], 3, 36);
 
-/// Whether listings of an index with 2,000 files in one directory pass them all at once.
+/// Whether listings of an index with 2,000 files in one directory skip them all at once.
 fn passes(alloc: Global, index: &mut MetaIndex) -> bool {
     fill(alloc, index)
         && asks(alloc, index, "/", BOTH)
@@ -47,7 +47,7 @@ fn passes(alloc: Global, index: &mut MetaIndex) -> bool {
         && asks(alloc, index, "/b", Asked::Told(true, 1))
 }
 
-/// Whether listings of a new index with 2,000 files in one directory pass them all at once.
+/// Whether listings of a new index with 2,000 files in one directory skip them all at once.
 fn passes_anew(alloc: Global) -> bool {
     match MetaIndex::new(alloc, SHAPE) {
         Ok(mut index) => passes(alloc, &mut index),
@@ -78,7 +78,7 @@ fn end_with_one(bytes: &[u8], zeros: usize) -> bool {
     }
 }
 
-/// Whether so many look-ups read 1,048,576 bytes from the second on, and they are zeros and then a byte 1.
+/// Whether that many look-ups read 1,048,576 bytes from the second on, and they are zeros and then a byte 1.
 fn reads_in(alloc: Global, index: &BlockIndex, file: &Path, wanted: u64) -> bool {
     if file.is_root() {
         return false;
@@ -90,7 +90,7 @@ fn reads_in(alloc: Global, index: &BlockIndex, file: &Path, wanted: u64) -> bool
     }
 }
 
-/// A file of 1,048,577 bytes, of which the last alone is 1, is read by one look-up a block.
+/// A file of 1,048,577 bytes, of which only the last is 1, is read by one look-up for each block.
 struct Reading;
 
 impl Course for Reading {

@@ -1,4 +1,4 @@
-//! Pending lists of blocks that condense: updates of one block are one message.
+//! Tests of pending lists of blocks: updates of one block are condensed into one message.
 
 use crate::blocks::Laid;
 use crate::metadata::key_of;
@@ -9,7 +9,7 @@ use pending::Pending;
 use std::alloc::Global;
 use test_support::{Holds, all_hold};
 
-/// The message of an update at a key; none where memory is refused.
+/// The message of an update at a key; `None` if an allocation fails.
 fn edit(alloc: Global, key: &Key, update: BlockUpdate) -> Option<Msg<BlockUpdate>> {
     match key.copy(alloc) {
         Ok(key) => Some(Msg::Edit(key, update)),
@@ -17,7 +17,7 @@ fn edit(alloc: Global, key: &Key, update: BlockUpdate) -> Option<Msg<BlockUpdate
     }
 }
 
-/// The message of a row's update at a key; none where memory is refused.
+/// The message of a row's update at a key; `None` if an allocation fails.
 fn message(alloc: Global, key: &Key, row: Laid) -> Option<Msg<BlockUpdate>> {
     match row.update(alloc) {
         Some(update) => edit(alloc, key, update),
@@ -25,7 +25,7 @@ fn message(alloc: Global, key: &Key, row: Laid) -> Option<Msg<BlockUpdate>> {
     }
 }
 
-/// Adds an update at a key to a list, and gives how many messages wait then; none where memory is refused.
+/// Appends an update at a key to a list, and returns how many messages are pending then; `None` if an allocation fails.
 fn push(alloc: Global, list: &mut Pending<BlockUpdate>, key: &Key, row: Laid) -> Option<usize> {
     if list.reserve(1).is_err() {
         return None;
@@ -39,7 +39,7 @@ fn push(alloc: Global, list: &mut Pending<BlockUpdate>, key: &Key, row: Laid) ->
     }
 }
 
-/// Whether one message waits after each update of the rows.
+/// Whether one message is pending after each update of the rows.
 fn push_all(alloc: Global, list: &mut Pending<BlockUpdate>, key: &Key, rows: &[Laid]) -> bool {
     for row in rows {
         if push(alloc, list, key, *row) != Some(1) {
@@ -49,7 +49,7 @@ fn push_all(alloc: Global, list: &mut Pending<BlockUpdate>, key: &Key, rows: &[L
     true
 }
 
-/// Whether a list makes these bytes of an absent block.
+/// Whether a list gives these bytes for an absent block.
 fn makes(alloc: Global, list: &Pending<BlockUpdate>, key: &Key, wanted: &[u8]) -> bool {
     match list.value_after(alloc, key, None) {
         Ok(Some(block)) => block.as_slice() == wanted,
@@ -63,7 +63,7 @@ fn update(alloc: Global, key: &Key, rows: &[Laid], wanted: &[u8]) -> bool {
     push_all(alloc, &mut list, key, rows) && makes(alloc, &list, key, wanted)
 }
 
-/// Updates of one block, and the bytes that they make of none.
+/// Updates of one block, and the bytes that they give for an absent one.
 struct Updates(&'static [Laid], &'static [u8]);
 
 impl Holds for Updates {
@@ -129,7 +129,8 @@ fn one_message_waits_for_a_block(rt: HostRuntime) -> Result<(), usize> {
     all_hold(rt.alloc(), UPDATES)
 }
 
-/// How many messages wait behind so many patches of one byte, of which no two touch; none where memory is refused.
+/// The number of pending messages after that many patches of one byte, of which no two touch; `None` if an allocation
+/// fails.
 fn waiting(alloc: Global, key: &Key, count: u8) -> Option<usize> {
     let mut list = Pending::new(alloc);
     let mut waiting = Some(0);
@@ -139,7 +140,7 @@ fn waiting(alloc: Global, key: &Key, count: u8) -> Option<usize> {
     waiting
 }
 
-/// So many patches of one byte, and the messages that they are: a message has at most 128.
+/// A number of patches of one byte, and the number of messages that they become: a message has at most 128.
 struct Counted(u8, usize);
 
 impl Holds for Counted {

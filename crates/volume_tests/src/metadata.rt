@@ -1,4 +1,4 @@
-//! What an index answers, by rows of paths, beside the directory tree that the rows name.
+//! Tests of the metadata index, in tables of paths, against the directory tree that the rows name.
 
 use message::Msg;
 use meta_index::{At, Kind, Meta, MetaIndex, MetaUpdate};
@@ -22,7 +22,7 @@ fn nothing(alloc: Global) -> Result<MetaIndex, NoMemory> {
     })
 }
 
-/// The key of a text's path; none where the text is no path, or memory is refused.
+/// The key of a text's path; `None` if the text is not a path, or an allocation fails.
 pub fn key_of(alloc: Global, text: &str) -> Option<Key> {
     match path(alloc, text) {
         Ok(path) => path.key().copy(alloc).ok(),
@@ -30,7 +30,7 @@ pub fn key_of(alloc: Global, text: &str) -> Option<Key> {
     }
 }
 
-/// Appends a message to an index; `false` where memory is refused.
+/// Appends a message to an index; `false` if an allocation fails.
 fn append(alloc: Global, index: &mut MetaIndex, msg: Msg<MetaUpdate>) -> bool {
     let mut msgs = Vec::new(alloc);
     msgs.push(msg).is_ok() && index.tree.append(alloc, msgs).is_ok()
@@ -98,7 +98,7 @@ fn fill(alloc: Global, index: &mut MetaIndex) -> bool {
     true
 }
 
-/// An index of these entries; none where memory is refused.
+/// An index of these entries; `None` if an allocation fails.
 fn sample(alloc: Global) -> Option<MetaIndex> {
     let mut index = nothing(alloc).ok()?;
     if fill(alloc, &mut index) {
@@ -108,7 +108,8 @@ fn sample(alloc: Global) -> Option<MetaIndex> {
     }
 }
 
-/// What stands at a path. It ensures nothing, so that no proof of a test reads what an index means; nor do the next.
+/// The entry at a path. It has no postcondition, so that the proofs of the tests do not unfold what an index is; nor
+/// does the next function.
 fn find(alloc: Global, index: &MetaIndex, path: &Path) -> Option<At> {
     index.find(alloc, path).ok()
 }
@@ -121,7 +122,7 @@ fn has_fault(alloc: Global, index: &MetaIndex, path: &Path, wanted: Option<Errno
     }
 }
 
-/// What an index finds, in one line of a table: the length of a file, and the moment of last change.
+/// The entry that an index finds, in one line of a table: the length of a file, and the mtime.
 #[derive(Clone, Copy)]
 enum Stands {
     File(u64, u64),
@@ -139,7 +140,7 @@ impl Stands {
     }
 }
 
-/// A path, an update of the entry there, and what then stands there.
+/// A path, an update of the entry there, and the entry there then.
 const UPDATES: &[(&str, MetaUpdate, Stands)] = &[
     ("/f", MetaUpdate::Grow(3, 9), Stands::File(5, 9)),
     ("/f", MetaUpdate::Grow(7, 4), Stands::File(7, 4)),
@@ -154,7 +155,7 @@ const UPDATES: &[(&str, MetaUpdate, Stands)] = &[
     ("/c", MetaUpdate::Touch(2), Stands::Nothing),
 ];
 
-/// Whether all updates come to what their rows say; the number of the first that does not.
+/// Whether all updates give what their rows say; otherwise the index of the first that does not.
 fn updated_so(alloc: Global, index: &mut MetaIndex) -> Result<(), usize> {
     let mut number = 0usize;
     for (text, update, wanted) in UPDATES {
@@ -168,7 +169,7 @@ fn updated_so(alloc: Global, index: &mut MetaIndex) -> Result<(), usize> {
     Ok(())
 }
 
-/// Whether all updates of the sample come to what their rows say; the number of the first that does not.
+/// Whether all updates of the sample give what their rows say; otherwise the index of the first that does not.
 fn updated_in_sample(alloc: Global) -> Result<(), usize> {
     match sample(alloc) {
         Some(mut index) => updated_so(alloc, &mut index),
@@ -181,7 +182,7 @@ fn lengths_and_moments_are_set(rt: HostRuntime) -> Result<(), usize> {
     updated_in_sample(rt.alloc())
 }
 
-/// Two updates, and the one that they are, if they are one.
+/// Two updates, and their join, if they join.
 struct Joined(MetaUpdate, MetaUpdate, Option<MetaUpdate>);
 
 impl Holds for Joined {
@@ -190,7 +191,7 @@ impl Holds for Joined {
     }
 }
 
-/// The moment is that of the later update, even where it is the smaller one.
+/// the mtime is that of the later update, even if it is the smaller one
 const JOINED: &[Joined] = &[
     Joined(
         MetaUpdate::SetLen(3, 9),
@@ -228,7 +229,7 @@ fn two_updates_are_one_where_they_join(rt: HostRuntime) -> Result<(), usize> {
     all_hold(rt.alloc(), JOINED)
 }
 
-/// Whether nothing lies below a path.
+/// Whether nothing is below a path.
 fn is_empty_at(alloc: Global, index: &MetaIndex, path: &Path) -> Option<bool> {
     index.is_empty_dir(alloc, path).ok()
 }
@@ -262,7 +263,7 @@ fn has_names(alloc: Global, index: &MetaIndex, path: &Path, wanted: &[Name]) -> 
     }
 }
 
-/// Whether the entries of the directory at a path are these, and are listed by so many walks of the tree at most.
+/// Whether the entries of the directory at a path are these, and are listed by at most that many walks of the tree.
 fn is_walked(alloc: Global, index: &MetaIndex, path: &Path, names: &[Name], most: u64) -> bool {
     let mut searches = 0;
     match index.children_counted(alloc, path, &mut searches) {
@@ -271,7 +272,7 @@ fn is_walked(alloc: Global, index: &MetaIndex, path: &Path, names: &[Name], most
     }
 }
 
-/// Whether they are listed by walks that ask for so many pairs at most.
+/// Whether they are listed by walks that request at most that many pairs.
 fn is_measured(alloc: Global, index: &MetaIndex, path: &Path, names: &[Name], most: u64) -> bool {
     let mut walks = 0;
     let mut pairs = 0;
@@ -281,7 +282,7 @@ fn is_measured(alloc: Global, index: &MetaIndex, path: &Path, names: &[Name], mo
     }
 }
 
-/// Whether so many searches tell that nothing lies below a path, or that something does.
+/// Whether that many searches find that nothing is below a path, or that something is.
 fn is_reported(alloc: Global, index: &MetaIndex, path: &Path, empty: bool, wanted: u64) -> bool {
     let mut searches = 0;
     match index.is_empty_dir_counted(alloc, path, &mut searches) {
@@ -311,7 +312,7 @@ fn have_keys(alloc: Global, pairs: &[(Key, Meta)], wanted: &[&str]) -> bool {
     true
 }
 
-/// The first pairs of a subtree, of which at most so many are asked for; behind a key, where one is given.
+/// The first pairs of a subtree, at most that many; those after a key, if one is given.
 fn pairs_of(
     alloc: Global,
     index: &MetaIndex,
@@ -344,24 +345,24 @@ fn holds(
     }
 }
 
-/// What is asked of the sample about a path, and what is answered.
+/// A request to the sample about a path, and its result.
 #[derive(Clone, Copy)]
 pub enum Asked {
-    /// What stands there.
+    /// The entry there.
     Find(At),
     /// The fault of its parent.
     Fault(Option<Errno>),
-    /// Whether nothing lies below.
+    /// Whether nothing is below.
     Empty(bool),
     /// The entries of the directory.
     Names(&'static [Name]),
-    /// The entries of the directory, and how many walks of the tree list them at most, and how many pairs these ask for.
+    /// The entries of the directory, and how many walks of the tree list them at most, and how many pairs these request.
     Listed(&'static [Name], u64, u64),
-    /// Whether nothing lies below, and how many searches tell.
+    /// Whether nothing is below, and how many searches find that.
     Told(bool, u64),
-    /// So many pairs of its subtree, and the paths of those that come.
+    /// That many pairs of its subtree, and the paths of the result.
     Below(usize, &'static [&'static str]),
-    /// So many pairs of its subtree behind the key of a path, and the paths of those that come.
+    /// That many pairs of its subtree after the key of a path, and the paths of the result.
     Behind(&'static str, usize, &'static [&'static str]),
 }
 
@@ -390,7 +391,7 @@ const FOUND: &[(&str, Asked)] = &[
     ("/a/x/y/z", Asked::Find(At::Blocked)),
 ];
 
-/// A new entry wants a directory above.
+/// A new entry needs a parent directory.
 const FAULTS: &[(&str, Asked)] = &[
     ("/", Asked::Fault(None)),
     ("/c", Asked::Fault(None)),
@@ -402,7 +403,7 @@ const FAULTS: &[(&str, Asked)] = &[
     ("/a/x/y/z", Asked::Fault(Some(Errno::ENOTDIR))),
 ];
 
-/// A directory is empty where nothing lies below.
+/// A directory is empty if nothing is below it.
 const EMPTY: &[(&str, Asked)] = &[
     ("/", Asked::Empty(false)),
     ("/a", Asked::Empty(false)),
@@ -430,7 +431,7 @@ const LISTINGS: &[(&str, Asked)] = &[
     ("/c", Asked::Names(&[])),
 ];
 
-/// The pairs of a subtree stand in the order of their keys.
+/// The pairs of a subtree are in the order of their keys.
 const SUBTREE: &[(&str, Asked)] = &[
     ("/a", Asked::Below(0, &[])),
     ("/a", Asked::Below(1, &["/a"])),
@@ -442,7 +443,7 @@ const SUBTREE: &[(&str, Asked)] = &[
     ),
 ];
 
-/// A subtree goes on behind each of its keys.
+/// A subtree continues after each of its keys.
 const BEHIND: &[(&str, Asked)] = &[
     ("/a", Asked::Behind("/a", 2, &["/a/d", "/a/d/y"])),
     ("/a", Asked::Behind("/a/d", 9, &["/a/d/y", "/a/x"])),
@@ -462,7 +463,7 @@ const TABLES: &[(&str, &[(&str, Asked)])] = &[
     ("behind", BEHIND),
 ];
 
-/// Whether a subtree goes on so behind the key of a text's path.
+/// Whether a subtree continues as expected after the key of a text's path.
 fn goes_on(
     alloc: Global,
     index: &MetaIndex,
@@ -477,7 +478,7 @@ fn goes_on(
     }
 }
 
-/// Whether what is asked about a path is answered so.
+/// Whether the request about a path has this result.
 fn is_answered(alloc: Global, index: &MetaIndex, path: &Path, asked: Asked) -> bool {
     match asked {
         Asked::Find(at) => find(alloc, index, path) == Some(at),
@@ -496,7 +497,7 @@ fn is_answered(alloc: Global, index: &MetaIndex, path: &Path, asked: Asked) -> b
     }
 }
 
-/// Whether an index answers so at the path of a text.
+/// Whether the request to an index at the path of a text has this result.
 pub fn asks(alloc: Global, index: &MetaIndex, text: &str, asked: Asked) -> bool {
     match path(alloc, text) {
         Ok(path) => is_answered(alloc, index, &path, asked),
@@ -504,7 +505,7 @@ pub fn asks(alloc: Global, index: &MetaIndex, text: &str, asked: Asked) -> bool 
     }
 }
 
-/// Whether an index answers all rows as they say.
+/// Whether all rows pass in an index.
 fn asks_all(alloc: Global, index: &MetaIndex, rows: &[(&str, Asked)]) -> bool {
     for (text, asked) in rows {
         if !asks(alloc, index, text, *asked) {
@@ -514,7 +515,7 @@ fn asks_all(alloc: Global, index: &MetaIndex, rows: &[(&str, Asked)]) -> bool {
     true
 }
 
-/// Whether an index answers each table as it says; the name of the first that is answered otherwise.
+/// Whether all tables pass in an index; otherwise the name of the first that fails.
 fn asks_tables(alloc: Global, index: &MetaIndex) -> Result<(), &'static str> {
     for (name, rows) in TABLES {
         if !asks_all(alloc, index, rows) {
@@ -524,7 +525,7 @@ fn asks_tables(alloc: Global, index: &MetaIndex) -> Result<(), &'static str> {
     Ok(())
 }
 
-/// Whether a sample made here answers each table as it says; the name of the first that is answered otherwise.
+/// Whether all tables pass in a sample created here; otherwise the name of the first that fails.
 fn asks_sample(alloc: Global) -> Result<(), &'static str> {
     match sample(alloc) {
         Some(index) => asks_tables(alloc, &index),
