@@ -1,4 +1,4 @@
-//! Bodies told as lines of a script, against lines that were written by hand.
+//! Tests of printing bodies as lines of a script, against lines that were written by hand.
 use crate::log_by_hand::{FIRST_BODY, SECOND_BODY, THIRD_BODY};
 use pathkey::Errno;
 use std::alloc::Global;
@@ -9,12 +9,12 @@ use wal::encode::{
 };
 use wal::{PathCall, SnapshotCall, wal_dump};
 
-/// The lines of a body. It ensures nothing, so that no proof of a test reads what they mean.
+/// The lines of a body. It has no postcondition, so that the proofs of the tests do not unfold what they mean.
 fn lines(alloc: Global, body: &[u8]) -> Result<Vec<u8>, Errno> {
     wal_dump(alloc, body)
 }
 
-/// Whether a body is told by these lines.
+/// Whether a body is printed as these lines.
 fn is_reported(alloc: Global, body: &[u8], want: &[u8]) -> bool {
     match lines(alloc, body) {
         Ok(text) => text.as_slice() == want,
@@ -22,7 +22,7 @@ fn is_reported(alloc: Global, body: &[u8], want: &[u8]) -> bool {
     }
 }
 
-/// Whether a change that was laid is told by these lines.
+/// Whether an encoded change is printed as these lines.
 fn is_laid_reported(alloc: Global, laid: Result<usize, Errno>, room: &[u8], want: &[u8]) -> bool {
     match laid {
         Ok(size) => size <= room.len() && is_reported(alloc, &room[..size], want),
@@ -30,7 +30,7 @@ fn is_laid_reported(alloc: Global, laid: Result<usize, Errno>, room: &[u8], want
     }
 }
 
-/// Why a body is not told, if it is not.
+/// The error of printing a body, if it fails.
 fn fault_of(alloc: Global, body: &[u8]) -> Option<Errno> {
     match lines(alloc, body) {
         Ok(_) => None,
@@ -38,7 +38,7 @@ fn fault_of(alloc: Global, body: &[u8]) -> Option<Errno> {
     }
 }
 
-/// Why a body that was laid is not told, if it is not.
+/// The error of printing an encoded body, if it fails.
 fn fault_of_laid(alloc: Global, laid: Result<usize, Errno>, room: &[u8]) -> Option<Errno> {
     match laid {
         Ok(size) if size <= room.len() => fault_of(alloc, &room[..size]),
@@ -86,12 +86,13 @@ fn each_change_reported(rt: HostRuntime) -> Result<(), Fail> {
     Ok(())
 }
 
-/// Lays the write of bytes at the moment 2. It ensures nothing, so that no proof of a test reads what is laid.
+/// Encodes the write of bytes at timestamp 2. It has no postcondition, so that the proofs of the tests do not unfold
+/// the encoding.
 fn lay(alloc: Global, path: &[u8], offset: u64, bytes: &[u8], room: &mut [u8]) -> Option<usize> {
     encode_write(alloc, path, offset, bytes, 2, room).ok()
 }
 
-/// Lays such a write of so many zeros at the offset 3.
+/// Encodes such a write of that many zeros at the offset 3.
 fn lay_zeros(alloc: Global, count: usize, room: &mut [u8]) -> Option<usize> {
     match Vec::from_elem(alloc, 0u8, count) {
         Ok(bytes) => lay(alloc, b"/a", 3, bytes.as_slice(), room),
@@ -99,7 +100,7 @@ fn lay_zeros(alloc: Global, count: usize, room: &mut [u8]) -> Option<usize> {
     }
 }
 
-/// The body of a write of so many zeros.
+/// The body of a write of that many zeros.
 fn long_body(alloc: Global, count: usize) -> Option<Vec<u8>> {
     let Ok(mut body) = Vec::from_elem(alloc, 0u8, count.saturating_add(64)) else {
         return None;
@@ -113,7 +114,7 @@ fn long_body(alloc: Global, count: usize) -> Option<Vec<u8>> {
     }
 }
 
-/// The text without its zeros, or nothing.
+/// The printed text without its zeros, or nothing.
 fn shown(alloc: Global, count: usize) -> Option<Vec<u8>> {
     let body = long_body(alloc, count)?;
     let Ok(mut text) = lines(alloc, body.as_slice()) else {
