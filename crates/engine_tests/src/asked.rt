@@ -1,4 +1,4 @@
-//! What is asked of a client, as a table can hold it.
+//! Requests to a client in a form that constant tables can contain.
 
 use engine::{Client, EngineBuilder, EngineId};
 use node::Shape;
@@ -16,13 +16,13 @@ pub const SMALL: Shape = Shape {
     leaf: 4,
 };
 
-/// A room with a new volume.
+/// An engine builder with a new volume.
 pub fn new_room(alloc: Global, shape: Shape) -> Option<EngineBuilder> {
     let volume = Volume::new(alloc, shape).ok()?;
     EngineBuilder::new(alloc, volume).ok()
 }
 
-/// The reply to a call, and whether it is this one.
+/// Whether this is the reply to a call.
 fn replies<J: EngineId, R: Wait>(
     rt: &R,
     alloc: Global,
@@ -39,7 +39,7 @@ pub fn is(told: ExpectedReply<'_>, reply: &Reply) -> bool {
     told.is(reply)
 }
 
-/// Whether a call of the client is answered so.
+/// Whether a call of the client has this reply.
 pub fn answers<J: EngineId, R: Wait>(
     rt: &R,
     alloc: Global,
@@ -58,7 +58,7 @@ pub fn call_of(alloc: Global, ask: SampleCall<'_>) -> Option<Call> {
     ask.call(alloc).ok()
 }
 
-/// The name of a text.
+/// The name with a text.
 pub fn name_of(alloc: Global, text: &str) -> Option<SnapName> {
     SnapName::parse(alloc, text.as_bytes()).ok()
 }
