@@ -1,8 +1,8 @@
-//! Command lines, and what they ask for.
+//! Tests of command lines, and the options that they set.
 use shell::{Options, read_words};
 use std::alloc::Global;
 
-/// A command line and what it asks for.
+/// A command line and its options.
 struct Row {
     words: &'static [&'static str],
     /// Flushers, steps, fanout, pending and leaf.
@@ -99,12 +99,13 @@ const TAKEN: &[Row] = &[
     },
 ];
 
-/// Reads a command line. It ensures nothing, so that no proof of a test reads what a command line means.
+/// Parses a command line. It has no postcondition, so that the proofs of the tests do not unfold what a command line
+/// means.
 fn read<'a>(alloc: Global, words: &'a [&'a str]) -> Option<Options<'a>> {
     read_words(alloc, words).ok()
 }
 
-/// The numbers of what a command line asks for.
+/// The numbers of the options.
 fn numbers_of(asked: &Options<'_>) -> [u16; 5] {
     [
         u16::from(asked.flushers),
@@ -115,7 +116,7 @@ fn numbers_of(asked: &Options<'_>) -> [u16; 5] {
     ]
 }
 
-/// Whether the command line asks for what the row says.
+/// Whether the command line sets the options of the row.
 fn is_taken(alloc: Global, row: &Row) -> bool {
     match read(alloc, row.words) {
         Some(asked) => {

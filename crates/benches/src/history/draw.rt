@@ -1,35 +1,36 @@
-//! Which calls a client makes: numbers that look random choose them.
+//! Chooses the calls of a client, by pseudo-random numbers.
 use crate::history::call::{Asked, PathAsked};
 use crate::history::names::{AREAS, DIRECTORIES, FIRST_OFFSET, PLACES, ROOT, SNAPSHOTS};
 use test_support::Random;
 
-/// How many areas have half of the calls, so that clients often meet in one.
+/// The number of areas that have half of the calls, so that clients often use the same one.
 const BUSY: u32 = 4;
 
-/// How many offsets there are for a write, and how far apart these are. A mark is longer than that, so neighbours overlap, and two of
-/// them lie over the end of a block.
+/// The number of offsets of a write; they are 4 bytes apart. A mark is longer than that, so neighbours overlap, and two of them cross
+/// the end of a block.
 const OFFSETS: u32 = 5;
 
 const OFFSETS_APART: u64 = 5;
 
-/// How many lengths there are for a truncate beside 0, and how far apart these are.
+/// The number of lengths of a truncate besides 0, and the distance between them.
 const LENGTHS: u32 = 11;
 
 const LENGTHS_APART: u64 = 3;
 
-/// After how many calls a client rests, at an average.
+/// The average number of calls after which a client sleeps.
 const REST_AFTER: u32 = 4;
 
-/// Above this in a mark stands the client's number and one.
+/// The client's number plus one is above this in a mark.
 const CLIENT: u64 = 1 << 32;
 
-/// What chooses the calls of a client.
+/// The generator of a client's calls.
 #[derive(Drop)]
 pub struct Draw {
     random: Random,
     client: u64,
     marks: u64,
-    /// What comes next by itself: a look at a snapshot that was kept, a scan of a tree that was restored, a look at what was changed.
+    /// The next call, if it follows from the last: a read of a snapshot that was taken, a scan of a tree that was restored, a read of
+    /// what was changed.
     then: Option<Asked>,
 }
 
@@ -62,18 +63,18 @@ impl Draw {
         (self.random.below(areas) as usize).wrapping_mul(PLACES)
     }
 
-    /// A place in an area that mostly has a directory.
+    /// The number of a path in an area at which there is mostly a directory.
     fn directory(&mut self) -> usize {
         self.random.below(DIRECTORIES) as usize
     }
 
-    /// A place in an area that mostly has a file.
+    /// The number of a path in an area at which there is mostly a file.
     fn leaf(&mut self) -> usize {
         let leaves = (PLACES as u32).wrapping_sub(DIRECTORIES);
         (self.random.below(leaves) as usize).wrapping_add(DIRECTORIES as usize)
     }
 
-    /// The path of a directory, seldom of a leaf.
+    /// The path of a directory, rarely of a leaf.
     fn directory_path(&mut self) -> usize {
         let place = if self.random.below(8) == 0 {
             self.leaf()
@@ -83,7 +84,7 @@ impl Draw {
         self.area().wrapping_add(place)
     }
 
-    /// The path of a leaf, seldom of a directory.
+    /// The path of a leaf, rarely of a directory.
     fn leaf_path(&mut self) -> usize {
         let place = if self.random.below(16) == 0 {
             self.directory()
@@ -102,8 +103,8 @@ impl Draw {
         }
     }
 
-    /// Two places of one area. What is moved never comes to stand where its entries would have no place: a leaf has none, and
-    /// the directories 1 and 2 have the same. The first of all is never moved, since the other place is below it.
+    /// Two paths of one area for a rename. Nothing is renamed to a path that has fewer places below it: a leaf has none, and
+    /// the directories 1 and 2 have the same. The first of all is never renamed, since the other path is below it.
     fn moved(&mut self) -> (usize, usize) {
         match self.random.below(16) {
             0..=8 => (self.leaf(), self.leaf()),
@@ -114,7 +115,7 @@ impl Draw {
         }
     }
 
-    /// A move within one area.
+    /// A rename within one area.
     fn rename(&mut self) -> PathAsked {
         let area = self.area();
         let (from, to) = self.moved();
@@ -133,7 +134,7 @@ impl Draw {
         self.patch(path)
     }
 
-    /// A truncate, in one of four to nothing.
+    /// A truncate, one in four of them to length 0.
     fn truncate(&mut self) -> PathAsked {
         let path = self.leaf_path();
         if self.random.below(4) == 0 {
@@ -148,7 +149,7 @@ impl Draw {
         self.random.below(SNAPSHOTS as u32) as usize
     }
 
-    /// Whether the client rests before its next call.
+    /// Whether the client sleeps before its next call.
     pub fn rests(&mut self) -> bool {
         self.random.below(REST_AFTER) == 0
     }
@@ -177,7 +178,7 @@ impl Draw {
         }
     }
 
-    /// A call that numbers choose.
+    /// A random call.
     fn chosen(&mut self) -> Asked {
         match self.random.below(1_000) {
             0..=489 => Asked::Path(self.look()),
@@ -190,7 +191,7 @@ impl Draw {
         }
     }
 
-    /// What may come behind a write: another patch of the file, or a look at it.
+    /// The call after a write: another patch of the file, or a read of it.
     fn behind_write(&mut self, path: usize) -> Option<Asked> {
         match self.random.below(8) {
             0..=1 => Some(Asked::Path(self.patch(path))),
@@ -200,7 +201,7 @@ impl Draw {
         }
     }
 
-    /// What may come behind another change of a path: a look at it.
+    /// The call after another change of a path: a read of it.
     fn behind_change(&mut self, path: usize) -> Option<Asked> {
         match self.random.below(4) {
             0 => Some(Asked::Path(PathAsked::Stat(path))),
@@ -208,7 +209,7 @@ impl Draw {
         }
     }
 
-    /// What comes behind a call on paths.
+    /// The call after a call on paths.
     fn behind_path_call(&mut self, asked: PathAsked) -> Option<Asked> {
         match asked {
             PathAsked::Write(path, _, _) => self.behind_write(path),
@@ -223,7 +224,7 @@ impl Draw {
         }
     }
 
-    /// The next call. Behind one that keeps or restores all paths comes one that sees all of them.
+    /// The next call. A call that takes or restores a snapshot is followed by one that reads all paths of it.
     pub fn next(&mut self) -> Asked {
         let asked = match self.then {
             Some(asked) => asked,

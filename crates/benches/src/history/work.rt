@@ -1,4 +1,4 @@
-//! A client makes calls, and logs each with what the clock says before it and once it is answered.
+//! Makes the calls of a client, and logs each with the clock before it and after it has returned.
 use crate::flushers::rest;
 use crate::history::call::{Asked, PathAsked};
 use crate::history::draw::Draw;
@@ -10,25 +10,25 @@ use std::sync::Wait;
 use std::sync::atomic::{AtomicU64, Ordering};
 use test_support::ask::SampleCall;
 
-/// How much work there is, and the clock.
+/// The size of the workload, and the clock.
 #[derive(Drop)]
 pub struct Course {
-    /// What chooses the calls.
+    /// The seed of the calls.
     pub seed: u32,
-    /// How many calls each client makes.
+    /// The number of calls of each client.
     pub calls: u64,
-    /// What was read of it, by all threads together.
+    /// How often all threads together have read the clock.
     pub clock: AtomicU64,
 }
 
 impl Course {
-    /// The clock: a number that no other call of this gets, greater than all that were got before.
+    /// The clock: a unique number, greater than all that were returned before.
     fn now(&self) -> u64 {
         self.clock.fetch_add(1, Ordering::SeqCst)
     }
 }
 
-/// The mark that a call writes; 0 where it writes none.
+/// The mark that a call writes; 0 if it writes none.
 fn mark_of(asked: PathAsked) -> u64 {
     match asked {
         PathAsked::Write(_, _, mark) => mark,
@@ -36,7 +36,7 @@ fn mark_of(asked: PathAsked) -> u64 {
     }
 }
 
-/// The call that is asked for, with the bytes of its mark.
+/// The call, with the bytes of its mark.
 fn sample<'a>(names: &'a Names, asked: PathAsked, mark: &'a [u8]) -> SampleCall<'a> {
     match asked {
         PathAsked::Mkdir(path) => SampleCall::Mkdir(names.text(path)),
@@ -53,7 +53,7 @@ fn sample<'a>(names: &'a Names, asked: PathAsked, mark: &'a [u8]) -> SampleCall<
     }
 }
 
-/// Makes a call on paths, at what the clock says before it. Whether there was memory to log it.
+/// Makes a call on paths that began at this time; `false` if logging it fails for lack of memory.
 fn make_on_paths<J: EngineId, R: Wait>(
     rt: &R,
     alloc: Global,
@@ -73,7 +73,7 @@ fn make_on_paths<J: EngineId, R: Wait>(
     }
 }
 
-/// Makes the call on paths that is asked for.
+/// Makes the call on paths.
 fn make_path_call<J: EngineId, R: Wait>(
     rt: &R,
     alloc: Global,
@@ -87,7 +87,7 @@ fn make_path_call<J: EngineId, R: Wait>(
     make_on_paths(rt, alloc, client, course, sample(names, asked, &mark), log)
 }
 
-/// A call on a snapshot that tells nothing back.
+/// Makes a snapshot call, which returns nothing.
 fn ask_snapshot<J: EngineId, R: Wait>(
     rt: &R,
     alloc: Global,
@@ -113,7 +113,7 @@ fn word_of(asked: Asked) -> (&'static str, usize) {
     }
 }
 
-/// What a call that tells nothing back is answered.
+/// The word for the result of a call that returns nothing.
 fn answer_of(told: Result<(), Errno>) -> &'static str {
     match told {
         Ok(()) => "ok",
@@ -121,7 +121,7 @@ fn answer_of(told: Result<(), Errno>) -> &'static str {
     }
 }
 
-/// Makes a call on a snapshot that tells nothing back. Whether there was memory to log it.
+/// Makes a snapshot call; `false` if logging it fails for lack of memory.
 fn make_on_snapshot<J: EngineId, R: Wait>(
     rt: &R,
     alloc: Global,
@@ -143,7 +143,7 @@ fn make_on_snapshot<J: EngineId, R: Wait>(
     }
 }
 
-/// Adds what more there is of a path: the bytes of a file, the entries of a directory.
+/// Adds the content of a path: the bytes of a file, the entries of a directory.
 fn put_content(log: &mut Log, alloc: Global, tree: &Frozen, path: &Path, kind: Kind) -> bool {
     let reply = match kind {
         Kind::Dir => tree.readdir(alloc, path),
@@ -152,7 +152,7 @@ fn put_content(log: &mut Log, alloc: Global, tree: &Frozen, path: &Path, kind: K
     log.put_more(&reply)
 }
 
-/// Adds what a tree that stands still has at the path of a number.
+/// Adds what a frozen tree has at the path with a number.
 fn put_seen(log: &mut Log, alloc: Global, tree: &Frozen, path: &Path, number: usize) -> bool {
     let reply = tree.stat(alloc, path);
     let is_put = log.put_place(number) && log.put_more(&reply);
@@ -162,7 +162,7 @@ fn put_seen(log: &mut Log, alloc: Global, tree: &Frozen, path: &Path, number: us
     }
 }
 
-/// Adds what a tree that stands still has at all paths.
+/// Adds what a frozen tree has at all paths.
 fn put_tree(log: &mut Log, alloc: Global, tree: &Frozen, paths: &[Path]) -> bool {
     let mut is_put = true;
     let mut number = 0usize;
@@ -173,7 +173,7 @@ fn put_tree(log: &mut Log, alloc: Global, tree: &Frozen, paths: &[Path]) -> bool
     is_put
 }
 
-/// The tree of the snapshot of a name, or the live tree where there is no name.
+/// The tree of the snapshot of a name, or the live tree if there is no name.
 fn tree_of<J: EngineId, R: Wait>(
     rt: &R,
     client: &mut Client<J>,
@@ -188,7 +188,8 @@ fn tree_of<J: EngineId, R: Wait>(
     }
 }
 
-/// Gets a tree, and looks at all its paths once the call has ended: it stands still. Whether there was memory to log it.
+/// Freezes a tree, and reads all its paths after the call has ended: it does not change. `false` if logging it fails for
+/// lack of memory.
 fn make_look<J: EngineId, R: Wait>(
     rt: &R,
     alloc: Global,
@@ -214,7 +215,7 @@ fn make_look<J: EngineId, R: Wait>(
     }
 }
 
-/// Makes a call. Whether there was memory to log it.
+/// Makes a call; `false` if logging it fails for lack of memory.
 fn make<J: EngineId, R: Wait>(
     rt: &R,
     alloc: Global,
@@ -231,7 +232,7 @@ fn make<J: EngineId, R: Wait>(
     }
 }
 
-/// Makes all calls, as long as there is memory to log them.
+/// Makes all calls, until logging fails for lack of memory.
 fn make_all<J: EngineId, R: Wait>(
     rt: &R,
     alloc: Global,
@@ -251,7 +252,8 @@ fn make_all<J: EngineId, R: Wait>(
     }
 }
 
-/// Makes all calls of the client of a number. What is not in the log was refused memory.
+/// Makes all calls of the client with a number. Calls that could not be logged for lack of memory are missing from the
+/// log.
 pub fn work<J: EngineId, R: Wait>(
     rt: &R,
     alloc: Global,
