@@ -48,7 +48,7 @@ read_none b off n len end items e f g h =
     let d : length (drop off b) ≡ length b - off = length-drop off b in
     ext_get_or 0 items (take n (drop off b)) (omega arith) (λ x y. absurd (omega arith))
 
--- a byte of what was put behind the others
+-- a byte of what was appended to the others
 pub appended_at : (old v : List ℕ) (from to stop begin whole : ℕ) (ext new : List ℕ) → from ≤ to → stop ≡ min to (length v) → begin ≡ min from stop → whole ≡ length old + (to - from)
     → ext ≡ old ++ take (stop - begin) (drop begin v) → new ≡ sized ext whole → (x : ℕ) → length old ≤ x → x < length new → get_or new x 0 ≡ get_or v (from + (x - length old)) 0
 appended_at old v from to stop begin whole ext new h es eb ew ee en x g f =

@@ -1,4 +1,4 @@
--- What a listing asks of the tree, entry by entry.
+-- How many walks and pairs a listing needs, entry by entry.
 use Rattle.std.proofs.Common.{◌≡◌, ℕ, suc, ◌+◌, ◌-◌, ◌*◌, ◌^◌, ◌≤◌, min, max, Bool, true, false, cond, List, [], ◌∷◌, length, length-drop, refl, ap, sym, ◌∙◌, Option, Some, None, arith, ◌⊎◌, inl, inr}
 use Rattle.std.specs.List.{prefix_len}
 use Rattle.message.specs.Ranges.{before}
@@ -14,7 +14,7 @@ module _ {V : Type 0} where
       let left : length (from_unpassed test ps) ≡ length ps - prefix_len (λ (p : List ℕ × V). test p.0) ps = length-drop (prefix_len (λ (p : List ℕ × V). test p.0) ps) ps in
       omega (arith, left)
 
-  -- where a pair was passed the next piece may have one; else it may have as many as before, and all pairs are left
+  -- if a pair was skipped the next batch has one; otherwise it has as many as before, and all pairs remain
   passed_or_kept : (test : List ℕ → Bool) (q : List ℕ × V) (qs : List (List ℕ × V)) (n m : ℕ) → m ≡ size_past test (q ∷ qs) n → (m ≡ 1) ⊎ ((m ≡ n) × (from_unpassed test (q ∷ qs) ≡ q ∷ qs))
   passed_or_kept test q qs n m e = by_bool (test q.0) ((m ≡ 1) ⊎ ((m ≡ n) × (from_unpassed test (q ∷ qs) ≡ q ∷ qs)))
       (λ t. inl (e ∙ ap (λ (b : Bool). cond b 1 n) t))

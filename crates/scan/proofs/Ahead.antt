@@ -1,4 +1,4 @@
--- The ends that lie ahead of a key: a search passes one with each stretch.
+-- The ends of messages ahead of a key: a search passes one with each segment.
 use Rattle.std.proofs.Common.{◌≡◌, ℕ, zero, suc, ◌+◌, ◌<◌, ◌≤◌, ◌⊎◌, inl, inr, Bool, true, false, List, [], ◌∷◌, ◌++◌, length, get_or, refl, ap, ◌∙◌, Option, Some, None, cond, arith}
 use Rattle.std.specs.Prelude.{Contains}
 use Rattle.std.specs.Option.{option_to_list}
@@ -11,7 +11,7 @@ use Rattle.node.specs.See.{seen_slots}
 use Rattle.node.specs.Site.{end_of}
 use Rattle.message.specs.Stretches.{all_ends}
 
--- how many of the keys lie after c
+-- the number of keys after c
 abbrev pub ahead : List ℕ → List (List ℕ) → ℕ
 ahead c [] = 0
 ahead c (b ∷ bs) = cond (before c b) 1 0 + ahead c bs
@@ -22,7 +22,7 @@ fewer_by true false m n f h = absurd (let e : false ≡ true = f refl in cc)
 fewer_by false true m n f h = omega arith
 fewer_by false false m n f h = omega arith
 
--- what lies after a later key lies after an earlier one
+-- what is after a later key is after an earlier one
 pub fewer : (c d : List ℕ) (bs : List (List ℕ)) → before c d ≡ true → ahead d bs ≤ ahead c bs
 fewer c d [] l = omega arith
 fewer c d (b ∷ bs) l = fewer_by (before d b) (before c b) (ahead d bs) (ahead c bs) (λ e. lt_le c d b l (reaches-from_before d b e)) (fewer c d bs l)
@@ -38,7 +38,7 @@ less_later true false m n f h = absurd (let e : false ≡ true = f refl in cc)
 less_later false true m n f h = omega arith
 less_later false false m n f h = omega arith
 
--- fewer lie after a later one of them
+-- after a later one of them there are fewer
 pub ahead_falls : (c d : List ℕ) (bs : List (List ℕ)) → before c d ≡ true → Contains bs d → ahead d bs < ahead c bs
 ahead_falls c d [] l h = absurd (let b = h.1 in omega (arith, b))
 ahead_falls c d (b ∷ bs) l (zero, h, e) = less_here (before d b) (before c b) (ahead d bs) (ahead c bs) (ap (before d) e ∙ not_before_from_reaches d d (reaches-refl d)) (ap (before c) e ∙ l) (fewer c d bs l)

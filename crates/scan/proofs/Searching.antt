@@ -23,7 +23,7 @@ use Rattle.scan.proofs.Ahead.{ahead, ahead_falls, search_ends, range_end_is, slo
 use Rattle.scan.proofs.SlotRange.{number_inside, value_in_slot}
 
 module _ {U V : Type 0} (means : U → Option V → Option V) where
-  -- nothing is found from lo up to `from`, where a search stands
+  -- nothing is found from lo up to `from`, the position of a search
   pub record HasPassed (n : PNode U V) (lo from : List ℕ) : Type 0 where
     pub reached : reaches lo from ≡ true
     pub none : HasNone (value means n) lo (Some from)
@@ -32,7 +32,7 @@ module _ {U V : Type 0} (means : U → Option V → Option V) where
   pub at_start : (n : PNode U V) (lo from : List ℕ) → from ≡ lo → reaches lo lo ≡ true → HasPassed n lo from
   at_start n lo from e r = subst (λ (k : List ℕ). HasPassed n lo k) (sym e) (record { reached = r; none = none_start (value means n) lo })
 
-  -- the search stands at `from` in slot i, which is s, and its stretch goes up to `stop`
+  -- the search is at `from` in slot i, which is s, and its segment ends at `stop`
   pub record IsAt (items : List (Slot U V)) (n : PNode U V) (hi : Option (List ℕ)) (from : List ℕ) (i : ℕ) (s : Slot U V) (stop : Option (List ℕ)) : Type 0 where
     pub seen : inner (seen_slots items) ≡ n
     pub bound : i < length items
@@ -58,7 +58,7 @@ module _ {U V : Type 0} (means : U → Option V → Option V) where
         an_end = subst (λ e. IfSome stop (λ d. (e ≡ Some d) ⊎ Contains (all_ends s.pending.0) d)) same an_end;
       }
 
-  -- a key below the end lies below the end of its slot
+  -- a key before the end is before the end of its slot
   pub from_below : {items xs ys : List (Slot U V)} (hi : Option (List ℕ)) (from : List ℕ) {i : ℕ} {end : Option (List ℕ)} → xs ≡ items → ys ≡ items → i ≡ slot_number (seen_slots xs) from → is_below from hi ≡ true → end ≡ earlier_end hi (end_of None (seen_slots ys) i) → is_below from end ≡ true
   from_below {items} {xs} {ys} hi from {i} {end} ex ey number h ee =
       let e : i ≡ slot_number (seen_slots items) from = number ∙ ap (λ (zs : List (Slot U V)). slot_number (seen_slots zs) from) ex in
@@ -71,7 +71,7 @@ module _ {U V : Type 0} (means : U → Option V → Option V) where
         let all : IsSearchable (inner (seen_slots items)) = subst (λ (m : PNode U V). IsSearchable m) (sym x.seen) h in
         subst (λ (z : Slot U V). IsSearchable z.child.value) (sym x.slot) (searchable_child items i s x.bound all.1)
 
-    -- and lies lower than the node
+    -- and is lower than the node
     pub child_lower : depth s.child.value < depth n
     child_lower = subst (λ (m : PNode U V). depth s.child.value < depth m) x.seen (subst (λ (z : Slot U V). depth z.child.value < depth (inner (seen_slots items))) (sym x.slot) (depth_child items i s x.bound))
 
@@ -98,7 +98,7 @@ module _ {U V : Type 0} (means : U → Option V → Option V) where
         let p = both (reaches lo k) (is_below k hi) w in
         none_join (value means n) lo from None passed.none (subst (λ o. HasNone (value means n) from o) e (first_of_node None h)) k (in_range lo k None p.0 refl)
 
-    -- it has none, and the search goes on where the stretch ends
+    -- it has none, and the search continues at the end of the segment
     pub goes_on : (lo : List ℕ) → HasPassed n lo from → (next : List ℕ) → stop ≡ Some next → IsFirst (slot_value means s) from stop None → HasPassed n lo next
     goes_on lo passed next e h =
         let after : is_below from (Some next) ≡ true = subst (λ o. is_below from o ≡ true) e x.after in
@@ -107,7 +107,7 @@ module _ {U V : Type 0} (means : U → Option V → Option V) where
           none = none_join (value means n) lo from (Some next) passed.none (subst (λ o. HasNone (value means n) from o) e (first_of_node None h));
         }
 
-    -- a walk of the slot is one of the node, and goes on where the stretch ends
+    -- a walk of the slot is one of the node, and continues at the end of the segment
     pub walked_on : (lo : List ℕ) (limit : ℕ) (old new newer : List (List ℕ × V)) → HasWalked (value means n) lo hi limit from old new → AddsScan (slot_value means s) from stop limit new newer → (next : List ℕ) → stop ≡ Some next → HasWalked (value means n) lo hi limit next old newer
     walked_on lo limit old new newer walked a next e =
         let after : is_below from (Some next) ≡ true = subst (λ o. is_below from o ≡ true) e x.after in

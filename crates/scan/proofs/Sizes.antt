@@ -18,7 +18,7 @@ module _ {V : Type 0} (test : List ℕ → Bool) where
   pub size_passed : (p : List ℕ × V) (ps : List (List ℕ × V)) (n : ℕ) → test p.0 ≡ true → size_past test (p ∷ ps) n ≡ size_past test ps 1
   size_passed p ps n t = ap (λ (b : Bool). cond b 1 n) t ∙ sym (one_past ps)
 
-  -- where none is, it may have as many as before
+  -- if there is none, it may have as many as before
   pub size_kept : (p : List ℕ × V) (ps : List (List ℕ × V)) (n : ℕ) → test p.0 ≡ false → size_past test (p ∷ ps) n ≡ n
   size_kept p ps n t = ap (λ (b : Bool). cond b 1 n) t
 

@@ -116,8 +116,8 @@ fn walk_rounds<U: Update>(
     Ok(())
 }
 
-/// One round: it reads as many pairs of the child as are wanted, and applies the messages to them. If that gives fewer, and the
-/// child may have more, it returns the key where the next round begins.
+/// One round: it reads as many pairs of the child as are still missing, and applies the messages to them. If the result has
+/// fewer, and the child may have more, it returns the key where the next round begins.
 #[cycle(walk)]
 fn round<U: Update>(
     alloc: Global,

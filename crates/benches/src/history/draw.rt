@@ -6,8 +6,8 @@ use test_support::Random;
 /// The number of areas that have half of the calls, so that clients often use the same one.
 const BUSY: u32 = 4;
 
-/// The number of offsets of a write; they are 4 bytes apart. A mark is longer than that, so neighbours overlap, and two of them cross
-/// the end of a block.
+/// The number of offsets of a write, and the distance between them. A mark is longer than the distance, so neighbours overlap, and
+/// two of them cross the end of a block.
 const OFFSETS: u32 = 5;
 
 const OFFSETS_APART: u64 = 5;
