@@ -172,7 +172,7 @@ layer_there bs [] i d h = absurd (omega arith)
 layer_there bs (e ∷ es) zero d h = refl
 layer_there bs (e ∷ es) (suc i) d h = layer_there bs es i d (omega arith) ∙ ap (λ (n : ℕ). layer_in bs (get_or es i d) ∷ drop n (map (layer_in bs) es)) (add-one i) ∙ ap (λ (n : ℕ). layer_in bs (get_or es i d) ∷ drop n (layer_in bs e ∷ map (layer_in bs) es)) (sym (add-one (suc i)))
 
--- ---- one that is taken out
+-- ---- one that is removed
 
 module _ {A B : Type 0} (f : A → B) where
   -- those before it, and those after it

@@ -70,6 +70,6 @@ appended_at old v from to stop begin whole ext new h es eb ew ee en x g f =
 pub counted_to : (off end stop index steps : ℕ) → off < end → end ≡ stop → index ≡ (end - 1) / 4096 + 1 → steps + off / 4096 ≡ index → steps ≡ block_count off stop
 counted_to off end stop index steps g e i s = (let here : steps ≡ ((end - 1) / 4096 + 1) - off / 4096 = omega (arith, s, i) in here ∙ sym (ap (λ b. cond b (((end - 1) / 4096 + 1) - off / 4096) 0) (lt-ltb off end g))) ∙ ap (block_count off) e
 
--- none where there are no bytes
+-- none if there are no bytes
 pub no_blocks : (off stop : ℕ) → stop ≤ off → block_count off stop ≡ 0
 no_blocks off stop h = ap (λ b. cond b (((stop - 1) / 4096 + 1) - off / 4096) 0) (le-ltb off stop h)

@@ -29,7 +29,7 @@ after msgs d k = effects means msgs k (d k)
 abbrev pub patch_of : Path → ℕ → List ℕ → ℕ → Message
 patch_of p off w i = Edit (block_key p i) (Patch (record { off = off - 4096 * i; bytes = piece off w i }))
 
--- how many blocks a write of w at off touches, where w is not empty
+-- how many blocks a write of w at off touches, if w is not empty
 abbrev pub touched : ℕ → List ℕ → ℕ
 touched off w = (off + length w - 1) / 4096 + 1 - off / 4096
 

@@ -1,4 +1,4 @@
--- What a patch is: bytes, and where in a block they begin.
+-- Patches: bytes, and their offset in a block.
 use Rattle.std.specs.Prelude.{ℕ, ◌+◌, ◌-◌, List, ◌++◌, length, take, drop, Bool, ◌&&◌, nat_le}
 
 -- bytes that overwrite those of a block from the offset on

@@ -55,7 +55,7 @@ from_free t w = go w.there refl
     go true is = subst (All IsLine) (sym (some_left t w is)) (All-cons IsLine w.line.items (lines_of (left t w)) w.free (lines_free (left t w)))
     go false is = subst (All IsLine) (sym (none_left t w is)) (All-nil IsLine)
 
--- ---- commands of which a beginning was written
+-- ---- commands of which a prefix was written
 
 -- these commands were begun
 pub begun : (cs : List Command) (h i : Option (List ℕ)) (a b x y : LineCursor) → All IsCommand cs → Patches cs a b x y → AppendsPart h i (commands_text cs) → BeginsAll h i a b
@@ -96,7 +96,7 @@ begun_then cs h i j a b x y f more = λ t u m k.
       all = f.patches.patch t u g.list m k g.all;
     }
 
--- ---- commands of which the first were written, each whole
+-- ---- commands of which the first were written, each completely
 
 pub some_put : (cs : List Command) (h i : Option (List ℕ)) (a b x y : LineCursor) → Puts cs h i a b x y → PutsSome h i a b
 some_put cs h i a b x y f = λ t u m k.
@@ -145,7 +145,7 @@ lines_end : (ls : List Line) → EndsLine (text_of ls)
 lines_end [] = inl refl
 lines_end (l ∷ ls) = subst EndsLine (append_assoc l (10 ∷ []) (text_of ls)) (ends_after (l ++ 10 ∷ []) (text_of ls) (inr (l, refl)) (lines_end ls))
 
--- ---- a delta of which a beginning was written
+-- ---- a delta of which a prefix was written
 
 -- its first line was begun, or nothing was written
 pub delta_heading : (h i : Option (List ℕ)) (digest : List ℕ) (t u : Tree) → IsDigest digest → digest ≡ sha256 (image Second t) → AppendsPart h i (text_of (heading digest ∷ [])) → BeginsDelta h i t u

@@ -47,7 +47,7 @@ no_items n [] r e size h = refl
 no_items n (x ∷ items) true e size h = absurd (let z : n ≡ 0 = eqb-true n 0 (sym e) in omega arith)
 no_items n (x ∷ items) false e size h = absurd (false≢true (sym h))
 
--- a piece was printed where all before was read
+-- a piece was printed after all before it was read
 pub refilled : (old w : LineCursor) (n k : ℕ) (had new : List ℕ) (more : Bool) → ((t : Tree) → MeanRooted old.printing.tree t → HandsOver (image Second t) old.printing.done n had new)
     → w.printing ≡ record old.printing { done = old.printing.done + n } → length new ≡ length had → w.piece.items ≡ new → w.used ≡ 0 → w.filled ≡ k → (n ≤ length new → k ≡ n)
     → w.line.items ≡ old.line.items → 0 < length had → (more ≡ false → n ≡ 0) → Refills more old w

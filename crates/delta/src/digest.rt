@@ -32,7 +32,7 @@ pub fn image_digest(alloc: Global, frozen: Frozen) -> Result<[u8; 32], NoMemory>
     digest
 }
 
-// Computes the digest of an image of which nothing was printed yet. The image is printed in pieces into the buffer.
+// Computes the digest of an image from its beginning. The image is printed in pieces into the buffer.
 fn digest_of(
     alloc: Global,
     printing: &mut ImagePrinter,

@@ -42,7 +42,7 @@ given_out P (Ok x) (Ok u) given h p = record { value = x; is = h.done; holds = p
 given_out P (Ok x) (Err e) given h p = tt
 given_out P (Err e) outcome given h p = subst (λ (o : Result (Unit {0}) Errno). IfOk o (λ _. Given P given)) (sym h) tt
 
--- where it is done, something was made
+-- if it succeeds, something was made
 pub done_out : {X : Type 0} (Q : Type 0) (made : Result X Errno) (outcome : Result (Unit {0}) Errno) (given : Option X)
     → HandsOut made outcome given → IfOk made (λ _. Q) → IfOk outcome (λ _. Q)
 done_out Q (Ok x) (Ok u) given h q = q

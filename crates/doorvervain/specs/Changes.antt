@@ -1,4 +1,4 @@
--- What becomes of the volume by the exports that change it.
+-- The effect on the volume of the exports that change it.
 use Rattle.std.specs.Prelude.{◌⊎◌, ℕ, List}
 use Rattle.pathkey.specs.declared.errno.Errno.TheVariants.{ENOMEM}
 use Rattle.pathkey.specs.Texts.{parsed}

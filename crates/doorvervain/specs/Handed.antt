@@ -23,7 +23,7 @@ NoShape fanout pending leaf = is_shape (shape_of fanout pending leaf) ≡ false
 
 -- ---- what is handed out
 
--- a value was given of which this holds
+-- a value with this property was stored
 pub record Given {X : Type 0} (P : X → Type 0) (given : Option X) : Type 0 where
   pub value : X
   pub is : given ≡ Some value

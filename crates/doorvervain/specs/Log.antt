@@ -8,7 +8,7 @@ use Rattle.wal.specs.declared.replay_error.ReplayError.{ReplayError}
 use Rattle.volume.specs.Volumes.{PVolume}
 use Rattle.doorvervain.specs.Numbers.{reported}
 
--- the log of a salt begins with the record of the number, whose body has so many bytes; or with none (ENOENT)
+-- the log of a salt begins with the record with this number, whose body has so many bytes; or with none (ENOENT)
 abbrev pub FindsRecord : List ℕ → ℕ → List ℕ → Result ℕ Errno → Type 0
 FindsRecord salt n log (Ok size) = (body : List ℕ) × (rest : List ℕ) × (log ≡ record_of salt n body ++ rest) × (size ≡ length body)
 FindsRecord salt n log (Err e) = (e ≡ ENOENT) × LacksRecord salt n log

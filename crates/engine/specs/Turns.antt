@@ -56,7 +56,8 @@ Puts done (Stepped r) old new = ⊥
 abbrev pub NothingWaits : PVolume → Type 0
 NothingWaits v = (pending_in Meta v.live.indexes ≡ 0) × (pending_in Block v.live.indexes ≡ 0)
 
--- what is done where no job is taken: nothing where nothing waits, and else one tree step, in the index with more pending pieces
+-- what is done if no job is taken: nothing if no message is pending, and otherwise one tree step, in the index with more pending
+-- pieces
 abbrev pub Relieves : TurnReply → PVolume → PVolume → Type 0
 Relieves Idle old new = NothingWaits old × Untouched old new
 Relieves (Stepped r) old new = (NothingWaits old → ⊥) × ((step : Step) × (step.index ≡ busier old.live.indexes) × IsStepped step r old new)
@@ -82,7 +83,7 @@ pub record Hold (o : PVolume) (v w : Watched) : Type 0 where
 abbrev pub Found : PVolume → Watched → Watched → (PVolume → PVolume → Type 0) → Type 0
 Found o v w P = (h : Hold o v w) × P h.found h.left
 
--- the same or, where the engine has ended, no volume; then the flusher has seen nothing more
+-- the same or, if the engine has ended, no volume; then the flusher has seen nothing more
 abbrev pub Held : PVolume → Watched → Watched → (PVolume → PVolume → Type 0) → Type 0
 Held o v w P = (w ≡ v) ⊎ Found o v w P
 
@@ -103,7 +104,7 @@ PutsIn o done NoMemory v w = Found o v w (Cancels (done_ticket done))
 PutsIn o done Idle v w = ⊥
 PutsIn o done (Stepped r) v w = ⊥
 
--- the second hold, where no job was taken
+-- the second critical section, if no job was taken
 abbrev pub RelievesIn : PVolume → TurnReply → Watched → Watched → Type 0
 RelievesIn o Idle v w = Held o v w (Relieves Idle)
 RelievesIn o (Stepped r) v w = Found o v w (Relieves (Stepped r))

@@ -22,7 +22,7 @@ fn pick_at(volume: &mut Volume, alloc: Global, index: Index, slot: u8) -> TakeRe
     volume.take_job(alloc, index, slot)
 }
 
-/// Takes a job of the root slot of the index of which it would move the most messages, if these are enough.
+/// Takes the job of the index's root slot that moves the most messages, if these are enough.
 fn choose_in_index(volume: &mut Volume, alloc: Global, index: Index) -> TakeReply
     ensures { Picks result volume.old volume.new }
 {

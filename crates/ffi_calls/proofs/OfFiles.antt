@@ -89,6 +89,6 @@ module _ (p : Path) (i : FsRoot) where
     pub too_much : (off n : ℕ) → greatest_read < n → Tells (Read p off n) (Fault EINVAL) i
     too_much off n h = λ t at mean. let f = is t mean in inl (sym (read_too_much at t p off n f.0 f.1 f.2 (lt-ltb greatest_read n h)))
 
-    -- what a read gives, where these are the bytes of each such file
+    -- what a read returns, if these are the bytes of each such file
     pub read_is : (off n : ℕ) (items : List ℕ) → n ≤ greatest_read → ((t : Tree) (date : ℕ) (b : List ℕ) → MeanRooted i t → entry_at t p ≡ Found (File date b) → length b ≡ len → items ≡ take n (drop off b)) → Tells (Read p off n) (Data items) i
     read_is off n items h same = λ t at mean. let f = is t mean in inl (ap Data (same t f.0 f.1 mean f.2 f.3) ∙ sym (read_done at t p off n f.0 f.1 f.2 (le-ltb greatest_read n h)))

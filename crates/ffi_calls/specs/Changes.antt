@@ -27,7 +27,7 @@ abbrev pub done_of : Call → Reply
 done_of (Write p off w) = Count (length w)
 done_of _ = Done
 
--- ---- what becomes of the volume
+-- ---- the effect on the volume
 
 -- it fails with this error, and the volume is unchanged
 abbrev pub Refuses : {A : Type 0} → Errno → Result A Errno → PVolume → PVolume → Type 0

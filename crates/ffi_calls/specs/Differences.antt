@@ -14,7 +14,7 @@ abbrev pub IsKept : Result (List ℕ) Errno → World → Tree → Type 0
 IsKept (Err e) w t = ⊥
 IsKept (Ok s) w t = finite.get w.snapshots s ≡ Some t
 
--- the tree that a text names: the live one where it is empty, and else that of the snapshot of that name
+-- the tree that a text names: the live one if it is empty, otherwise that of the snapshot of that name
 abbrev pub NamesTree : List ℕ → World → Tree → Type 0
 NamesTree [] w t = t ≡ w.live
 NamesTree (b ∷ name) w t = IsKept (snap_parsed (b ∷ name)) w t

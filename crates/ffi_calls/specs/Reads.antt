@@ -62,11 +62,11 @@ entry_bytes e = letter_of e.0 ∷ e.1 ++ 0 ∷ []
 abbrev pub listing_bytes : List (Kind × Name) → List ℕ
 listing_bytes es = flat_map entry_bytes es
 
--- the buffer with bytes at its front, where they fit, and else as it was
+-- the buffer with the bytes at its front if they fit, and otherwise unchanged
 abbrev pub copied : List ℕ → List ℕ → List ℕ
 copied bytes out = if nat_le (length bytes) (length out) then bytes ++ drop (length bytes) out else out
 
--- the entries that the tree has at the path, and how many bytes they take, which are in the buffer where they fit
+-- the entries of the tree at the path, and the length of their listing, which is in the buffer if it fits
 pub record ListsAll (p : Path) (i : FsRoot) (n : ℕ) (old new : List ℕ) : Type 0 where
   pub entries : List (Kind × Name)
   pub tells : Tells (Readdir p) (Names entries) i

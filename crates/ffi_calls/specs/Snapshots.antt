@@ -27,7 +27,7 @@ abbrev pub FindsNamed : Result (List ℕ) Errno → PVolume → Result FsRoot Er
 FindsNamed (Err e) v result = result ≡ Err e
 FindsNamed (Ok s) v result = Keeps s v result ⊎ (result ≡ Err ENOMEM)
 
--- how many bytes the name has, which is in the buffer where it fits; where there is no such name, ENOENT, and the buffer is as it was
+-- the length of the name, which is in the buffer if it fits; if there is no such name, ENOENT, and the buffer is unchanged
 abbrev pub TellsName : Option (List ℕ) → Result ℕ Errno → List ℕ → List ℕ → Type 0
 TellsName (Some name) result old new = (result ≡ Ok (length name)) × (new ≡ copied name old)
 TellsName None result old new = (result ≡ Err ENOENT) × (new ≡ old)

@@ -236,7 +236,7 @@ moment_cut v words cut h front a is last at free reported e =
     let same : (front, a) ≡ (last, at) = same_Some {A = Text × ℕ} (front, a) (last, at) (sym is ∙ h.complete last at free reported e) in
     (ap (λ (p : Text × ℕ). p.0) same, ap (λ (p : Text × ℕ). p.1) same)
 
--- and something was, where something is spelled
+-- and something was, if the text spells something
 pub no_moment_cut : (v : Version) (words : Text) (cut : Option (Text × ℕ)) → CutsMoment v words cut → cut ≡ None → (last : Text) (at : ℕ) → All (λ b. b ≢ 32) last → IsReported v at → words ≡ last ++ moment_text v at → ⊥
 no_moment_cut v words cut h none last at free reported e = let clash : ◌≡◌ {A = Option (Text × ℕ)} None (Some (last, at)) = sym none ∙ h.complete last at free reported e in cc
 

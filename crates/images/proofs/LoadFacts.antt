@@ -224,7 +224,7 @@ block_done old v i bytes len number n count block file rises inside h = λ b is.
       next = refl;
     }
 
--- the same, where the place is known to fit
+-- the same, if the block is known to fit
 pub block_at : (old : LoadState) (v : PVolume) (i j off : ℕ) (b : List ℕ) (number : ℕ) → j ≡ i → number ≡ old.lines + 1 → IsBlock b → FitsAt i (length b) old off → Counts (Write old.last off b) old.modified old.volume v
     → LoadsNext (BlockLine i b) old (record { volume = v; version = old.version; lines = number; last = old.last; modified = old.modified; len = old.len; next = j + 1 })
 block_at old v i j off b number same count block fits counts =
@@ -312,7 +312,7 @@ nothing_read l means lines last moment len at = record {
   holds = holds_nothing;
 }
 
--- what is held is the line, where it is short
+-- what is buffered is the line, if it is short
 line_is : (left items : Text) → Holds left items → length items ≤ 65536 → items ≡ left
 line_is left items h short = ⊎_elim
     (λ (l : 65536 < length left). absurd (let g : 65536 < length items = h.long l in omega arith))
@@ -382,7 +382,7 @@ end_refused items n l count bad text h = subst (IsBadAt n) (sym h.cut) (go h.so_
     go (Some s) is [] free b = absurd (let c : l.lines ≡ length s.lines + 1 = is.count in ⊎_elim (λ (s : 0 < length {A = ℕ} []). omega arith) (λ (z : l.lines ≡ 0). omega arith) b)
     go (Some s) is (x ∷ left) free b = let c : l.lines ≡ length s.lines + 1 = is.count in bad_end s.version s.root s.lines n x left is.are.0 is.are.1 free (omega arith)
 
--- what was loaded means the tree of the image
+-- what was loaded abstracts to the tree of the image
 pub loaded : (text : Text) (l : LoadState) → (b : Begun) × IsLoading (Some b) l × (text ≡ text_of b) → IsSomeImage text × Loaded text l.volume
 loaded text l (b, is, text_is) =
     let m = lines_law b.version b.root b.lines is.are.0 is.are.1 in (

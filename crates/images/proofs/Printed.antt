@@ -88,7 +88,7 @@ module _ (a b c : Option (List ℕ)) (t : Tree) (s new : PrintPosition) (text : 
   pub printed_more_part : AppendsPart b c text → AppendsPart a c (image Second t)
   printed_more_part part = subst (AppendsPart a c) (sym split) (part_after a b c so_far.0 (text ++ left_at t new) so_far.2 (part_before b c text (left_at t new) part))
 
--- where no line is left
+-- if no line is left
 pub printed_all : (a c : Option (List ℕ)) (t : Tree) (s : PrintPosition) → left_at t s ≡ [] → PrintedTo a c t s → Appends a c (image Second t)
 printed_all a c t s none (done, split, w, at, ends) = subst (Appends a c) (sym (split ∙ ap (λ (l : Text). done ++ l) none ∙ append-nil done)) w
 
@@ -146,7 +146,7 @@ ready_more i r s all is used done passes ahead = record {
 
 -- ---- handed out
 
--- so many bytes more of what is ready were handed out
+-- so many more bytes of what is ready were handed out
 pub ready_less : (i : FsRoot) (r : PrintedLines) (n : ℕ) (old new : List ℕ) → IsReady i r → HandsOut n r old new → IsReady i (record r { used = r.used + n; done = r.done + n })
 ready_less i r n old new is out = record {
   fits = let l = length-drop r.used r.text.items in omega (arith, l, out.ready, is.fits);
@@ -203,7 +203,7 @@ next_piece p i r (Err e) old new tree done is filled out = tt
 
 -- ---- more lines
 
--- where lines are ready
+-- if lines are ready
 pub still_ready : (i : FsRoot) (r : PrintedLines) → r.used < length r.text.items → (t : Tree) → MeanRooted i t → ready_text r ≡ [] → left_at t r.spot ≡ []
 still_ready i r some t mean none =
     let l = length-drop r.used r.text.items in

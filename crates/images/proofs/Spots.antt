@@ -58,7 +58,7 @@ passes_entry t s e had has passed next put = record {
   at = (e.1, next.is);
 }
 
--- ---- where the blocks of an entry end
+-- ---- the end of the blocks of an entry
 
 ends_at : (a : At) (m : Meta) (i : ℕ) → meta_of (sighted a) ≡ Some m → size_of m ≤ i * 4096 → blocks_left a i ≡ []
 ends_at (Found (File date b)) (FileMeta len at) i e le =

@@ -11,12 +11,12 @@ line_of (Directory p at) = DirectoryLine p at
 line_of (File p n at) = FileLine p n at
 line_of (Block i b) = BlockLine i b
 
--- what was guessed of a text: a line of an image of the version, and the one that the text spells where it spells one
+-- the guess for a text: a line of an image of the version, and the right one if the text spells one
 pub record Guesses (v : Version) (text : Text) (guess : Option ImageLine) : Type 0 where
   pub valid : IfSome guess (λ l. IsLine v (line_of l))
   pub complete : (l : Line) → IsLine v l → text ≡ spelled v l → option_map line_of guess ≡ Some l
 
--- the line of an image of the version that a text spells, or none where it spells none
+-- the line of an image of the version that a text spells, or none
 abbrev pub Spells : Version → Text → Option ImageLine → Type 0
 Spells v text read = MatchOption read ((l : Line) → IsLine v l → text ≢ spelled v l) (λ l. IsLine v (line_of l) × (text ≡ spelled v (line_of l)))
 

@@ -156,7 +156,7 @@ LoadsEnd items l = (text : Text) → HasRead text items l → (b : Begun) × IsL
 abbrev pub RefusesEnd : Text → ℕ → LoadState → Type 0
 RefusesEnd items n l = (text : Text) → HasRead text items l → IsBadAt n text
 
--- so far the reader gave a text, of which this was loaded and held
+-- so far the reader returned a text, which was loaded except for what is buffered
 abbrev pub ReadsSoFar : Option (List ℕ) → Option (List ℕ) → Text → LoadState → Type 0
 ReadsSoFar had has items l = (text : Text) × Consumes had has text × HasRead text items l
 
@@ -180,7 +180,7 @@ pub record Loaded (text : Text) (v : PVolume) : Type 0 where
   pub reported : AllReported version tree
   pub means : Means v (alone tree)
 
--- the reader is at its end, and what it gave is an image, whose tree the volume means
+-- the reader is at its end, and what it returned is an image, to whose tree the volume abstracts
 abbrev pub LoadsAll : Option (List ℕ) → Option (List ℕ) → PVolume → Type 0
 LoadsAll had has v = (text : Text) × Consumes had has text × IsAtEnd has × IsSomeImage text × Loaded text v
 

@@ -1,4 +1,4 @@
--- An image on its way in: what a loader took of a text.
+-- An image that is loaded in pieces: what a loader has read of a text.
 use Rattle.std.specs.Prelude.{◌≡◌, ℕ, ⊤, List, [], ◌++◌, Option, Result, Ok, Err}
 use Rattle.std.specs.Io.KnownBytes.{Consumes, IsAtEnd}
 use Rattle.reference.specs.Image.{Text}
@@ -32,7 +32,7 @@ Took shape text l = TookBy l.intake shape text l
 abbrev pub IsFresh : Shape → ImageLoader → Type 0
 IsFresh shape l = (l.intake ≡ Open) × Took shape [] l
 
--- the volume means the tree whose image the text is, in trees of the shape and without marks
+-- the volume abstracts to the tree whose image is the text, in trees of the shape and without marks
 abbrev pub LoadedIn : Shape → Text → PVolume → Type 0
 LoadedIn shape text v = Loaded text v × (form_of v ≡ new_form shape)
 

@@ -58,7 +58,7 @@ end_reaches (x ∷ a) (c ∷ b) z u h = tails x c a b (λ o. is_le (ordering_the
 abbrev pub end_key : Path → Name → Key
 end_key p n = enc p ++ (n ++ 1 ∷ [])
 
--- a path's key ends with a byte 0, and the keys that begin with it end where that byte becomes 1
+-- a path's key ends with a byte 0, and the end of the keys with this prefix is the key with that byte set to 1
 pub end_of_zero : (s : List ℕ) → IsEndOf (s ++ 1 ∷ []) (s ++ 0 ∷ [])
 end_of_zero s k low =
     let reads = starts_is {E = eqb} Decides-eqb k (s ++ 0 ∷ []) (starts_with eqb k (s ++ 0 ∷ [])) refl in

@@ -52,7 +52,7 @@ module _ (t : Tree) (m : MetaIndex) (p : Path) where
     pub entries : Entries
     pub rest : IsRest entries listed lo hi
 
--- the directory's entries; none where there is no directory
+-- the directory's entries; none if there is no directory
 abbrev pub entries_of : At → Entries
 entries_of (Found (Dir date es)) = es
 entries_of (Found (File date b)) = nothing
@@ -151,7 +151,7 @@ module _ (t : Tree) (m : MetaIndex) (p : Path) (means : IsMeantBy t m) (listed :
       let there : entry_at t (p ++ n ∷ []) ≡ Found x = r.stand n x e in
       means.meta.paths (p ++ n ∷ []) (means.tree.paths (p ++ n ∷ []) x there) ∙ ap (λ (a : At). meta_of (sighted a)) there
 
-  -- no key from lo on where the first entry's key is not reached yet
+  -- no key from lo on, if the first entry's key is not reached yet
   reached : (es : Entries) → IsRest t m p es listed lo hi → (n : Name) (x : Tree) → named n es ≡ Some x → (k : Key) → HasNone (metadata m) lo (Some k) → reaches k (enc (p ++ n ∷ [])) ≡ true
   reached es r n x e k none = by_bool (before (enc (p ++ n ∷ [])) k) (reaches k (enc (p ++ n ∷ [])) ≡ true)
       (λ s. absurd (seen_some x (sym (own_meta es r n x e) ∙ none (enc (p ++ n ∷ [])) (in_range lo (enc (p ++ n ∷ [])) (Some k) (r.ahead n x e) s))))
@@ -224,6 +224,6 @@ module _ (t : Tree) (m : MetaIndex) (p : Path) (means : IsMeantBy t m) (listed :
       let high : is_below (enc (p ++ n ∷ [])) hi ≡ true = subst (λ (o : Option Key). is_below (enc (p ++ n ∷ [])) o ≡ true) (sym r.high) (and_parts _ _ (in_below p n [])).1 in
       seen_some x (sym (own_meta (entry n x es) r n x at) ∙ h (enc (p ++ n ∷ [])) (in_range lo (enc (p ++ n ∷ [])) hi (r.ahead n x at) high)))
 
-  -- where no pair is left, all entries are listed
+  -- if no pair is left, all entries are listed
   pub all_listed : Listed t m p listed lo hi → HasNone (metadata m) lo hi → listed ≡ names_of (entry_at t p)
   all_listed l h = all_of l.entries l.rest h

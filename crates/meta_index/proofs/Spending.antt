@@ -77,7 +77,7 @@ module _ {V : Type 0} where
         each = omega (arith, w, a, each, small);
       }
 
-  -- so does `first`, where no pair is at hand and others may be left
+  -- so does `first`, if no pair was read ahead and others may be left
   pub first_asks : (lo : List ℕ) (old : List (List ℕ × V)) (all : Bool) (g m walks asked walks' asked' most : ℕ) (r : Option (List ℕ × V)) (all' : Bool) (ps : List (List ℕ × V)) → old ≡ [] → all ≡ false
       → asked + max m 1 ≤ 2 * g + 32 → max m 1 ≤ 256 → walks ≤ g → min g (2 ^ 64 - 1) ≤ asked → asked ≤ 256 * walks
       → walks' ≡ raised (is_walked lo all old) 1 walks → asked' ≡ raised (is_walked lo all old) (walked_for lo old m) asked → most ≡ cond (is_walked lo all old) (min (2 * walked_for lo old m) 256) (size_past (λ k. before k lo) old m)

@@ -48,7 +48,7 @@ module _ (t : Tree) (m : MetaIndex) (p : Path) (means : IsMeantBy t m) where
   }
 
   module _ (items : List (Kind × Vec ℕ Global)) (hi : Option Key) (next : Option (Key × Meta)) (all : Bool) (ps : List (Key × Meta)) (goes : GoesOn t m p items hi next all ps) where
-    -- where no pair is left
+    -- if no pair is left
     pub listing_ends : next ≡ None → pairs_of items ≡ names_of (entry_at t p)
     listing_ends e = all_listed t m p means (pairs_of items) goes.lo hi goes.listed (subst (λ (o : Option (Key × Meta)). IsGiven (metadata m) goes.lo hi o all ps) e goes.given)
 

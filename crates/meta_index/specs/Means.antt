@@ -19,7 +19,7 @@ use Rattle.meta_index.specs.Updates.{means}
 abbrev pub metadata : MetaIndex → Metadata
 metadata m = value means m.tree.root
 
--- the index means the directory tree t: t is one, and the index has the metadata of its entries alone
+-- the index abstracts to the directory tree t: t is one, and the index has the metadata of its entries and nothing else
 pub record IsMeantBy (t : Tree) (m : MetaIndex) : Type 0 where
   pub tree : IsTree t
   pub meta : MetaMeans t (metadata m)

@@ -1,4 +1,4 @@
--- What updates of the metadata at a path mean, and which two of them become one.
+-- The effects of updates of the metadata at a path, and which two of them join.
 use Rattle.std.specs.Prelude.{Bool, true, false, Option}
 use Rattle.reference.specs.Indexes.{set_len, grow, touch}
 use Rattle.reference.specs.declared.reply.Meta.{Meta}

@@ -55,7 +55,7 @@ earlier_is (Some a) None d e = inl e
 earlier_is (Some a) (Some b) d e = earlier_by (before a b) a b d (same_Some (cond (before a b) a b) d e)
 
 module _ {U V : Type 0} where
-  -- where the slots begin, and the ends of all their messages
+  -- the pivots of the slots, and the ends of all their messages
   abbrev pub slot_ends : List (Slot U V) → List (List ℕ)
   slot_ends [] = []
   slot_ends (s ∷ ss) = s.lo ∷ (all_ends s.pending.0 ++ slot_ends ss)
@@ -66,7 +66,7 @@ module _ {U V : Type 0} where
   message_end (s ∷ ss) zero d k l h = Contains-append_right (s.lo ∷ []) (all_ends s.pending.0 ++ slot_ends ss) k (Contains-append_left (all_ends s.pending.0) (slot_ends ss) k h)
   message_end (s ∷ ss) (suc i) d k l h = Contains-append_right (s.lo ∷ all_ends s.pending.0) (slot_ends ss) k (message_end ss i d k (omega arith) h)
 
-  -- and where a slot ends
+  -- and the end of a slot
   pub pivot_end : (ss : List (Slot U V)) (i : ℕ) (k : List ℕ) → end_of None (seen_slots ss) i ≡ Some k → Contains (slot_ends ss) k
   pivot_end [] i k e = (cc)
   pivot_end (s ∷ []) zero k e = (cc)

@@ -133,7 +133,7 @@ module _ {V : Type 0} (test : List ℕ → Bool) (p : List ℕ × V) (ps : List 
   pub unpassed_first : test p.0 ≡ false → from_unpassed test (p ∷ ps) ≡ p ∷ ps
   unpassed_first e = ap (λ (b : Bool). drop (cond b (1 + prefix_len (λ (q : List ℕ × V). test q.0) ps) 0) (p ∷ ps)) e
 
-  -- which is taken out
+  -- which is removed
   pub unpassed_taken : (old : List (List ℕ × V)) → from_unpassed test old ≡ from_unpassed test (p ∷ ps) → test p.0 ≡ false → IsTaken test old (Some p) ps
   unpassed_taken old e u = (e ∙ unpassed_first u, λ none. absurd (let clash : Some p ≡ None = none in cc))
 
@@ -147,7 +147,7 @@ unpassed_alike a b (p ∷ ps) h =
     (λ t. unpassed_first a p ps t ∙ sym (unpassed_first b p ps (sym same ∙ t)))
 
 module _ {V : Type 0} (f : List ℕ → Option V) (lo : List ℕ) (hi : Option (List ℕ)) (all : Bool) where
-  -- the first of the pairs is given from lo on, and where there is none, none is ahead
+  -- the first of the pairs is returned from lo on, and if there is none, none is left
   abbrev pub Gives : List (List ℕ × V) → Type 0
   Gives [] = AreAhead f lo hi all []
   Gives (p ∷ ps) = IsGiven f lo hi (Some p) all ps
@@ -167,7 +167,7 @@ module _ {V : Type 0} (f : List ℕ → Option V) (lo : List ℕ) (hi : Option (
   pub ahead_taken : (old : List (List ℕ × V)) (taken : Option (List ℕ × V)) (new : List (List ℕ × V)) → IsTaken (λ k. before k lo) old taken new → AreAhead f lo hi all old → MatchOption taken (AreAhead f lo hi all []) (λ p. IsGiven f lo hi (Some p) all new)
   ahead_taken old taken new h a = taken_by taken new h.1 (subst Gives h.0 (ahead_gives old a))
 
--- the clause of `take_unless`, where each call of the closure gives the test of a key
+-- the clause of `take_unless`, if each call of the closure returns the test of a key
 pub taken_by_test : {V F : Type 0} {g : Mut F (Bor (List ℕ) × Unit {0}) Bool} {f : F} (test : List ℕ → Bool) (old : List (List ℕ × V)) (taken : Option (List ℕ × V)) (new : List (List ℕ × V))
     → ((t : List ℕ → Bool) → ComputesKey g t f → IsTaken t old taken new)
     → ((a : Bor (List ℕ) × Unit {0}) (r : Bool) (f' : F) → Called g f a r f' → (r ≡ test a.0.now) × (f' ≡ f)) → IsTaken test old taken new

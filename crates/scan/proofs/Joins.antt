@@ -23,7 +23,7 @@ module _ {V : Type 0} where
   }
 
 module _ {V : Type 0} (f : List ℕ → Option V) where
-  -- where there is no value
+  -- if there is no value
   pub scan_none : (lo : List ℕ) (hi : Option (List ℕ)) (n : ℕ) → HasNone f lo hi → IsScan f lo hi n []
   scan_none lo hi n h = record {
     few = omega arith;
@@ -32,7 +32,7 @@ module _ {V : Type 0} (f : List ℕ → Option V) where
     complete = λ k v w e. absurd (none-some v (sym (h k w) ∙ e));
   }
 
-  -- where no pair is wanted
+  -- if no pair is requested
   pub scan_zero : (lo : List ℕ) (hi : Option (List ℕ)) → IsScan f lo hi 0 []
   scan_zero lo hi = record {
     few = omega arith;
@@ -104,7 +104,7 @@ module _ {V : Type 0} (f : List ℕ → Option V) where
       complete = join_complete;
     }
 
-  -- a list that stays as it is, where there is no value
+  -- a list that is unchanged, if there is no value
   pub adds_none : (lo : List ℕ) (hi : Option (List ℕ)) (limit : ℕ) (old new : List (List ℕ × V)) → new ≡ old → HasNone f lo hi → AddsScan f lo hi limit old new
   adds_none lo hi limit old new e h = ([], e ∙ sym (append-nil old), scan_none lo hi (limit - length old) h)
 
@@ -136,7 +136,7 @@ module _ {V : Type 0} (f : List ℕ → Option V) (lo : List ℕ) (hi : Option (
     pub inside : (k : List ℕ) → within lo (Some from) k ≡ true → is_below k hi ≡ true
     pub added : AddsScan f lo (Some from) limit old new
 
-  -- where it begins
+  -- the start of a walk
   pub walk_start : (from : List ℕ) (old new : List (List ℕ × V)) → from ≡ lo → new ≡ old → HasWalked from old new
   walk_start from old new e n = subst (λ (k : List ℕ). HasWalked k old new) (sym e) (record {
     reached = reaches-refl lo;
@@ -164,7 +164,7 @@ module _ {V : Type 0} (f : List ℕ → Option V) (lo : List ℕ) (hi : Option (
     pub walk_full : limit ≤ length new → AddsScan f lo hi limit old new
     walk_full l = walk_end new (adds_zero f from hi limit new l)
 
-    -- or where there is no value left
+    -- or if there is no value left
     pub walk_over : HasNone f from hi → AddsScan f lo hi limit old new
     walk_over h = walk_end new (adds_none f from hi limit new new refl h)
 

@@ -20,7 +20,7 @@ module _ {V : Type 0} (es : List (List ℕ × V)) (lo : List ℕ) (hi : Option (
     pub count : IsCount es (Some from) i
     pub walked : HasWalked (lookup es) lo hi limit from old new
 
-  -- where it begins
+  -- the start of a walk
   pub take_start : (i : ℕ) (old new : List (List ℕ × V)) → IsCount es (Some lo) i → new ≡ old → IsTaken i old new
   take_start i old new c e = record { from = lo; count = c; walked = walk_start (lookup es) lo hi limit lo old new refl e }
 

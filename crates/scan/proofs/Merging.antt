@@ -272,18 +272,18 @@ module _ {U V : Type 0} (means : U → Option V → Option V) (ms : List (Msg U 
 -- ---- a slot
 
 module _ {U V : Type 0} (means : U → Option V → Option V) (ms : List (Msg U V)) (child : List ℕ → Option V) (from : List ℕ) (stop : Option (List ℕ)) where
-  -- where range-deletes hold all keys, nothing of the child is left
+  -- if range-deletes cover all keys, nothing of the child is left
   pub adds_cleared : (limit : ℕ) (old new : List (List ℕ × V)) → ((k : List ℕ) → within from stop k ≡ true → is_cleared ms k ≡ is_cleared ms from) → is_cleared ms from ≡ true → ((f : List ℕ → Option V) → AreAll f from stop [] → LeavesGaps means ms f from stop → IsMerged means ms f from stop limit [] old new) → AddsScan (applied means ms child) from stop limit old new
   adds_cleared limit old new alike t merged =
       let none : List ℕ → Option V = λ k. None in
       let m : IsMerged means ms none from stop limit [] old new = merged none (scan_none none from stop 1 (λ k w. refl)) (λ k w h. left_by_ranges means ms k None h ∙ (elim (is_cleared ms k) as (λ b. cond b None (none k) ≡ none k) [ true ↦ refl | false ↦ refl ])) in
       adds_moved (applied means ms child) (applied means ms none) from stop stop limit old new (λ k w. w) (λ k w. w) (λ k w. forgets means ms k (child k) None (alike k w ∙ t)) m.added
 
-  -- where they hold none, the child's values stay between the keys with messages
+  -- if they cover none, the child's values remain between the keys with messages
   pub gaps_clear : ((k : List ℕ) → within from stop k ≡ true → is_cleared ms k ≡ false) → LeavesGaps means ms child from stop
   gaps_clear clear k w h = left_by_ranges means ms k (child k) h ∙ ap (λ b. cond b None (child k)) (clear k w)
 
-  -- and everywhere, where no key has messages
+  -- and everywhere, if no key has messages
   pub adds_pointless : (limit : ℕ) (old new : List (List ℕ × V)) → ((k : List ℕ) → within from stop k ≡ true → is_cleared ms k ≡ false) → IsNextPoint ms from stop None → AddsScan child from stop limit old new → AddsScan (applied means ms child) from stop limit old new
   adds_pointless limit old new clear none a = adds_moved (applied means ms child) child from stop stop limit old new (λ k w. w) (λ k w. w) (λ k w. gaps_clear clear k w (none k w)) a
 

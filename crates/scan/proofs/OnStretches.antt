@@ -24,7 +24,7 @@ not_two q a b x y h =
     let far : before a b ≡ false = ap (before a) (sym one) ∙ not_before_from_reaches a a (reaches-refl a) in
     absurd (cc)
 
--- where each key of a range has this value, the first has it
+-- if each key of a range has this value, the first has it
 first_of_one : {V : Type 0} (f : List ℕ → Option V) (from : List ℕ) (stop : Option (List ℕ)) → is_below from stop ≡ true → (w : Option V) → ((k : List ℕ) → within from stop k ≡ true → f k ≡ w) → IsFirst f from stop (pair_of from w)
 first_of_one f from stop some None e = e
 first_of_one f from stop some (Some v) e = let here = in_range from from stop (reaches-refl from) some in (here, e from here, none_start f from)
@@ -81,7 +81,7 @@ module _ {U V : Type 0} (means : U → Option V → Option V) where
       later_none : (k : List ℕ) → within from stop k ≡ true → before from k ≡ true → effects means ms from None ≡ None
       later_none k h b = ⊎_elim (λ r. r None) (λ r. r None) (leaves_or_takes ms from k b (alike k h))
 
-      -- if the messages remove a pair, they remove every pair of the segment
+      -- if the messages remove the pair, they remove the value at every key of the segment
       taken : (k : List ℕ) (o : Option V) → within from stop k ≡ true → before from k ≡ true → effects means ms from (Some p.1) ≡ None → effects means ms from o ≡ None
       taken k o h b e = ⊎_elim (λ r. absurd (none-some p.1 (sym e ∙ r (Some p.1)))) (λ r. r o) (leaves_or_takes ms from k b (alike k h))
 

@@ -13,7 +13,7 @@ use Rattle.message.proofs.KeyOrder.{both}
 use Rattle.scan.specs.Pairs.{IsRising, IsScan, EndsAt, HasAll}
 use Rattle.message.proofs.NextKey.{in_range, before-next, reaches-next}
 
--- two lists, where each element of the one is as R says to each of the other
+-- two lists, if R relates each element of the first to each of the second
 pub pairs_append : {X : Type 0} (R : X → X → Type 0) (xs ys : List X) → AllPairs R xs → AllPairs R ys → All (λ x. All (R x) ys) xs → AllPairs R (xs ++ ys)
 pairs_append R [] ys a b c = b
 pairs_append R (x ∷ xs) ys a b c = AllPairs-cons R x (xs ++ ys)

@@ -28,7 +28,7 @@ module _ {U V : Type 0} (means : U → Option V → Option V) where
     pub reached : reaches lo from ≡ true
     pub none : HasNone (value means n) lo (Some from)
 
-  -- where it begins
+  -- the start of a search
   pub at_start : (n : PNode U V) (lo from : List ℕ) → from ≡ lo → reaches lo lo ≡ true → HasPassed n lo from
   at_start n lo from e r = subst (λ (k : List ℕ). HasPassed n lo k) (sym e) (record { reached = r; none = none_start (value means n) lo })
 
@@ -42,7 +42,7 @@ module _ {U V : Type 0} (means : U → Option V → Option V) where
     pub inside : (k : List ℕ) → is_below k stop ≡ true → is_below k (earlier_end hi (end_of None (seen_slots items) i)) ≡ true
     pub an_end : IfSome stop (λ d. (earlier_end hi (end_of None (seen_slots items) i) ≡ Some d) ⊎ Contains (all_ends s.pending.0) d)
 
-  -- the same in the words of the code: xs and ys are the slots, and `end` is where the slot ends, or the range
+  -- the same in terms of the code: xs and ys are the slots, and `end` is the end of the slot, or of the range
   pub stands_at : {items xs ys : List (Slot U V)} {n : PNode U V} {hi : Option (List ℕ)} {from : List ℕ} {i : ℕ} {s : Slot U V} {end : Option (List ℕ)} (stop : Option (List ℕ))
       → xs ≡ items → ys ≡ items → inner (seen_slots items) ≡ n → i < length xs → i ≡ slot_number (seen_slots xs) from → s ≡ get_or items i s → end ≡ earlier_end hi (end_of None (seen_slots ys) i)
       → is_below from stop ≡ true → ((k : List ℕ) → is_below k stop ≡ true → is_below k end ≡ true) → IfSome stop (λ d. (end ≡ Some d) ⊎ Contains (all_ends s.pending.0) d) → IsAt items n hi from i s stop
@@ -115,7 +115,7 @@ module _ {U V : Type 0} (means : U → Option V → Option V) where
         (λ k w. (below_ends k (subst (λ o. is_below k o ≡ true) (sym e) (both (reaches from k) (is_below k (Some next)) w).1)).0)
         (subst (λ o. AddsScan (value means n) from o limit new newer) e (adds_moved (value means n) (slot_value means s) from stop stop limit new newer (λ k w. w) (λ k w. w) value_there a))
 
-    -- or is the rest of the range, where the stretch has no end
+    -- or is the rest of the range, if the segment has no end
     pub walked_out : (lo : List ℕ) (limit : ℕ) (old new newer : List (List ℕ × V)) → HasWalked (value means n) lo hi limit from old new → AddsScan (slot_value means s) from stop limit new newer → stop ≡ None → AddsScan (value means n) lo hi limit old newer
     walked_out lo limit old new newer walked a e =
         walk_end (value means n) lo hi limit from old new walked newer (adds_moved (value means n) (slot_value means s) from stop hi limit new newer

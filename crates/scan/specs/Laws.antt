@@ -1,4 +1,4 @@
--- Laws of scans that take a range piece by piece. f is any function from keys to values, as what a tree means at each key.
+-- Laws of scans that read a range in batches. f is any function from keys to values, for example the values of a tree.
 use Rattle.std.specs.Prelude.{ℕ, ◌+◌, ◌<◌, List, [], ◌++◌, Option, length}
 use Rattle.pathkey.specs.Keys.{next_key}
 use Rattle.scan.specs.Pairs.{IsScan, EndsAt, HasAll}

@@ -30,7 +30,7 @@ module _ {V : Type 0} where
   Moves stop limit old new rest left = (f : List ℕ → Option V) (lo : List ℕ) (hi : Option (List ℕ)) →
       AreAll f lo hi rest → ((k : List ℕ) → is_below k stop ≡ true → is_below k hi ≡ true) → IsMoved f lo hi stop limit old new left
 
-  -- this holds of each function of which the pairs are all from a key on, and of the end of the range, which is past the key
+  -- this holds of each function whose pairs are these from a key on, and of the end of the range, which is past the key
   abbrev pub OfAllFrom : List ℕ → List (List ℕ × V) → ((List ℕ → Option V) → Option (List ℕ) → Type 0) → Type 0
   OfAllFrom key rest P = (child : List ℕ → Option V) (end : Option (List ℕ)) → AreAll child key end rest → is_below key end ≡ true → P child end
 

@@ -1,4 +1,4 @@
--- What the searches of a range of keys find. f is any function from keys to values, as what a tree means at each key.
+-- The results of searches in a range of keys. f is any function from keys to values, for example the values of a tree.
 use Rattle.std.specs.Prelude.{◌≡◌, ℕ, ◌-◌, ◌<◌, ◌≤◌, ◌⊎◌, Bool, true, List, [], ◌∷◌, ◌++◌, Option, Some, None, MatchOption, length, drop, eqb, All, AllPairs, Contains}
 use Rattle.std.specs.List.{starts_with, prefix_len}
 use Rattle.std.specs.Option.{option_to_list}
@@ -10,7 +10,7 @@ module _ {V : Type 0} where
   abbrev pub HasNone : (List ℕ → Option V) → List ℕ → Option (List ℕ) → Type 0
   HasNone f lo hi = (k : List ℕ) → within lo hi k ≡ true → f k ≡ None
 
-  -- this is the first pair that f has from lo up to and without hi; or none, where f has none there
+  -- this is the first pair of f from lo up to but excluding hi; or none, if f has none there
   abbrev pub IsFirst : (List ℕ → Option V) → List ℕ → Option (List ℕ) → Option (List ℕ × V) → Type 0
   IsFirst f lo hi None = HasNone f lo hi
   IsFirst f lo hi (Some p) = (within lo hi p.0 ≡ true) × (f p.0 ≡ Some p.1) × HasNone f lo (Some p.0)
@@ -19,8 +19,8 @@ module _ {V : Type 0} where
   abbrev pub IsRising : List (List ℕ × V) → Type 0
   IsRising ps = AllPairs (λ p q. before p.0 q.0 ≡ true) ps
 
-  -- these are the first `limit` pairs that f has from lo up to and without hi, or all where there are fewer: each is a
-  -- pair of f in the range, they rise, and no pair of the range is missing unless there are `limit` before it
+  -- these are the first `limit` pairs of f from lo up to but excluding hi, or all if there are fewer: each is a pair of
+  -- f in the range, they are sorted, and no pair of the range is missing unless there are `limit` before it
   pub record IsScan (f : List ℕ → Option V) (lo : List ℕ) (hi : Option (List ℕ)) (limit : ℕ) (ps : List (List ℕ × V)) : Type 0 where
     pub few : length ps ≤ limit
     pub sound : All (λ p. (within lo hi p.0 ≡ true) × (f p.0 ≡ Some p.1)) ps

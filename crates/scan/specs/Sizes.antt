@@ -4,7 +4,7 @@ use Rattle.std.specs.Option.{option_to_list}
 use Rattle.message.specs.Ranges.{before}
 use Rattle.scan.specs.Pairs.{from_unpassed}
 
--- a count, raised by m where it is said so, and to 2^64 - 1 at most
+-- a count, raised by m if the flag is set, but at most to 2^64 - 1
 abbrev pub raised : Bool → ℕ → ℕ → ℕ
 raised said m count = cond said (min (count + m) (2 ^ 64 - 1)) count
 
@@ -31,6 +31,6 @@ module _ {V : Type 0} where
   abbrev pub size_after : List ℕ → Bool → List (List ℕ × V) → ℕ → ℕ
   size_after lo all ps n = cond (is_walked lo all ps) (min (2 * walked_for lo ps n) 256) (size_past (λ k. before k lo) ps n)
 
-  -- a piece of n pairs, or of fewer where no other is left: the one that was given, and those at hand
+  -- a batch of n pairs, or of fewer if no other is left: the one that was returned, and those read ahead
   abbrev pub IsPiece : ℕ → Option (List ℕ × V) → Bool → List (List ℕ × V) → Type 0
   IsPiece n given all ps = (length (option_to_list given ++ ps) ≤ n) × (all ≡ false → length (option_to_list given ++ ps) ≡ n)

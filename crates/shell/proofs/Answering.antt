@@ -79,7 +79,7 @@ line_done means means' Wrote line q read f first m =
     does (inl is) first out after answers = inl (subst (λ (r : Request). Answers first r out after) is answers)
     does (inr lacks) first out after answers = inr (lacks.1, subst (λ (r : Request). Answers first r out after) lacks.0 answers)
 
--- what was meant after a line is meant after the steps that follow it
+-- a state that is possible after a line is possible after the steps that follow it
 pub then_kept : (means : States) (mid means' : Worlds) (at : ℕ) (step : State → List ℕ → State → Type 0) (Wrote : List ℕ → Type 0)
     → Leads means (Meant mid at) step Wrote → ((w : World) → mid w → means' w) → Leads means (Meant means' at) step Wrote
 then_kept means mid means' at step Wrote f kept first m =

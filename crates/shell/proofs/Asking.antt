@@ -35,7 +35,7 @@ past_is_asked s l = go (snap_parsed s) l
     go (Ok name) (Err e) = tt
     go (Err e) l = tt
 
--- memory was wanting where a look was read
+-- an allocation failed while a read was parsed
 abbrev lacking : Result ReadCall Errno
 lacking = Err ENOMEM
 
@@ -55,7 +55,7 @@ look_read s wanted l q looked (inr lacks) = inr (lacks, past_is_asked s wanted)
 look_read s wanted l q (inl is) (inl read) = inl (read ∙ ap (past s) is)
 look_read s wanted l q (inr is) (inl read) = rw (read ∙ ap (past s) is) (past_refused s wanted)
 
--- ---- moments
+-- ---- timestamps
 -- two words or more
 abbrev TwoWords : List (List ℕ) → Type 0
 TwoWords [] = ⊥

@@ -1,4 +1,4 @@
--- Where memory is never wanting, the answers to a script and the world after it follow from its lines.
+-- If no allocation fails, the answers to a script and the world after it follow from its lines.
 use Rattle.std.proofs.Common.{◌≡◌, ◌≢◌, ◌⊎◌, ℕ, List, [], ◌∷◌, ◌++◌, ◌==◌, true, false, cond, refl, sym, ap, subst, ◌∙◌, inl, inr, append-nil, append_assoc, codes, length}
 use Rattle.std.specs.List.{All, flat_map}
 use Rattle.std.proofs.lemmas.List.Elements.{All-head, All-tail}
@@ -128,7 +128,7 @@ abbrev IsSettled : Answer → Type 0
 IsSettled (Replied r) = ⊥
 IsSettled (Settled s) = Unit {0}
 
--- the answer to a snapshot call that memory was there for
+-- the answer to a snapshot call for which no allocation failed
 settles : (w : World) (e : Event) (r : Snapped) (text rest : List ℕ) → Fits w e (Settled r) → text ≡ reply_text (settled_reply r) → LacksNothing (text ++ rest) → r ≡ settled_in (outcome w e).1
 settles w e r text rest (inl is) reported lacks = ap settled_in is
 settles w e r text rest (inr lack) reported lacks = absurd (lack_seen text rest (reported ∙ ap (λ (x : Snapped). reply_text (settled_reply x)) (ap settled_in (lack_is w e r lack))) lacks)

@@ -41,7 +41,7 @@ lines_after (l ∷ ls) rest free =
     ∙ lines_at l (text_of_lines ls ++ rest) free.0
     ∙ ap (λ t. l ∷ t) (lines_after ls rest free.1)
 
--- what has no line feed is the last line, where it is not empty
+-- a text without a line feed is the last line, if it is not empty
 pub lines_last : (l : List ℕ) → IsFree l → lines_of l ≡ last_line l
 lines_last [] free = refl
 lines_last (x ∷ l) free =
@@ -97,7 +97,7 @@ pub lines_weaker : (D E : Line) → ((a : State) (line reply : List ℕ) (b : St
 lines_weaker D E f [] a b out did = did
 lines_weaker D E f (l ∷ ls) a b out (after, reply, rest, does, is, did) = (after, reply, rest, f a l reply after does, is, lines_weaker D E f ls after b rest did)
 
--- and of where they end early
+-- and of an early end
 pub stopped_weaker : (D E : Line) (H I : Cut) → ((a : State) (line reply : List ℕ) (b : State) → D a line reply b → E a line reply b)
     → ((part rest : List ℕ) → H part rest → I part rest)
     → (first : State) (text written : List ℕ) (after : State) → Stopped D H first text written after → Stopped E I first text written after
@@ -136,7 +136,7 @@ does_held held items a b reply holds does = go (cases_lt 65536 (length held))
         subst P same does
     go (inr short) = subst (λ (l : List ℕ). Does a l reply b) (holds.short short) does
 
--- and where no answer may be a fault
+-- and if no answer may be a fault
 pub answered_held : (strict : Bool) (held items : List ℕ) (a b : State) (reply : List ℕ) → Holds held items → Answered strict a items reply b → Answered strict a held reply b
 answered_held strict held items a b reply holds (does, passes) = (does_held held items a b reply holds does, passes)
 
@@ -251,7 +251,7 @@ at_most_one : (l : List ℕ) → length (last_line l) ≤ 1
 at_most_one [] = omega arith
 at_most_one (x ∷ l) = omega arith
 
--- where an early end leaves a script that was read to its end
+-- the state after an early end of a script that was read to its end
 pub stopped_at_end : (D : Line) (H : Cut) (text : List ℕ) (first before after : State) (out left part rest : List ℕ) → Went D [] text first out left before → IsFree left
     → Script before (last_line left) (part ++ rest) after → H part rest → Stopped D H first text (out ++ part) after
 stopped_at_end D H text first before after out left part rest w free last how = record {

@@ -36,7 +36,7 @@ pub record FailedIn (D : Line) (H : Cut) (held piece : List ℕ) (first : State)
   pub how : H part rest
   pub is : written ≡ replies ++ part
 
--- a last line without its line feed, which counts where it is not empty
+-- a last line without its line feed, if it is not empty
 abbrev pub last_line : List ℕ → List (List ℕ)
 last_line [] = []
 last_line (x ∷ xs) = (x ∷ xs) ∷ []

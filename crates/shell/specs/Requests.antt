@@ -92,7 +92,7 @@ third_command name p third =
 abbrev pub write_command : List ℕ → List ℕ → List ℕ → Request
 write_command p off hex = with_value (λ at. with_value (λ bytes. on_path (λ path. Write path at bytes) (path_of p)) (bytes_of hex)) (number_of off)
 
--- to read from an offset on at most so many bytes
+-- to read at most so many bytes from an offset on
 abbrev pub read_command : List ℕ → List ℕ → List ℕ → Request
 read_command p off count = with_value (λ at. with_value (λ n. on_path (λ path. Read path at n) (path_of p)) (number_of count)) (number_of off)
 

@@ -74,7 +74,7 @@ Does w line text w' = Answers w (request_of line) text w' ⊎ (IsAsked (request_
 abbrev pub Line : Type 1
 Line = State → List ℕ → List ℕ → State → Type 0
 
--- a line is answered; where a run is strict, by no fault and no error
+-- a line is answered; if a run is strict, by no fault and no error
 abbrev pub Answered : Bool → Line
 Answered strict s line text s' = Does s line text s' × (strict ≡ true → is_fault text ≡ false)
 
@@ -105,13 +105,13 @@ Cut = List ℕ → List ℕ → Type 0
 abbrev pub IsCut : Cut
 IsCut part rest = ⊤
 
--- anything of it where a write failed; where a strict run ended all of it, which is a fault or an error
+-- any part of it if a write failed; all of it if a strict run ended, and then it is a fault or an error
 abbrev pub IsHalt : Bool → Halt → Cut
 IsHalt strict halt.Write part rest = ⊤
 IsHalt strict halt.Fault part rest = (strict ≡ true) × (rest ≡ []) × (is_fault part ≡ true)
 
--- where an early end leaves a script: the lines `done` and the line `last`, if there is one, were done,
--- and all answers to `done` and a beginning of the answer to `last` were written
+-- the state after an early end: the lines `done` and the line `last`, if there is one, were executed, and all answers
+-- to `done` and a prefix of the answer to `last` were written
 pub record Stopped (D : Line) (H : Cut) (first : State) (text written : List ℕ) (after : State) : Type 0 where
   pub done : List (List ℕ)
   pub last : List (List ℕ)

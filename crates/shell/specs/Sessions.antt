@@ -7,7 +7,7 @@ use Rattle.shell.specs.declared.request.ReadCall.{ReadCall}
 use Rattle.shell.specs.Runs.{Worlds}
 use Rattle.shell.specs.Script.{call_of}
 
--- the answer fits each world that was meant, and the next one is meant
+-- the answer fits each possible world, and the next one is possible then
 abbrev pub Goes : Worlds → Worlds → Event → Answer → Type 0
 Goes meant means e a = (w : World) → meant w → Fits w e a × means (next w e a)
 

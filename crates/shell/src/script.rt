@@ -87,8 +87,8 @@ pub enum Ending {
 }
 
 // Runs all lines of the reader on a session, as `run_script` does on a volume. If the watch is strict, it stops after the
-// first line that is answered by a fault or an error. A session that is shared with others means no world that a contract
-// could name, and then nothing is promised.
+// first line that is answered by a fault or an error. The world of a session that is shared with others is not
+// determined, so nothing is promised about it.
 pub(crate) fn run_lines<S: Session, R: Read, W: Write, P: Pace, V: Watch>(
     alloc: Global,
     session: &mut S,

@@ -41,7 +41,7 @@ hold_more held items new bytes holds free short long = record {
   free = free_more held bytes holds.free (free_of bytes free);
 }
 
--- where nothing is held, the line begins with these bytes
+-- if nothing is buffered, the line begins with these bytes
 pub hold_first : (held items bytes : List ℕ) → Holds held items → All (λ b. b ≢ 10) bytes → length items ≡ 0 → Holds (held ++ bytes) bytes
 hold_first held [] bytes holds free none = hold_more held [] bytes bytes holds free (λ few. refl) (λ many. omega arith)
 hold_first held (x ∷ items) bytes holds free none = absurd (omega arith)

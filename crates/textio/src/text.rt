@@ -1,4 +1,4 @@
-//! Writes numbers, and bytes in hexadecimal and in percent form.
+//! Writes numbers, and bytes in hexadecimal and in percent form. `docs/FORMATS.md` defines these forms.
 ghost use Rattle.std.specs.Prelude.{◌≡◌, ◌*◌, ◌≤◌, ◌<◌, ◌↔◌, All, MatchOption, OnOk, OnErr, decimal, flat_map, length, slice_index, take, true};
 ghost use Rattle.std.specs.Io.KnownBytes.{Appends};
 ghost use Rattle.reference.specs.Image.{path_text, percent, two_digits};

@@ -1,4 +1,6 @@
-//! Numbers, bytes and paths as words of a line.
+//! Decodes words of a line as numbers, bytes and paths. `docs/FORMATS.md` defines their forms.
+//!
+//! Decimal and hexadecimal words have one spelling for each value.
 ghost use Rattle.std.specs.Prelude.{◌≡◌, ◌<◌, ◌≤◌, ◌⊎◌, length, Err, IsTrue, IfOk, OnErr, is_some};
 ghost use Rattle.std.specs.List.{list_all};
 ghost use Rattle.std.specs.Char.{is_ascii_digit, is_ascii_hexdigit};
@@ -11,7 +13,7 @@ use pathkey::{Errno, NoMemory, Path};
 use percent_encoding::percent_decode;
 use std::alloc::Global;
 
-/// With so many digits or fewer, a number is below 2^64.
+/// A number with at most this many digits is below 2^64.
 const SAFE_DIGITS: usize = 19;
 
 /// The number that a word writes in decimal: `0`, or digits without a leading zero, below 2^64.

@@ -4,7 +4,7 @@ ghost use Rattle.textio.specs.Lines.{at_sign, words_of};
 
 use memchr::memchr;
 
-/// The first word of a line, and what follows its space; none where the line is one word.
+/// The first word of a line, and the text after its space; `None` if the line is one word.
 pub fn split_word(line: &[u8]) -> Option<(&[u8], &[u8])>
     ensures { MatchOption result (words_of line.now ≡ line.now ∷ [])
         (λ cut. words_of line.now ≡ cut.0.now ∷ words_of cut.1.now) }
@@ -14,7 +14,7 @@ pub fn split_word(line: &[u8]) -> Option<(&[u8], &[u8])>
     Some((word, &rest[1..]))
 }
 
-/// The first line of a text, and what follows its line feed; none where the text has none.
+/// The first line of a text, and the text after its line feed; `None` if the text has none.
 pub fn split_line(text: &[u8]) -> Option<(&[u8], &[u8])>
     ensures { MatchOption result (All (λ b. b ≢ 10) text.now)
         (λ cut. (text.now ≡ cut.0.now ++ 10 ∷ cut.1.now) × All (λ b. b ≢ 10) cut.0.now) }
