@@ -93,7 +93,7 @@ found_look t p date b is = ap seen is
 pub are_bytes : (w : List ℕ) → ((i : ℕ) → Fits w8 (get_or w i 0)) → AreBytes w
 are_bytes w fits = All-from_get_or (λ b. b < 256) w 0 (λ i h. let at : Fits w8 (get_or w i 0) = fits i in omega arith)
 
--- a list is empty where its length is 0
+-- a list is empty if its length is 0
 pub empty_is : (w : List ℕ) (empty : Bool) → empty ≡ (length w == 0) → is_empty w ≡ empty
 empty_is [] empty h = sym h
 empty_is (b ∷ w) empty h = sym (h ∙ ne_eqb (suc (length w)) 0 (λ e. cc))

@@ -80,7 +80,7 @@ pub fn key(alloc: Global, number: u8) -> Result<Key, NoMemory> {
     Key::from_bytes(alloc, &[number])
 }
 
-/// The first byte of a key, or 0 where it has none.
+/// The first byte of a key, or 0 if it is empty.
 pub fn number(key: &Key) -> u8 {
     key.as_bytes().first().copied().unwrap_or(0)
 }

@@ -6,7 +6,7 @@ ghost use Rattle.std.specs.Prelude.{◌<◌};
 pub struct Random(pub u32);
 
 impl Random {
-    /// A number below `end`, or 0 where that is 0.
+    /// A number below `end`, or 0 if that is 0.
     pub fn below(&mut self, end: u32) -> u32
         ensures { 0 < end → result < end }
     {

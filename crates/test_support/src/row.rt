@@ -25,7 +25,7 @@ impl Row {
         }
     }
 
-    /// The first `limit` pairs from the key `lo` up to and without `hi`, or all from `lo` on where that is none.
+    /// The first `limit` pairs from the key `lo` up to but excluding `hi`, or all from `lo` on without `hi`.
     pub fn pairs(
         &self,
         alloc: Global,

@@ -20,8 +20,8 @@ IsNextStored d p from (Some x) = (d (block_key p x.0) ≡ Some x.1) × ((i : ℕ
 abbrev pub block_at : Blocks → Path → ℕ → Option (List ℕ)
 block_at d p x = d (block_key p (x / 4096))
 
--- the next run of stored bytes of the file b of p, from off on: those from number `from` up to `to`. There is none where both are
--- the file's length
+-- the next run of stored bytes of the file b of p, from off on: bytes `from` up to `to`. There is none if both are the file's
+-- length
 pub record IsRun (d : Blocks) (p : Path) (b : List ℕ) (off from to : ℕ) : Type 0 where
   pub order : from ≤ to
   pub within : to ≤ length b
@@ -42,7 +42,7 @@ TellsRun d p off here history_of =
     (λ run. (date : ℕ) × (b : List ℕ) × (here ≡ Found (File date b)) × IsRun d p b off run.0 run.1)
     (λ fault. (first_fault (faults_of_file here EISDIR) ≡ Some fault) ⊎ (fault ≡ ENOMEM))
 
--- the same in each tree that the indexes mean
+-- the same in each tree to which the indexes abstract
 abbrev pub RunsIn : Indexes → Path → ℕ → Result (ℕ × ℕ) Errno → Type 0
 RunsIn i p off history_of = (t : Tree) → MeanTree i t → TellsRun (blocks i.block) p off (entry_at t p) history_of
 

@@ -26,8 +26,8 @@ pub record IsForkOf (r : FsRoot) (v : PVolume) : Type 0 where
 abbrev pub with_live : FsRoot → PVolume → PVolume
 with_live r v = record v { live = r; marks = no_marks v.marks.given }
 
--- another live tree was to take the place of the volume's: it has taken it, and the volume means the worlds that it meant with that
--- tree in the place of the live one; or nothing has changed
+-- the live tree was to be replaced by another: it was, and the volume abstracts to the same worlds with that tree as the live one;
+-- or nothing changed
 pub record RestoresTree {E : Type 0} (r : FsRoot) (answer : Result (Unit {0}) E) (old new : PVolume) : Type 0 where
   pub done : IfOk answer (λ _. new ≡ with_live r old)
   pub means : IfOk answer (λ _. (w : World) (t : Tree) → Means old w → MeanRooted r t → Means new (record w { live = t }))

@@ -33,7 +33,7 @@ pub record Finds (s : List ℕ) (answer : Result FsRoot Errno) (w : World) : Typ
   pub found : MatchResult answer (λ i. (t : Tree) × (finite.get w.snapshots s ≡ Some t) × MeanRooted i t) (λ e. (e ≡ ENOENT) ⊎ (e ≡ ENOMEM))
   pub none : (answer ≡ Err ENOENT) ↔ (finite.get w.snapshots s ≡ None)
 
--- the flush of the first slot than which none has more messages, and it can be done there; none exactly where nothing is pending
+-- the flush of the first of the fullest slots, which can be done; none exactly if no message is pending
 pub record NamesHeaviest {U V : Type 0} (step : Option TreeStep) (root : PNode U V) : Type 0 where
   pub nothing : (step ≡ None) ↔ (total Pending root ≡ 0)
   pub first : IfSome step (FlushesHeaviest (loads [] root))

@@ -1,4 +1,4 @@
--- What became of a volume in which a part of a file was made zeros.
+-- The effect of setting a part of a file to zero on a volume.
 use Rattle.std.specs.Prelude.{◌≡◌, ◌≤◌, ◌<◌, ◌*◌, ◌+◌, ℕ, length, None, Result, IfOk}
 use Rattle.block_index.specs.Means.{blocks}
 use Rattle.block_index.specs.Updates.{means as block_means}
@@ -27,7 +27,7 @@ Compiles i p off n at compiled = IfOk compiled (λ x. IsPunched i p off n at x.0
 abbrev pub hole_in : Path → ℕ → ℕ → ℕ → World → Event
 hole_in p off n at w = Ask (zeroing p off n w.live) at
 
--- each index took its half of one batch, which has few messages, however many bytes become zeros
+-- each index received its half of one batch, which has few messages, however many bytes become zeros
 pub record TakesFew (old new : PLive) : Type 0 where
   pub msgs : Messages
   pub few : (length msgs.meta ≤ 1) × (length msgs.block ≤ 3)

@@ -78,8 +78,8 @@ abbrev pub can_take : Index → ℕ → PLive → Bool
 can_take Meta i l = can_take_at i l.marks.meta l.indexes.meta.tree.root
 can_take Block i l = can_take_at i l.marks.block l.indexes.block.tree.root
 
--- the root's slot of which a job would move the most messages, how many, and how many a node may hold; none only if no job
--- would move any
+-- the root's slot whose job would move the most messages, how many, and the capacity of a node; none only if no job would
+-- move any
 abbrev pub BacklogIn : Index → Option Backlog → PLive → Type 0
 BacklogIn Meta o l = MatchOption o (MovesNone l.marks.meta l.indexes.meta.tree) (λ b. IsHeaviest b.slot b.messages b.room l.marks.meta l.indexes.meta.tree)
 BacklogIn Block o l = MatchOption o (MovesNone l.marks.block l.indexes.block.tree) (λ b. IsHeaviest b.slot b.messages b.room l.marks.block l.indexes.block.tree)

@@ -30,7 +30,7 @@ pub record PLive : Type 0 where
   pub indexes : Indexes
   pub marks : PMarks
 
--- no marks, where so many jobs were taken
+-- no marks, after so many jobs were taken
 abbrev pub no_marks : ℕ → PMarks
 no_marks given = record { meta = []; block = []; given = given }
 

@@ -1,4 +1,4 @@
--- What became of a volume in which an mtime was set.
+-- The effect of setting an mtime on a volume.
 use Rattle.std.specs.Prelude.{◌≡◌, ◌≤◌, ◌⊎◌, ℕ, Bool, length, [], Result, IfOk}
 use Rattle.call_compiler.specs.Compiled.{Messages, messages}
 use Rattle.call_compiler.specs.Mtimes.{SetsMtime as CompilesMtime, mtime_set}
@@ -25,15 +25,15 @@ pub record Asks (i : Indexes) (p : Path) (at : ℕ) (compiled : Result (Reply ×
   pub compiles : Compiles i p at compiled
   pub is_root : root ≡ is_root p
 
--- the world in which what is at the path has this mtime; the same world where nothing is there
+-- the world in which the entry at the path has this mtime; the same world if there is none
 abbrev pub with_mtime : Path → ℕ → World → World
 with_mtime p at w = record w { live = (mtime_set at w.live p).0 }
 
--- the reply is that of the world's live tree, and the world with the mtime is meant
+-- the reply is that of the world's live tree, and the volume abstracts to the world with the mtime
 abbrev pub Sets : Path → ℕ → Reply → PVolume → World → Type 0
 Sets p at r new w = (r ≡ (mtime_set at w.live p).1) × Means new (with_mtime p at w)
 
--- the index for metadata took the one message, and that for blocks is as it was
+-- the index for metadata received the one message, and that for blocks is unchanged
 pub record TakesOne (old new : PLive) : Type 0 where
   pub msgs : Messages
   pub one : (length msgs.meta ≤ 1) × (msgs.block ≡ [])

@@ -156,9 +156,9 @@ begun v = record { volume = v; held = [] }
 abbrev pub ended : PRun → PVolume
 ended r = record (r.volume) { marks = without_held r.held r.volume.marks }
 
--- a run of events with these answers: the volume meant one world; from it the calls alone, in their order, are a legal
--- history, and the volume now means the world that they leave; each event was done by its own call, one after the other,
--- and the jobs that were left were cancelled
+-- a run of events with these answers: the volume abstracted to one world; from it the calls alone, in their order, are a
+-- legal history, and the volume then abstracts to the world after them; each event was executed by its own call, one
+-- after the other, and the jobs that were left were cancelled
 pub record Ran (events : List Event) (answers : List Answer) (old new : PVolume) : Type 0 where
   pub world : World
   pub meant : Means old world

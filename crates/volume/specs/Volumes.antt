@@ -1,4 +1,4 @@
--- What callers see of a volume, and which world it means.
+-- Volumes as contracts see them, and the worlds to which they abstract.
 use Rattle.std.specs.Prelude.{◌≡◌, ℕ, ◌≤◌, ◌↔◌, List, Option, Some, None, IsSome, Contains, ⊤}
 use Rattle.std.specs.BTreeMap.{BTreeMap}
 use Rattle.std.specs.FinMap as finite
@@ -44,7 +44,7 @@ pub record MeanRooted (r : FsRoot) (t : Tree) : Type 0 where
   pub indexes : MeanTree r.indexes t
   pub root : moment t ≡ r.modified
 
--- they mean some directory tree
+-- they abstract to some directory tree
 pub record MeanSome (r : FsRoot) : Type 0 where
   pub tree : Tree
   pub means : MeanRooted r tree
@@ -60,8 +60,8 @@ Both R (Some a) (Some b) = R a b
 abbrev pub Alike : {A B : Type 0} → (A → B → Type 0) → finite.FinMap by_bytes A → finite.FinMap by_bytes B → Type 0
 Alike R m n = (s : List ℕ) → Both R (finite.get m s) (finite.get n s)
 
--- the volume means the world: its live indexes mean the live tree, it has the world's snapshots and no others, and each
--- of its snapshots means the world's of that name
+-- the volume abstracts to the world: its live indexes to the live tree, and its snapshots to the world's snapshots of
+-- the same names, with no others
 pub record Means (v : PVolume) (w : World) : Type 0 where
   pub live : MeanRooted v.live w.live
   pub snapshots : Alike MeanRooted v.snapshots w.snapshots
@@ -70,8 +70,8 @@ pub record Means (v : PVolume) (w : World) : Type 0 where
 abbrev pub most_snapshots : ℕ
 most_snapshots = 64
 
--- what the type of volumes keeps: a volume means a world, has at most 64 snapshots, its live trees are lawful, and each of its
--- marks, of which there are at most 64, has a slot of its own in a live root
+-- the invariant of volumes: a volume abstracts to a world, has at most 64 snapshots, its live trees are lawful, and each of
+-- its marks, of which there are at most 64, has a slot of its own in a live root
 pub record IsVolume (v : PVolume) : Type 0 where
   pub world : World
   pub means : Means v world

@@ -37,8 +37,8 @@ block_bytes b i = take 4096 (drop (4096 * i) b)
 abbrev pub IsBlock : List ℕ → ℕ → List ℕ → Type 0
 IsBlock b i v = (zeros : ℕ) × (block_bytes b i ≡ v ++ replicate zeros 0)
 
--- these are the first `limit` stored blocks of a file from a number on, or all where there are fewer: each has its bytes, their
--- numbers rise, and a block that is missing has only zeros, or there are `limit` before it
+-- these are the first `limit` stored blocks of a file from a number on, or all if there are fewer: each has its bytes, they are
+-- sorted by number, and a missing block has only zeros, or there are `limit` before it
 pub record AreBlocks (b : List ℕ) (from limit : ℕ) (bs : List (ℕ × List ℕ)) : Type 0 where
   pub few : length bs ≤ limit
   pub sound : All (λ x. (from ≤ x.0) × (x.0 < most_blocks) × IsBlock b x.0 x.1) bs

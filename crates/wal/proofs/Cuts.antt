@@ -116,7 +116,7 @@ shorter_behind h f s bytes rest e = let size = after_entry h f s bytes rest e in
 pub too_few : (bytes : List ℕ) → length bytes < 48 → LacksEntry bytes
 too_few bytes few = λ h f s rest fits fits2 e. let size = after_entry h f s bytes rest e in omega arith
 
--- the parts of an entry, where its lengths fit
+-- the parts of an entry, if its lengths fit
 lengths_once : (h k : EntryHeader) (m n : ℕ) (r f s rest : List ℕ) → IsWord m → IsWord n → IsWord (length f) → IsWord (length s)
     → numbers h ++ (word m ++ (word n ++ r)) ≡ entry k f s ++ rest → (numbers h ≡ numbers k) × (m ≡ length f) × (n ≡ length s) × (r ≡ f ++ (s ++ rest))
 lengths_once h k m n r f s rest pm pn pf ps e =

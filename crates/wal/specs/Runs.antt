@@ -38,7 +38,7 @@ abbrev pub outcome_of : World → Effect → World × Answer
 outcome_of w (Happens e) = outcome w e
 outcome_of w (HasMtime p at) = (with_mtime p at w, Replied (mtime_set at w.live p).1)
 
--- an answer that fits it: that one, or an allocation failure where there may be one
+-- an answer that fits it: that one, or an allocation failure if one is possible
 abbrev pub FitsEffect : World → Effect → Answer → Type 0
 FitsEffect w (Happens e) a = Fits w e a
 FitsEffect w (HasMtime p at) a = (a ≡ Replied (mtime_set at w.live p).1) ⊎ (a ≡ Replied (Fault ENOMEM))
