@@ -1,4 +1,5 @@
-//! Attributes as plain numbers, for C. An absent attribute is 0.
+//! Attributes as plain numbers, for C. An absent attribute is 0. Converting valid attributes to fields and back gives
+//! the same attributes.
 ghost use Rattle.std.specs.Prelude.{◌≡◌};
 ghost use Rattle.attributes.specs.RawAttributes.{basic_of, device_of, fields_of, kind_number, kind_of, link_of, no_fields, time_of};
 

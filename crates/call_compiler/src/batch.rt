@@ -1,4 +1,4 @@
-//! The messages that a call is compiled to.
+//! The messages that a call is compiled to, for each of the two indexes. A call that fails or only reads has none.
 ghost use Rattle.std.specs.Prelude.{◌≡◌, [], ◌∷◌, IfOk};
 ghost use Rattle.call_compiler.specs.Compiled.{messages, no_messages};
 ghost use Rattle.call_compiler.specs.Touches.{needed_touches};

@@ -1,4 +1,5 @@
-//! Holes: bytes of a file that become zeros and are not stored.
+//! Holes: bytes of a file that become zeros and are not stored. A hole has the effect on the tree of a write of zeros,
+//! and no message of it has more than a block of zeros.
 ghost use Rattle.std.specs.Prelude.{◌≡◌, ◌≢◌, ◌<◌, ◌≤◌, ◌*◌, ◌+◌, ◌/◌, ◌^◌, ◌++◌, [], IfOk, OnOk, replicate};
 ghost use Rattle.block_index.specs.Changed.{Messages as BlockMessages};
 ghost use Rattle.block_index.specs.Means.{blocks};

@@ -1,4 +1,5 @@
-//! Calls that remove an entry: `unlink`, `rmdir` and `rmtree`.
+//! Calls that remove an entry: `unlink`, `rmdir` and `rmtree`. A removal sends a constant number of messages: a subtree
+//! is removed by one range-delete in each index.
 ghost use Rattle.std.specs.Prelude.{◌≡◌, [], ◌∷◌, IfOk, not};
 ghost use Rattle.call_compiler.specs.Compiled.{IsCompiled, messages};
 ghost use Rattle.meta_index.specs.Means.{IsMeantBy, lookup_answer};

@@ -1,4 +1,5 @@
-//! Calls that change the bytes of a file: `write` and `truncate`.
+//! Calls that change the bytes of a file: `write` and `truncate`. A write sends one patch for each block that it
+//! overlaps, and at most one message for the metadata.
 ghost use Rattle.std.specs.Prelude.{◌≡◌, ◌≢◌, ◌<◌, ◌≤◌, ◌^◌, [], IfOk, length};
 ghost use Rattle.block_index.specs.Changed.{CutsWhereMeant};
 ghost use Rattle.call_compiler.specs.Compiled.{IsCompiled, growth, has_grown, messages};

@@ -1,4 +1,5 @@
-//! The digest of an image, which is in the first line of a delta.
+//! The digest of an image, which is in the first line of a delta: a delta is applied only to the tree whose image has
+//! this digest.
 ghost use Rattle.std.specs.Prelude.{◌≡◌, ◌<◌, IfOk, length};
 ghost use Rattle.reference.specs.Image.{Second, image};
 ghost use Rattle.reference.specs.Tree.{Tree};

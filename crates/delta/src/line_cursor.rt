@@ -1,4 +1,7 @@
 //! Reads the image of a tree line by line, as it is printed.
+//!
+//! The current line, the printed bytes that were not read yet, and the rest of the printer's image are together the
+//! lines from the cursor on.
 ghost use Rattle.std.specs.Prelude.{◌≡◌, ◌≢◌, ◌<◌, ◌≤◌, All, length};
 
 use images::ImagePrinter;

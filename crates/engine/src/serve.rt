@@ -1,4 +1,5 @@
-//! An engine from its opening to its end, with each client in a thread of its own, and with flushers in further threads.
+//! Runs an engine from its opening to its end, with each client in a thread of its own, and with flushers in further
+//! threads. All threads have ended when it returns.
 ghost use Rattle.std.specs.Prelude.{◌≡◌, ◌≤◌, IfOk, IfErr};
 ghost use Rattle.engine.specs.Clients.{newcomer, fresh};
 ghost use Rattle.engine.specs.Ends.{Worked, Served, GivesVolume};

@@ -1,4 +1,4 @@
-//! Tree steps between the calls.
+//! Tree steps between the calls. They do not change the world of the volume.
 ghost use Rattle.std.specs.Prelude.{◌≡◌, ◌≤◌, ◌<◌, ◌⊎◌, true, false};
 ghost use Rattle.reference.specs.Worlds.{World};
 ghost use Rattle.volume.specs.Volumes.{Means};

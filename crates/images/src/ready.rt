@@ -1,4 +1,5 @@
-//! Lines of an image that are printed ahead, and handed out in parts.
+//! Lines of an image that are printed ahead, and handed out in parts. Bytes that were handed out, followed by the ready
+//! ones and the lines after the position, are the image.
 ghost use Rattle.std.specs.Prelude.{◌≡◌, ◌+◌, ◌≤◌, [], IfErr, IfOk, OnErr, OnOk, length};
 ghost use Rattle.reference.specs.Tree.{Tree};
 ghost use Rattle.images.specs.Printings.{HandsOut, IsReady, ready_text};

@@ -1,4 +1,7 @@
-//! The metadata index, and the entry at a path.
+//! The type `MetaIndex`: look-ups, listings and messages of the metadata.
+//!
+//! If the index abstracts to a directory tree, each result is the one for that tree, and the messages change the tree
+//! as their contracts say.
 ghost use Rattle.std.specs.Prelude.{◌≡◌, ◌+◌, ◌*◌, ◌<◌, ◌≤◌, ◌∷◌, ◌++◌, ℕ, List, [], IfOk, OnOk, IsTrue, None, length, not, true};
 ghost use Rattle.std.specs.Result.{result_err};
 ghost use Rattle.meta_index.specs.Asked.{AsksFor, IsFrugal};

@@ -1,4 +1,4 @@
-//! Updates of the metadata at one path: the length of a file set or raised, and the mtime.
+//! Updates of the metadata at one path: the length of a file set or raised, and the mtime. An update creates no entry.
 ghost use Rattle.std.specs.Prelude.{◌≡◌, Some, Option, IfOk, IfSome, is_some};
 ghost use Rattle.meta_index.specs.Updates.{joins, means as meant};
 ghost use Rattle.reference.specs.declared.reply.Meta.{Meta as MetaValue};

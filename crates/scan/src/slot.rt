@@ -1,4 +1,5 @@
-//! The effect of a slot's messages on a segment of its child.
+//! The effect of a slot's messages on a segment of its child. Within a segment each message affects all keys or none,
+//! so the first pair of the child decides for all of it.
 ghost use Rattle.std.specs.Prelude.{◌≡◌, ◌<◌, IfOk, None, length};
 ghost use Rattle.std.specs.Option.{option_copied};
 ghost use Rattle.message.specs.Ranges.{earlier_end};

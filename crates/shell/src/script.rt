@@ -1,4 +1,7 @@
 //! Runs a script: reads it piece by piece, executes each line, and writes its reply.
+//!
+//! The replies written so far are those of the executed lines, in order; a run that ends early has written a prefix of
+//! its last reply.
 ghost use Rattle.std.specs.Prelude.{◌≡◌, ◌≢◌, ◌≤◌, ◌<◌, ◌+◌, ◌∷◌, ℕ, List, [], length, vec_capacity, IfErr, IfOk, OnOk, OnErr};
 ghost use Rattle.std.specs.Io.KnownBytes.{Appends, Keeps};
 ghost use Rattle.textio.specs.Parts.{AppendsPart};

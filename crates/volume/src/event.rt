@@ -1,4 +1,4 @@
-//! The events of a run of a volume, and their answers.
+//! The events of a run of a volume, and their answers. An answer has the case of its event.
 
 use call_compiler::{Call, Reply};
 use jobs::Ticket;

@@ -1,4 +1,4 @@
-//! The mtime of a file or directory, set by a caller.
+//! Sets the mtime of a file or directory explicitly.
 ghost use Rattle.volume.specs.Mtimes.{SetsMtime};
 ghost use Rattle.volume.specs.Typed.{replied};
 

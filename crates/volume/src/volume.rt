@@ -1,4 +1,7 @@
 //! The type `Volume`, its calls, steps and jobs.
+//!
+//! Invariant (`IsVolume`): it abstracts to a world, has at most 64 snapshots and at most 64 marks, and its live trees
+//! are lawful. Each call preserves it, also if an allocation fails: then the call changes nothing.
 ghost use Rattle.std.specs.Prelude.{◌≡◌, ◌⊎◌, ◌↔◌, ℕ, false, MatchResult, IfOk, IfNone, IfSome, None, Some, slice_get};
 ghost use Rattle.node.specs.Shapes.{is_shape};
 ghost use Rattle.pathkey.specs.Names.{Path as Names};
