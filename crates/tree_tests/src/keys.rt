@@ -127,7 +127,7 @@ fn place_by(alloc: Global, first: &Path, other: &[u8]) -> Option<(bool, Ordering
 
 /// A property of a path, with its expected value.
 #[derive(Clone, Copy)]
-enum Asked {
+enum Check {
     /// Its key, both encoded directly and decoded again.
     Key(&'static [u8]),
     /// The key of this block; the root has no blocks.
@@ -147,35 +147,35 @@ enum Asked {
 }
 
 /// Whether a path has the property.
-fn answers(alloc: Global, path: &Path, asked: Asked) -> bool {
-    match asked {
-        Asked::Key(want) => {
+fn answers(alloc: Global, path: &Path, check: Check) -> bool {
+    match check {
+        Check::Key(want) => {
             has_bytes(path.key(), want)
                 && is_made(enc(alloc, path), want)
                 && made_leads_to(alloc, enc(alloc, path), Some(want))
         }
-        Asked::Block(index, want) => {
+        Check::Block(index, want) => {
             !path.is_root() && is_made(block_key(alloc, path, index), want)
         }
-        Asked::Ends(lo, hi) => has_ends(subtree(alloc, path), lo, hi),
-        Asked::EndsFrom(from, lo, hi) => {
+        Check::Ends(lo, hi) => has_ends(subtree(alloc, path), lo, hi),
+        Check::EndsFrom(from, lo, hi) => {
             !path.is_root() && has_ends(blocks_from(alloc, path, from), lo, hi)
         }
-        Asked::Parent(parent, last) => {
+        Check::Parent(parent, last) => {
             path.last() == Some(last) && has_parent(alloc, path, Some(parent))
         }
-        Asked::Names(want) => has_names(path, want),
-        Asked::Under(other, want) => {
+        Check::Names(want) => has_names(path, want),
+        Check::Under(other, want) => {
             matches!(place_by(alloc, path, other), Some((under, _)) if under == want)
         }
-        Asked::Order(other, want) => {
+        Check::Order(other, want) => {
             matches!(place_by(alloc, path, other), Some((_, order)) if order == want)
         }
     }
 }
 
 /// A path's text, and a property of the path.
-struct Reported(&'static [u8], Asked);
+struct Reported(&'static [u8], Check);
 
 impl Holds for Reported {
     fn holds(&self, alloc: Global) -> bool {
@@ -187,10 +187,10 @@ impl Holds for Reported {
 }
 
 const KEYS: &[Reported] = &[
-    Reported(b"/", Asked::Key(b"")),
-    Reported(b"/a", Asked::Key(b"\x61\x00")),
-    Reported(b"/a/x", Asked::Key(b"\x61\x00\x78\x00")),
-    Reported(b"/a-b", Asked::Key(b"\x61\x2d\x62\x00")),
+    Reported(b"/", Check::Key(b"")),
+    Reported(b"/a", Check::Key(b"\x61\x00")),
+    Reported(b"/a/x", Check::Key(b"\x61\x00\x78\x00")),
+    Reported(b"/a-b", Check::Key(b"\x61\x2d\x62\x00")),
 ];
 
 #[test]
@@ -223,10 +223,10 @@ fn keys_of_no_path(rt: HostRuntime) -> Result<(), usize> {
 }
 
 const BLOCKS: &[Reported] = &[
-    Reported(b"/a", Asked::Block(1, b"\x61\x00\x00\x00\x00\x00\x01")),
+    Reported(b"/a", Check::Block(1, b"\x61\x00\x00\x00\x00\x00\x01")),
     Reported(
         b"/a",
-        Asked::Block(268_435_455, b"\x61\x00\x00\x0f\xff\xff\xff"),
+        Check::Block(268_435_455, b"\x61\x00\x00\x0f\xff\xff\xff"),
     ),
 ];
 
@@ -236,11 +236,11 @@ fn keys_of_blocks(rt: HostRuntime) -> Result<(), usize> {
 }
 
 const ENDS: &[Reported] = &[
-    Reported(b"/", Asked::Ends(b"", None)),
-    Reported(b"/a", Asked::Ends(b"\x61\x00", Some(b"\x61\x01"))),
+    Reported(b"/", Check::Ends(b"", None)),
+    Reported(b"/a", Check::Ends(b"\x61\x00", Some(b"\x61\x01"))),
     Reported(
         b"/a",
-        Asked::EndsFrom(1, b"\x61\x00\x00\x00\x00\x00\x01", Some(b"\x61\x00\x01")),
+        Check::EndsFrom(1, b"\x61\x00\x00\x00\x00\x00\x01", Some(b"\x61\x00\x01")),
     ),
 ];
 
@@ -320,12 +320,12 @@ fn long_texts(rt: HostRuntime) -> Result<(), usize> {
 }
 
 const BELOW: &[Reported] = &[
-    Reported(b"/a/x", Asked::Under(b"/a", true)),
-    Reported(b"/a", Asked::Under(b"/a", true)),
-    Reported(b"/a-b", Asked::Under(b"/", true)),
-    Reported(b"/a", Asked::Under(b"/a/x", false)),
-    Reported(b"/a-b", Asked::Under(b"/a", false)),
-    Reported(b"/", Asked::Under(b"/a", false)),
+    Reported(b"/a/x", Check::Under(b"/a", true)),
+    Reported(b"/a", Check::Under(b"/a", true)),
+    Reported(b"/a-b", Check::Under(b"/", true)),
+    Reported(b"/a", Check::Under(b"/a/x", false)),
+    Reported(b"/a-b", Check::Under(b"/a", false)),
+    Reported(b"/", Check::Under(b"/a", false)),
 ];
 
 #[test]
@@ -334,11 +334,11 @@ fn paths_below_others(rt: HostRuntime) -> Result<(), usize> {
 }
 
 const ORDER: &[Reported] = &[
-    Reported(b"/", Asked::Order(b"/a", Ordering::Less)),
-    Reported(b"/a", Asked::Order(b"/a/x", Ordering::Less)),
-    Reported(b"/a/x", Asked::Order(b"/a-b", Ordering::Less)),
-    Reported(b"/ab", Asked::Order(b"/a-b", Ordering::Greater)),
-    Reported(b"/a", Asked::Order(b"/a", Ordering::Equal)),
+    Reported(b"/", Check::Order(b"/a", Ordering::Less)),
+    Reported(b"/a", Check::Order(b"/a/x", Ordering::Less)),
+    Reported(b"/a/x", Check::Order(b"/a-b", Ordering::Less)),
+    Reported(b"/ab", Check::Order(b"/a-b", Ordering::Greater)),
+    Reported(b"/a", Check::Order(b"/a", Ordering::Equal)),
 ];
 
 #[test]
@@ -400,9 +400,9 @@ fn keys_of_bytes_in_order(rt: HostRuntime) -> Result<(), usize> {
 }
 
 const PARENTS: &[Reported] = &[
-    Reported(b"/a/x", Asked::Parent(b"a\x00", b"x")),
-    Reported(b"/a", Asked::Parent(b"", b"a")),
-    Reported(b"/a/b-c/de", Asked::Parent(b"a\x00b-c\x00", b"de")),
+    Reported(b"/a/x", Check::Parent(b"a\x00", b"x")),
+    Reported(b"/a", Check::Parent(b"", b"a")),
+    Reported(b"/a/b-c/de", Check::Parent(b"a\x00b-c\x00", b"de")),
 ];
 
 /// Whether a path has neither a name nor a parent.
@@ -417,8 +417,8 @@ fn parents_and_last_names(rt: HostRuntime) -> Result<(), usize> {
 }
 
 const NAMES: &[Reported] = &[
-    Reported(b"/a/xy", Asked::Names(&[b"a", b"xy"])),
-    Reported(b"/", Asked::Names(&[])),
+    Reported(b"/a/xy", Check::Names(&[b"a", b"xy"])),
+    Reported(b"/", Check::Names(&[])),
 ];
 
 #[test]

@@ -1,5 +1,5 @@
 //! Tests of flushes of several messages into a leaf, at keys of one byte.
-use crate::trees::{Course, all_go, append};
+use crate::trees::{TreeTest, all_pass, append};
 use flush::flush_leaf;
 use node::{Body, Node, Place, Shape, Slot, StepReply, Tree};
 use pathkey::Key;
@@ -34,7 +34,7 @@ fn is_numbered(root: &Node<Digit>, wanted: &[(u8, u64)]) -> bool {
 }
 
 /// Whether one flush moves the given number of messages down.
-fn go_down(alloc: Global, tree: &mut Tree<Digit>, msgs: &[Plain], number: u32) -> bool {
+fn are_flushed(alloc: Global, tree: &mut Tree<Digit>, msgs: &[Plain], number: u32) -> bool {
     append(alloc, tree, msgs) && flush_leaf(alloc, tree, Place::root(), 0) == StepReply::Did(number)
 }
 
@@ -178,17 +178,17 @@ const ROWS: &[Row] = &[
 ];
 
 /// A tree's first leaf receives its entries, and is then as the row says.
-impl Course for Row {
-    fn goes(&self, alloc: Global, tree: &mut Tree<Digit>) -> bool {
-        go_down(alloc, tree, THREE, 3)
-            && go_down(alloc, tree, TWELVE, 12)
+impl TreeTest for Row {
+    fn passes(&self, alloc: Global, tree: &mut Tree<Digit>) -> bool {
+        are_flushed(alloc, tree, THREE, 3)
+            && are_flushed(alloc, tree, TWELVE, 12)
             && append(alloc, tree, self.0)
-            && go_down(alloc, tree, SIXTEEN, self.1)
+            && are_flushed(alloc, tree, SIXTEEN, self.1)
             && is_numbered(tree.root(), self.2)
     }
 }
 
 #[test]
 fn takes_several_messages_at_once(rt: HostRuntime) -> Result<(), usize> {
-    all_go(rt.alloc(), SHAPE, ROWS)
+    all_pass(rt.alloc(), SHAPE, ROWS)
 }

@@ -39,7 +39,7 @@ fn even(alloc: Global) -> Result<Vec<(Key, u64)>, NoMemory>
 struct Row([Plain; 2], &'static [(u8, u64)]);
 
 /// Whether the entries become those of the row.
-fn comes_to(alloc: Global, entries: &[(Key, u64)], row: &Row) -> bool
+fn becomes(alloc: Global, entries: &[(Key, u64)], row: &Row) -> bool
     requires { Rises [] None entries.now }
 {
     match after(alloc, entries, &row.0) {
@@ -51,7 +51,7 @@ fn comes_to(alloc: Global, entries: &[(Key, u64)], row: &Row) -> bool
 impl Holds for Row {
     fn holds(&self, alloc: Global) -> bool {
         match even(alloc) {
-            Ok(entries) => comes_to(alloc, &entries, self),
+            Ok(entries) => becomes(alloc, &entries, self),
             Err(_) => false,
         }
     }
@@ -107,9 +107,9 @@ fn place_of(alloc: Global, entries: &[(Key, u64)], at: u8) -> Option<Result<usiz
 }
 
 /// A key, and the result of a binary search for it among the four entries.
-struct Stands(u8, Result<usize, usize>);
+struct Position(u8, Result<usize, usize>);
 
-impl Holds for Stands {
+impl Holds for Position {
     fn holds(&self, alloc: Global) -> bool {
         match even(alloc) {
             Ok(entries) => place_of(alloc, &entries, self.0) == Some(self.1),
@@ -118,13 +118,13 @@ impl Holds for Stands {
     }
 }
 
-const PLACES: &[Stands] = &[
-    Stands(1, Err(0)),
-    Stands(2, Ok(0)),
-    Stands(3, Err(1)),
-    Stands(6, Ok(2)),
-    Stands(8, Ok(3)),
-    Stands(9, Err(4)),
+const PLACES: &[Position] = &[
+    Position(1, Err(0)),
+    Position(2, Ok(0)),
+    Position(3, Err(1)),
+    Position(6, Ok(2)),
+    Position(8, Ok(3)),
+    Position(9, Err(4)),
 ];
 
 #[test]

@@ -24,11 +24,11 @@ fn push(alloc: Global, list: &mut Pending<Digit>, plain: Plain) -> Result<(), No
 
 /// A property of a message, with its expected value.
 #[derive(Clone, Copy)]
-enum Asked {
+enum Check {
     /// Whether it touches the key of a number.
     Touches(u8, bool),
     /// The result of applying it to a value at the key 3.
-    Lays(Option<u64>, Option<u64>),
+    TurnsInto(Option<u64>, Option<u64>),
     /// Its part in the range with these two ends.
     Cut(u8, Option<u8>, Option<Plain>),
 }
@@ -42,7 +42,7 @@ fn touches_at(alloc: Global, msg: &Msg<Digit>, at: u8) -> Option<bool> {
 }
 
 /// Whether a message turns a value at the key 3 into this one.
-fn lays(alloc: Global, msg: &Msg<Digit>, old: Option<u64>, wanted: Option<u64>) -> bool {
+fn turns_into(alloc: Global, msg: &Msg<Digit>, old: Option<u64>, wanted: Option<u64>) -> bool {
     match key(alloc, 3) {
         Ok(at) => msg.apply_msg(alloc, &at, old) == Ok(wanted),
         Err(_) => false,
@@ -79,16 +79,16 @@ fn is_cut_to(
 }
 
 /// Whether a message has the property.
-fn answers(alloc: Global, msg: &Msg<Digit>, asked: Asked) -> bool {
-    match asked {
-        Asked::Touches(at, wanted) => touches_at(alloc, msg, at) == Some(wanted),
-        Asked::Lays(old, wanted) => lays(alloc, msg, old, wanted),
-        Asked::Cut(lo, hi, wanted) => is_cut_to(alloc, msg, (lo, hi), wanted),
+fn answers(alloc: Global, msg: &Msg<Digit>, check: Check) -> bool {
+    match check {
+        Check::Touches(at, wanted) => touches_at(alloc, msg, at) == Some(wanted),
+        Check::TurnsInto(old, wanted) => turns_into(alloc, msg, old, wanted),
+        Check::Cut(lo, hi, wanted) => is_cut_to(alloc, msg, (lo, hi), wanted),
     }
 }
 
 /// A message, and a property of it.
-struct Reported(Plain, Asked);
+struct Reported(Plain, Check);
 
 impl Holds for Reported {
     fn holds(&self, alloc: Global) -> bool {
@@ -100,16 +100,16 @@ impl Holds for Reported {
 }
 
 const TOUCHED: &[Reported] = &[
-    Reported(Plain::DelRange(3, Some(5)), Asked::Touches(2, false)),
-    Reported(Plain::DelRange(3, Some(5)), Asked::Touches(3, true)),
-    Reported(Plain::DelRange(3, Some(5)), Asked::Touches(4, true)),
-    Reported(Plain::DelRange(3, Some(5)), Asked::Touches(5, false)),
-    Reported(Plain::DelRange(3, None), Asked::Touches(2, false)),
-    Reported(Plain::DelRange(3, None), Asked::Touches(255, true)),
-    Reported(Plain::DelRange(3, Some(3)), Asked::Touches(3, false)),
-    Reported(Plain::Put(3, 7), Asked::Touches(3, true)),
-    Reported(Plain::Del(3), Asked::Touches(4, false)),
-    Reported(Plain::Edit(3, 7), Asked::Touches(2, false)),
+    Reported(Plain::DelRange(3, Some(5)), Check::Touches(2, false)),
+    Reported(Plain::DelRange(3, Some(5)), Check::Touches(3, true)),
+    Reported(Plain::DelRange(3, Some(5)), Check::Touches(4, true)),
+    Reported(Plain::DelRange(3, Some(5)), Check::Touches(5, false)),
+    Reported(Plain::DelRange(3, None), Check::Touches(2, false)),
+    Reported(Plain::DelRange(3, None), Check::Touches(255, true)),
+    Reported(Plain::DelRange(3, Some(3)), Check::Touches(3, false)),
+    Reported(Plain::Put(3, 7), Check::Touches(3, true)),
+    Reported(Plain::Del(3), Check::Touches(4, false)),
+    Reported(Plain::Edit(3, 7), Check::Touches(2, false)),
 ];
 
 #[test]
@@ -118,60 +118,66 @@ fn touches_from_the_low_end_up_to_the_high_end(rt: HostRuntime) -> Result<(), us
 }
 
 const LAID: &[Reported] = &[
-    Reported(Plain::Put(3, 7), Asked::Lays(Some(12), Some(7))),
-    Reported(Plain::Put(3, 7), Asked::Lays(None, Some(7))),
-    Reported(Plain::Put(4, 7), Asked::Lays(Some(12), Some(12))),
-    Reported(Plain::Del(3), Asked::Lays(Some(12), None)),
-    Reported(Plain::Del(3), Asked::Lays(None, None)),
-    Reported(Plain::DelRange(3, Some(5)), Asked::Lays(Some(12), None)),
-    Reported(Plain::DelRange(1, Some(3)), Asked::Lays(Some(12), Some(12))),
-    Reported(Plain::Edit(3, 7), Asked::Lays(Some(12), Some(127))),
-    Reported(Plain::Edit(3, 7), Asked::Lays(None, Some(7))),
-    Reported(Plain::Edit(4, 7), Asked::Lays(None, None)),
+    Reported(Plain::Put(3, 7), Check::TurnsInto(Some(12), Some(7))),
+    Reported(Plain::Put(3, 7), Check::TurnsInto(None, Some(7))),
+    Reported(Plain::Put(4, 7), Check::TurnsInto(Some(12), Some(12))),
+    Reported(Plain::Del(3), Check::TurnsInto(Some(12), None)),
+    Reported(Plain::Del(3), Check::TurnsInto(None, None)),
+    Reported(
+        Plain::DelRange(3, Some(5)),
+        Check::TurnsInto(Some(12), None),
+    ),
+    Reported(
+        Plain::DelRange(1, Some(3)),
+        Check::TurnsInto(Some(12), Some(12)),
+    ),
+    Reported(Plain::Edit(3, 7), Check::TurnsInto(Some(12), Some(127))),
+    Reported(Plain::Edit(3, 7), Check::TurnsInto(None, Some(7))),
+    Reported(Plain::Edit(4, 7), Check::TurnsInto(None, None)),
 ];
 
 #[test]
-fn lays_each_message_on_a_value_and_on_none(rt: HostRuntime) -> Result<(), usize> {
+fn applies_each_message_to_a_value_and_to_none(rt: HostRuntime) -> Result<(), usize> {
     all_hold(rt.alloc(), LAID)
 }
 
 const CUT: &[Reported] = &[
     Reported(
         Plain::DelRange(4, Some(5)),
-        Asked::Cut(3, Some(6), Some(Plain::DelRange(4, Some(5)))),
+        Check::Cut(3, Some(6), Some(Plain::DelRange(4, Some(5)))),
     ),
     Reported(
         Plain::DelRange(3, Some(6)),
-        Asked::Cut(3, Some(6), Some(Plain::DelRange(3, Some(6)))),
+        Check::Cut(3, Some(6), Some(Plain::DelRange(3, Some(6)))),
     ),
     Reported(
         Plain::DelRange(2, Some(5)),
-        Asked::Cut(3, Some(6), Some(Plain::DelRange(3, Some(5)))),
+        Check::Cut(3, Some(6), Some(Plain::DelRange(3, Some(5)))),
     ),
     Reported(
         Plain::DelRange(4, Some(9)),
-        Asked::Cut(3, Some(6), Some(Plain::DelRange(4, Some(6)))),
+        Check::Cut(3, Some(6), Some(Plain::DelRange(4, Some(6)))),
     ),
     Reported(
         Plain::DelRange(0, None),
-        Asked::Cut(3, Some(6), Some(Plain::DelRange(3, Some(6)))),
+        Check::Cut(3, Some(6), Some(Plain::DelRange(3, Some(6)))),
     ),
     Reported(
         Plain::DelRange(4, None),
-        Asked::Cut(3, None, Some(Plain::DelRange(4, None))),
+        Check::Cut(3, None, Some(Plain::DelRange(4, None))),
     ),
-    Reported(Plain::DelRange(1, Some(3)), Asked::Cut(3, Some(6), None)),
-    Reported(Plain::DelRange(6, Some(9)), Asked::Cut(3, Some(6), None)),
+    Reported(Plain::DelRange(1, Some(3)), Check::Cut(3, Some(6), None)),
+    Reported(Plain::DelRange(6, Some(9)), Check::Cut(3, Some(6), None)),
     Reported(
         Plain::Put(3, 7),
-        Asked::Cut(3, Some(6), Some(Plain::Put(3, 7))),
+        Check::Cut(3, Some(6), Some(Plain::Put(3, 7))),
     ),
-    Reported(Plain::Put(6, 7), Asked::Cut(3, Some(6), None)),
-    Reported(Plain::Del(2), Asked::Cut(3, None, None)),
-    Reported(Plain::Del(255), Asked::Cut(3, None, Some(Plain::Del(255)))),
+    Reported(Plain::Put(6, 7), Check::Cut(3, Some(6), None)),
+    Reported(Plain::Del(2), Check::Cut(3, None, None)),
+    Reported(Plain::Del(255), Check::Cut(3, None, Some(Plain::Del(255)))),
     Reported(
         Plain::Edit(5, 7),
-        Asked::Cut(3, Some(6), Some(Plain::Edit(5, 7))),
+        Check::Cut(3, Some(6), Some(Plain::Edit(5, 7))),
     ),
 ];
 
@@ -459,7 +465,7 @@ fn without_first(alloc: Global, msgs: &[Plain]) -> Result<Pending<Digit>, NoMemo
 }
 
 /// Two lists, before the key 5 and after it, merged. Each has two updates of one key, of which the first is consumed.
-fn joined_half_gone(alloc: Global) -> Result<Pending<Digit>, NoMemory> {
+fn merged_half_consumed(alloc: Global) -> Result<Pending<Digit>, NoMemory> {
     let front = without_first(alloc, EDITS_OF_THREE)?;
     match without_first(alloc, EDITS_OF_SEVEN) {
         Ok(back) => joined_at(alloc, front, back, 5),
@@ -493,9 +499,9 @@ fn waits_joined(alloc: Global, joined: Result<Pending<Digit>, NoMemory>) -> bool
 }
 
 #[test]
-fn two_lists_that_are_half_gone_are_joined(rt: HostRuntime) {
+fn two_lists_that_are_half_consumed_are_merged(rt: HostRuntime) {
     let alloc = rt.alloc();
-    assert!(rt; waits_joined(alloc, joined_half_gone(alloc)));
+    assert!(rt; waits_joined(alloc, merged_half_consumed(alloc)));
 }
 
 /// How many numbers a long list has.

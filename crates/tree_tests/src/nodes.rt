@@ -1,5 +1,5 @@
 //! Tests of appending messages, at keys of one byte, and of the slots in which they are then pending.
-use crate::trees::{Course, SMALL, all_go, append, goes_anew, has, new_tree};
+use crate::trees::{SMALL, TreeTest, all_pass, append, has, new_tree, passes_on_new_tree};
 use flush::flush_leaf;
 use message::Msg;
 use node::{Body, Node, Place, Shape, Slot, StepReply, Tree, append_both};
@@ -80,15 +80,15 @@ fn has_first_alone(node: &Node<Digit>) -> bool {
 /// A new tree has its shape, and one slot over an empty leaf.
 struct Beginning;
 
-impl Course for Beginning {
-    fn goes(&self, _alloc: Global, tree: &mut Tree<Digit>) -> bool {
+impl TreeTest for Beginning {
+    fn passes(&self, _alloc: Global, tree: &mut Tree<Digit>) -> bool {
         tree.shape() == SMALL && has_first_alone(tree.root())
     }
 }
 
 #[test]
 fn begins_with_one_slot_over_an_empty_leaf(rt: HostRuntime) {
-    assert!(rt; goes_anew(rt.alloc(), SMALL, &Beginning));
+    assert!(rt; passes_on_new_tree(rt.alloc(), SMALL, &Beginning));
 }
 
 /// Whether exactly these messages are pending in a node's first slot, over an empty leaf.
@@ -111,8 +111,8 @@ fn append_in_turn(alloc: Global, tree: &mut Tree<Digit>, msgs: &[Plain]) -> bool
 #[derive(Drop)]
 struct InTurn(&'static [Plain], &'static [Plain]);
 
-impl Course for InTurn {
-    fn goes(&self, alloc: Global, tree: &mut Tree<Digit>) -> bool {
+impl TreeTest for InTurn {
+    fn passes(&self, alloc: Global, tree: &mut Tree<Digit>) -> bool {
         append_in_turn(alloc, tree, self.0) && wait_above_nothing(alloc, tree.root(), self.1)
     }
 }
@@ -120,11 +120,11 @@ impl Course for InTurn {
 /// Messages that are appended in one batch, and one by one to a new tree, and those that are pending then.
 struct Kept(&'static [Plain], &'static [Plain]);
 
-impl Course for Kept {
-    fn goes(&self, alloc: Global, tree: &mut Tree<Digit>) -> bool {
+impl TreeTest for Kept {
+    fn passes(&self, alloc: Global, tree: &mut Tree<Digit>) -> bool {
         append(alloc, tree, self.0)
             && wait_above_nothing(alloc, tree.root(), self.1)
-            && goes_anew(alloc, SMALL, &InTurn(self.0, self.1))
+            && passes_on_new_tree(alloc, SMALL, &InTurn(self.0, self.1))
     }
 }
 
@@ -173,7 +173,7 @@ const KEPT: &[Kept] = &[
 
 #[test]
 fn keeps_in_the_root_what_messages_mean(rt: HostRuntime) -> Result<(), usize> {
-    all_go(rt.alloc(), SMALL, KEPT)
+    all_pass(rt.alloc(), SMALL, KEPT)
 }
 
 /// Whether two trees with the same message each keep the next one that is appended only to them.
@@ -195,15 +195,15 @@ fn parts_from_its_share(alloc: Global, tree: &mut Tree<Digit>) -> bool {
 /// A tree with one message and a share of it become independent.
 struct Parting;
 
-impl Course for Parting {
-    fn goes(&self, alloc: Global, tree: &mut Tree<Digit>) -> bool {
+impl TreeTest for Parting {
+    fn passes(&self, alloc: Global, tree: &mut Tree<Digit>) -> bool {
         append(alloc, tree, &[Plain::Put(3, 1)]) && parts_from_its_share(alloc, tree)
     }
 }
 
 #[test]
 fn leaves_the_other_owner_of_a_shared_root_alone(rt: HostRuntime) {
-    assert!(rt; goes_anew(rt.alloc(), SMALL, &Parting));
+    assert!(rt; passes_on_new_tree(rt.alloc(), SMALL, &Parting));
 }
 
 /// Appends a batch to one tree and messages to another, both or neither.
@@ -241,8 +241,8 @@ fn have_halves(
 struct Halves(&'static [Plain], &'static [Plain]);
 
 /// Each of two new trees has its own half of a batch for both.
-impl Course for Halves {
-    fn goes(&self, alloc: Global, tree: &mut Tree<Digit>) -> bool {
+impl TreeTest for Halves {
+    fn passes(&self, alloc: Global, tree: &mut Tree<Digit>) -> bool {
         match new_tree(alloc, SMALL) {
             Ok(mut second) => have_halves(alloc, tree, self.0, &mut second, self.1),
             Err(_) => false,
@@ -259,7 +259,7 @@ const HALVES: &[Halves] = &[
 
 #[test]
 fn gives_each_tree_its_half_of_a_batch(rt: HostRuntime) -> Result<(), usize> {
-    all_go(rt.alloc(), SMALL, HALVES)
+    all_pass(rt.alloc(), SMALL, HALVES)
 }
 
 /// The reply to a flush of the root's first slot.
@@ -299,8 +299,8 @@ const FROM_FIVE: &[Plain] = &[Plain::DelRange(5, None), Plain::Del(255)];
 /// Messages are split at the pivot 5.
 struct Cutting;
 
-impl Course for Cutting {
-    fn goes(&self, alloc: Global, tree: &mut Tree<Digit>) -> bool {
+impl TreeTest for Cutting {
+    fn passes(&self, alloc: Global, tree: &mut Tree<Digit>) -> bool {
         has_two_slots(alloc, tree)
             && append(alloc, tree, ACROSS)
             && wait(alloc, tree.root(), 0, BEFORE_FIVE)
@@ -310,7 +310,7 @@ impl Course for Cutting {
 
 #[test]
 fn cuts_messages_at_the_pivots(rt: HostRuntime) {
-    assert!(rt; goes_anew(rt.alloc(), SMALL, &Cutting));
+    assert!(rt; passes_on_new_tree(rt.alloc(), SMALL, &Cutting));
 }
 
 /// Messages, each for one key, in one batch for a root with two slots.
@@ -340,8 +340,8 @@ fn has_each(alloc: Global, tree: &Tree<Digit>, values: &[(u8, Option<u64>)]) -> 
     true
 }
 
-impl Course for Points {
-    fn goes(&self, alloc: Global, tree: &mut Tree<Digit>) -> bool {
+impl TreeTest for Points {
+    fn passes(&self, alloc: Global, tree: &mut Tree<Digit>) -> bool {
         has_two_slots(alloc, tree)
             && append_beside_kept(alloc, tree, self)
             && wait(alloc, tree.root(), 0, self.waiting.0)
@@ -427,5 +427,5 @@ const POINTS: &[Points] = &[
 
 #[test]
 fn brings_messages_for_one_key_each_to_their_slots(rt: HostRuntime) -> Result<(), usize> {
-    all_go(rt.alloc(), SMALL, POINTS)
+    all_pass(rt.alloc(), SMALL, POINTS)
 }

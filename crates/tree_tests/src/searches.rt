@@ -1,5 +1,5 @@
 //! Tests of scans through many messages, against the same messages applied to a reference array of numbers.
-use crate::trees::{Course, SMALL, append, goes_anew, new_tree};
+use crate::trees::{SMALL, TreeTest, append, new_tree, passes_on_new_tree};
 use node::Tree;
 use pathkey::KeyRange;
 use scan::{first_in, scan};
@@ -121,7 +121,7 @@ fn agrees_filled(alloc: Global, tree: &mut Tree<Digit>, row: &mut Row) -> Result
 
 /// Whether a new tree agrees with a new array in each part of the keys after the messages; otherwise the index of the first in which
 /// it does not.
-fn agrees_anew(alloc: Global) -> Result<(), usize> {
+fn agrees_in_new_tree(alloc: Global) -> Result<(), usize> {
     match new_tree(alloc, SMALL) {
         Ok(mut tree) => agrees_filled(alloc, &mut tree, &mut Row::new()),
         Err(_) => Err(usize::MAX),
@@ -130,7 +130,7 @@ fn agrees_anew(alloc: Global) -> Result<(), usize> {
 
 #[test]
 fn finds_the_pairs_that_all_messages_make(rt: HostRuntime) -> Result<(), usize> {
-    agrees_anew(rt.alloc())
+    agrees_in_new_tree(rt.alloc())
 }
 
 /// Whether a range of a tree is empty.
@@ -141,8 +141,8 @@ fn is_empty(alloc: Global, tree: &Tree<Digit>, range: &KeyRange) -> bool {
 /// Nothing is found in a new tree.
 struct Nothing;
 
-impl Course for Nothing {
-    fn goes(&self, alloc: Global, tree: &mut Tree<Digit>) -> bool {
+impl TreeTest for Nothing {
+    fn passes(&self, alloc: Global, tree: &mut Tree<Digit>) -> bool {
         match range(alloc, 0, None) {
             Ok(all) => is_empty(alloc, tree, &all),
             Err(_) => false,
@@ -152,7 +152,7 @@ impl Course for Nothing {
 
 #[test]
 fn finds_nothing_in_a_new_tree(rt: HostRuntime) {
-    assert!(rt; goes_anew(rt.alloc(), SMALL, &Nothing));
+    assert!(rt; passes_on_new_tree(rt.alloc(), SMALL, &Nothing));
 }
 
 /// Puts 50 values, deletes those from 5 to 39 and edits 20; `false` if an allocation fails.
@@ -180,13 +180,13 @@ fn has_four(alloc: Global, tree: &Tree<Digit>, wanted: &[(u8, u64)]) -> bool {
 /// A search skips what a range-delete covers.
 struct Past;
 
-impl Course for Past {
-    fn goes(&self, alloc: Global, tree: &mut Tree<Digit>) -> bool {
+impl TreeTest for Past {
+    fn passes(&self, alloc: Global, tree: &mut Tree<Digit>) -> bool {
         cover(alloc, tree) && has_four(alloc, tree, &[(3, 3), (4, 3), (20, 4), (40, 3)])
     }
 }
 
 #[test]
-fn goes_past_what_a_range_delete_covers(rt: HostRuntime) {
-    assert!(rt; goes_anew(rt.alloc(), SMALL, &Past));
+fn skips_what_a_range_delete_covers(rt: HostRuntime) {
+    assert!(rt; passes_on_new_tree(rt.alloc(), SMALL, &Past));
 }

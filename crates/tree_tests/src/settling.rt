@@ -74,7 +74,7 @@ fn settle(alloc: Global, tree: &mut Tree<Digit>) -> bool {
 }
 
 /// The maximal numbers of slots, pending pieces and entries, and the percentage of range-deletes among the messages.
-struct Course([u16; 3], u32);
+struct Workload([u16; 3], u32);
 
 /// The number of messages that are appended to a tree.
 const COUNT: u32 = 3_000;
@@ -106,7 +106,7 @@ fn tree_of(alloc: Global, limits: [u16; 3]) -> Result<Tree<Digit>, NoMemory> {
     new_tree(alloc, shape)
 }
 
-impl Holds for Course {
+impl Holds for Workload {
     fn holds(&self, alloc: Global) -> bool {
         match tree_of(alloc, self.0) {
             Ok(mut tree) => fill_and_settle(alloc, &mut tree, self.1),
@@ -115,11 +115,11 @@ impl Holds for Course {
     }
 }
 
-const WITHOUT_RANGES: &[Course] = &[
-    Course([4, 4, 4], 0),
-    Course([64, 64, 4], 0),
-    Course([4, 4, 1024], 0),
-    Course([16, 256, 256], 0),
+const WITHOUT_RANGES: &[Workload] = &[
+    Workload([4, 4, 4], 0),
+    Workload([64, 64, 4], 0),
+    Workload([4, 4, 1024], 0),
+    Workload([16, 256, 256], 0),
 ];
 
 #[test]
@@ -127,13 +127,13 @@ fn relief_ends_with_nothing_pending(rt: HostRuntime) -> Result<(), usize> {
     all_hold(rt.alloc(), WITHOUT_RANGES)
 }
 
-const WITH_RANGES: &[Course] = &[
-    Course([4, 4, 1024], 1),
-    Course([4, 4, 1024], 20),
-    Course([4, 4, 1024], 60),
-    Course([16, 256, 256], 1),
-    Course([16, 256, 256], 20),
-    Course([16, 256, 256], 60),
+const WITH_RANGES: &[Workload] = &[
+    Workload([4, 4, 1024], 1),
+    Workload([4, 4, 1024], 20),
+    Workload([4, 4, 1024], 60),
+    Workload([16, 256, 256], 1),
+    Workload([16, 256, 256], 20),
+    Workload([16, 256, 256], 60),
 ];
 
 #[test]

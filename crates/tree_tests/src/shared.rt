@@ -7,7 +7,7 @@ use std::alloc::Global;
 
 /// A check of a map of the numbers up to a thousand and another that shares its chunks.
 #[derive(Clone, Copy)]
-enum Asked {
+enum Check {
     /// Whether a change copies only the chunk that it changes.
     Changes,
     /// Whether a change that needs a failing copy fails, returns its argument, and changes nothing.
@@ -19,28 +19,28 @@ enum Asked {
 }
 
 /// Whether the check passes, and the other map is unchanged.
-fn answers(alloc: Global, list: &mut CowMap<Number>, other: &CowMap<Number>, asked: Asked) -> bool {
-    let is_so = match asked {
-        Asked::Changes => changes(alloc, list),
-        Asked::Refuses => refuses(alloc, list),
-        Asked::Leaves => leaves(list),
-        Asked::Joins => joins(alloc, list),
+fn answers(alloc: Global, list: &mut CowMap<Number>, other: &CowMap<Number>, check: Check) -> bool {
+    let is_so = match check {
+        Check::Changes => changes(alloc, list),
+        Check::Refuses => refuses(alloc, list),
+        Check::Leaves => leaves(list),
+        Check::Joins => joins(alloc, list),
     };
     is_so && has(other, 0, 1000)
 }
 
 /// Whether the check passes, and a map that shares the chunks of this one is unchanged.
-fn answers_shared(alloc: Global, list: &mut CowMap<Number>, asked: Asked) -> bool {
+fn answers_shared(alloc: Global, list: &mut CowMap<Number>, check: Check) -> bool {
     match list.share() {
-        Ok(other) => answers(alloc, list, &other, asked),
+        Ok(other) => answers(alloc, list, &other, check),
         Err(NoMemory) => false,
     }
 }
 
 /// Whether the check of a new map of a thousand numbers passes, and one that shares its chunks is unchanged.
-fn answers_so(alloc: Global, asked: Asked) -> bool {
+fn answers_so(alloc: Global, check: Check) -> bool {
     match numbers(alloc, 1000) {
-        Ok(mut list) => answers_shared(alloc, &mut list, asked),
+        Ok(mut list) => answers_shared(alloc, &mut list, check),
         Err(NoMemory) => false,
     }
 }
@@ -54,7 +54,7 @@ fn changes(alloc: Global, list: &mut CowMap<Number>) -> bool {
 
 #[test]
 fn a_change_under_a_share_copies_one_number(rt: HostRuntime) {
-    assert!(rt; answers_so(rt.alloc(), Asked::Changes));
+    assert!(rt; answers_so(rt.alloc(), Check::Changes));
 }
 
 /// Whether a put and an edit that need a failing copy fail, and the map is unchanged.
@@ -65,13 +65,13 @@ fn refuses(alloc: Global, list: &mut CowMap<Number>) -> bool {
 /// Whether a put fails, and the number is returned.
 fn refuses_put(alloc: Global, list: &mut CowMap<Number>) -> bool {
     match key(alloc, 100) {
-        Ok(at) => comes_back(&list.put(at, Number(5))),
+        Ok(at) => is_returned(&list.put(at, Number(5))),
         Err(NoMemory) => false,
     }
 }
 
 /// Whether this is the result of a put that failed.
-fn comes_back(answer: &Result<Option<Number>, (Key, Number)>) -> bool {
+fn is_returned(answer: &Result<Option<Number>, (Key, Number)>) -> bool {
     matches!(answer, Err((_, Number(5))))
 }
 
@@ -85,7 +85,7 @@ fn refuses_edit(alloc: Global, list: &mut CowMap<Number>) -> bool {
 
 #[test]
 fn what_is_refused_changes_nothing(rt: HostRuntime) {
-    assert!(rt; answers_so(rt.alloc(), Asked::Refuses));
+    assert!(rt; answers_so(rt.alloc(), Check::Refuses));
 }
 
 /// Whether the first entries are removed from the map, while one that shares its chunks still has them.
@@ -103,7 +103,7 @@ fn is_shared(list: &CowMap<Number>, from: u64) -> bool {
 
 #[test]
 fn the_front_leaves_without_a_copy(rt: HostRuntime) {
-    assert!(rt; answers_so(rt.alloc(), Asked::Leaves));
+    assert!(rt; answers_so(rt.alloc(), Check::Leaves));
 }
 
 /// Moves the first number of a list to another.
@@ -124,7 +124,7 @@ fn moves_first(list: &mut CowMap<Number>, from: &mut CowMap<Number>) -> bool {
 
 /// Whether the first number moves to another map while a third map shares its chunk and keeps it, and whether it also
 /// stays where it must.
-fn goes_shared(list: &mut CowMap<Number>, later: &mut CowMap<Number>) -> bool {
+fn moves_shared(list: &mut CowMap<Number>, later: &mut CowMap<Number>) -> bool {
     match later.share() {
         Ok(other) => moves_first(list, later) && stays(list) && has(&other, 11, 1000),
         Err(NoMemory) => false,
@@ -140,33 +140,33 @@ fn stays(list: &mut CowMap<Number>) -> bool {
 }
 
 /// Whether the first entry of a map moves to another without a copy, also if it is shared, and stays if it cannot move.
-fn first_goes(list: &mut CowMap<Number>, later: &mut CowMap<Number>) -> bool {
+fn first_moves(list: &mut CowMap<Number>, later: &mut CowMap<Number>) -> bool {
     drop_some(later, 10)
         && moves_first(list, later)
-        && goes_shared(list, later)
+        && moves_shared(list, later)
         && has(list, 0, 12)
         && has(later, 12, 1000)
 }
 
 /// Whether the first of a map's numbers moves to a new map of ten without a copy, and stays if it cannot move.
-fn first_goes_to_ten(alloc: Global, later: &mut CowMap<Number>) -> bool {
+fn first_moves_to_ten(alloc: Global, later: &mut CowMap<Number>) -> bool {
     match numbers(alloc, 10) {
-        Ok(mut list) => first_goes(&mut list, later),
+        Ok(mut list) => first_moves(&mut list, later),
         Err(NoMemory) => false,
     }
 }
 
 /// Whether the first of a thousand numbers moves to a map of ten without a copy, and stays if it cannot move.
-fn first_of_a_thousand_goes(alloc: Global) -> bool {
+fn first_of_a_thousand_moves(alloc: Global) -> bool {
     match numbers(alloc, 1000) {
-        Ok(mut later) => first_goes_to_ten(alloc, &mut later),
+        Ok(mut later) => first_moves_to_ten(alloc, &mut later),
         Err(NoMemory) => false,
     }
 }
 
 #[test]
-fn a_first_entry_goes_to_another_list(rt: HostRuntime) {
-    assert!(rt; first_of_a_thousand_goes(rt.alloc()));
+fn a_first_entry_moves_to_another_list(rt: HostRuntime) {
+    assert!(rt; first_of_a_thousand_moves(rt.alloc()));
 }
 
 /// Whether the map is split between chunks and has all entries again when the parts are merged.
@@ -179,5 +179,5 @@ fn joins(alloc: Global, list: &mut CowMap<Number>) -> bool {
 
 #[test]
 fn a_cut_copies_no_number(rt: HostRuntime) {
-    assert!(rt; answers_so(rt.alloc(), Asked::Joins));
+    assert!(rt; answers_so(rt.alloc(), Check::Joins));
 }

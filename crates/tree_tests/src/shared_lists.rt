@@ -104,7 +104,7 @@ fn with_a_range_inside(alloc: Global) -> Result<Pending<Lone>, NoMemory> {
 }
 
 /// A list with two updates at each key, of which the very first is consumed.
-fn half_gone(alloc: Global) -> Result<Pending<Lone>, NoMemory> {
+fn half_consumed(alloc: Global) -> Result<Pending<Lone>, NoMemory> {
     let mut list = list_of_lone(alloc)?;
     if list.len() > 0 {
         list.drop_front(1);
@@ -140,7 +140,7 @@ fn copies_of_lists_copy_no_message(rt: HostRuntime) {
     assert!(rt; is_shared(alloc, with_a_range(alloc)));
     assert!(rt; is_shared(alloc, with_a_tail(alloc)));
     assert!(rt; is_shared(alloc, with_a_range_in_the_tail(alloc)));
-    assert!(rt; is_shared(alloc, half_gone(alloc)));
+    assert!(rt; is_shared(alloc, half_consumed(alloc)));
 }
 
 /// Whether the list is split at a key, and all its messages are in the parts.
@@ -188,7 +188,7 @@ fn cuts_copy_no_message_for_one_key(rt: HostRuntime) {
     assert!(rt; is_cut(alloc, with_a_tail(alloc), 100));
     assert!(rt; is_cut(alloc, with_a_range_in_the_tail(alloc), 100));
     assert!(rt; is_cut(alloc, with_a_range_inside(alloc), 100));
-    assert!(rt; is_cut(alloc, half_gone(alloc), 100));
+    assert!(rt; is_cut(alloc, half_consumed(alloc), 100));
 }
 
 /// Whether the parts of a list before a key and from it on are merged again, and have as many messages as the parts.
@@ -262,7 +262,7 @@ fn joins_copy_no_message_for_one_key(rt: HostRuntime) {
     assert!(rt; rejoins(alloc, with_a_range(alloc), 100));
     assert!(rt; rejoins(alloc, with_a_tail(alloc), 100));
     assert!(rt; rejoins(alloc, with_a_range_in_the_tail(alloc), 100));
-    assert!(rt; rejoins(alloc, half_gone(alloc), 100));
+    assert!(rt; rejoins(alloc, half_consumed(alloc), 100));
 }
 
 /// Whether all messages of a list move to the end of another.

@@ -1,5 +1,5 @@
 //! Tests of range sets.
-use crate::spans::{Span, cut, has, joined, laid, lay};
+use crate::spans::{Span, cut, has, insert, inserted, joined};
 use pathkey::NoMemory;
 use range_set::RangeSet;
 use std::alloc::Global;
@@ -7,44 +7,44 @@ use test_support::{Holds, all_hold};
 
 /// Whether inserting ranges one after the other gives these.
 fn leaves(alloc: Global, spans: &[Span], wanted: &[Span]) -> bool {
-    match laid(alloc, spans) {
+    match inserted(alloc, spans) {
         Ok(list) => has(alloc, &list, wanted),
         Err(NoMemory) => false,
     }
 }
 
 /// Ranges that are inserted one after the other, and the resulting set.
-struct Laid(&'static [Span], &'static [Span]);
+struct Insertions(&'static [Span], &'static [Span]);
 
-impl Holds for Laid {
+impl Holds for Insertions {
     fn holds(&self, alloc: Global) -> bool {
         leaves(alloc, self.0, self.1)
     }
 }
 
-const LAID: &[Laid] = &[
-    Laid(&[(2, Some(4)), (6, Some(8))], &[(2, Some(4)), (6, Some(8))]),
-    Laid(&[(6, Some(8)), (2, Some(4))], &[(2, Some(4)), (6, Some(8))]),
-    Laid(&[(2, Some(4)), (4, Some(6))], &[(2, Some(6))]),
-    Laid(&[(4, Some(6)), (2, Some(4))], &[(2, Some(6))]),
-    Laid(&[(2, Some(4)), (6, Some(8)), (3, Some(7))], &[(2, Some(8))]),
-    Laid(&[(2, Some(4)), (6, Some(8)), (1, Some(9))], &[(1, Some(9))]),
-    Laid(
+const LAID: &[Insertions] = &[
+    Insertions(&[(2, Some(4)), (6, Some(8))], &[(2, Some(4)), (6, Some(8))]),
+    Insertions(&[(6, Some(8)), (2, Some(4))], &[(2, Some(4)), (6, Some(8))]),
+    Insertions(&[(2, Some(4)), (4, Some(6))], &[(2, Some(6))]),
+    Insertions(&[(4, Some(6)), (2, Some(4))], &[(2, Some(6))]),
+    Insertions(&[(2, Some(4)), (6, Some(8)), (3, Some(7))], &[(2, Some(8))]),
+    Insertions(&[(2, Some(4)), (6, Some(8)), (1, Some(9))], &[(1, Some(9))]),
+    Insertions(
         &[(2, Some(4)), (6, Some(8)), (7, None)],
         &[(2, Some(4)), (6, None)],
     ),
-    Laid(
+    Insertions(
         &[(2, Some(4)), (6, Some(8)), (6, Some(7))],
         &[(2, Some(4)), (6, Some(8))],
     ),
-    Laid(
+    Insertions(
         &[(2, Some(4)), (6, Some(8)), (5, Some(5))],
         &[(2, Some(4)), (6, Some(8))],
     ),
 ];
 
 #[test]
-fn ranges_are_laid(rt: HostRuntime) -> Result<(), usize> {
+fn ranges_are_inserted(rt: HostRuntime) -> Result<(), usize> {
     all_hold(rt.alloc(), LAID)
 }
 
@@ -74,7 +74,7 @@ impl Parted {
 
 impl Holds for Parted {
     fn holds(&self, alloc: Global) -> bool {
-        match laid(alloc, TWO) {
+        match inserted(alloc, TWO) {
             Ok(list) => self.parts(alloc, list),
             Err(NoMemory) => false,
         }
@@ -128,7 +128,7 @@ fn moves_into(alloc: Global, list: &mut RangeSet, from: &mut RangeSet) -> bool {
 
 /// Whether the first of two ranges that are inserted here moves into a set, while a copy of that is unchanged.
 fn first_moves_into(alloc: Global, list: &mut RangeSet) -> bool {
-    match laid(alloc, &[(2, Some(4)), (8, Some(9))]) {
+    match inserted(alloc, &[(2, Some(4)), (8, Some(9))]) {
         Ok(mut from) => moves_into(alloc, list, &mut from),
         Err(NoMemory) => false,
     }
@@ -136,7 +136,7 @@ fn first_moves_into(alloc: Global, list: &mut RangeSet) -> bool {
 
 /// Whether the first of two ranges moves into a new set of one range, while a copy of that is unchanged.
 fn first_moves(alloc: Global) -> bool {
-    match laid(alloc, &[(4, Some(6))]) {
+    match inserted(alloc, &[(4, Some(6))]) {
         Ok(mut list) => first_moves_into(alloc, &mut list),
         Err(NoMemory) => false,
     }
@@ -151,7 +151,7 @@ fn the_first_range_moves(rt: HostRuntime) {
 fn of_even_numbers(alloc: Global) -> Result<RangeSet, NoMemory> {
     let mut list = RangeSet::new(alloc);
     for number in 0..120u8 {
-        lay(alloc, &mut list, &(number * 2, Some(number * 2 + 1)))?;
+        insert(alloc, &mut list, &(number * 2, Some(number * 2 + 1)))?;
     }
     Ok(list)
 }
@@ -159,7 +159,7 @@ fn of_even_numbers(alloc: Global) -> Result<RangeSet, NoMemory> {
 /// Whether a range replaces 95 ranges within it, and is joined with another that begins at its end, while a copy is unchanged.
 fn give_way(alloc: Global, list: &mut RangeSet, kept: &RangeSet) -> bool {
     list.len() == 120
-        && lay(alloc, list, &(10, Some(200))).is_ok()
+        && insert(alloc, list, &(10, Some(200))).is_ok()
         && list.len() == 25
         && kept.len() == 120
 }

@@ -9,15 +9,15 @@ use test_support::{Digit, Plain, key, range};
 pub type Span = (u8, Option<u8>);
 
 /// Inserts a range into a set, which must be short.
-pub fn lay(alloc: Global, list: &mut RangeSet, span: &Span) -> Result<(), NoMemory> {
+pub fn insert(alloc: Global, list: &mut RangeSet, span: &Span) -> Result<(), NoMemory> {
     match range(alloc, span.0, span.1) {
-        Ok(range) => lay_range(alloc, list, &range),
+        Ok(range) => insert_range(alloc, list, &range),
         Err(NoMemory) => Err(NoMemory),
     }
 }
 
 /// Inserts a range of keys into a set, which must be short.
-fn lay_range(alloc: Global, list: &mut RangeSet, range: &KeyRange) -> Result<(), NoMemory> {
+fn insert_range(alloc: Global, list: &mut RangeSet, range: &KeyRange) -> Result<(), NoMemory> {
     if list.len() > 1000 {
         return Err(NoMemory);
     }
@@ -25,10 +25,10 @@ fn lay_range(alloc: Global, list: &mut RangeSet, range: &KeyRange) -> Result<(),
 }
 
 /// A set into which these ranges were inserted, one after the other.
-pub fn laid(alloc: Global, spans: &[Span]) -> Result<RangeSet, NoMemory> {
+pub fn inserted(alloc: Global, spans: &[Span]) -> Result<RangeSet, NoMemory> {
     let mut list = RangeSet::new(alloc);
     for span in spans {
-        lay(alloc, &mut list, span)?;
+        insert(alloc, &mut list, span)?;
     }
     Ok(list)
 }

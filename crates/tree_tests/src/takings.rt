@@ -281,7 +281,7 @@ const INSTALLED: &[Row] = &[
 ];
 
 #[test]
-fn what_came_after_the_taking_waits(rt: HostRuntime) -> Result<(), usize> {
+fn messages_after_the_taking_stay_pending(rt: HostRuntime) -> Result<(), usize> {
     follow_two_levels(rt.alloc(), INSTALLED)
 }
 

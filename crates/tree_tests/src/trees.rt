@@ -38,24 +38,24 @@ pub fn new_tree(alloc: Global, shape: Shape) -> Result<Tree<Digit>, NoMemory> {
 }
 
 /// A test that runs on a new tree.
-pub trait Course {
+pub trait TreeTest {
     /// Whether it passes; `false` if an allocation fails.
-    fn goes(&self, alloc: Global, tree: &mut Tree<Digit>) -> bool;
+    fn passes(&self, alloc: Global, tree: &mut Tree<Digit>) -> bool;
 }
 
 /// Whether a test passes on a new tree of a shape.
-pub fn goes_anew<C: Course>(alloc: Global, shape: Shape, course: &C) -> bool {
+pub fn passes_on_new_tree<C: TreeTest>(alloc: Global, shape: Shape, course: &C) -> bool {
     match new_tree(alloc, shape) {
-        Ok(mut tree) => course.goes(alloc, &mut tree),
+        Ok(mut tree) => course.passes(alloc, &mut tree),
         Err(_) => false,
     }
 }
 
 /// Whether each test passes on a new tree; otherwise the index of the first that fails.
-pub fn all_go<C: Course>(alloc: Global, shape: Shape, courses: &[C]) -> Result<(), usize> {
+pub fn all_pass<C: TreeTest>(alloc: Global, shape: Shape, courses: &[C]) -> Result<(), usize> {
     let mut number = 0usize;
     for course in courses {
-        if !goes_anew(alloc, shape, course) {
+        if !passes_on_new_tree(alloc, shape, course) {
             return Err(number);
         }
         number = number.saturating_add(1);

@@ -1,5 +1,5 @@
 //! Tests of steps on small trees, in tables of what is appended, which steps are done, and the tree's size then.
-use crate::trees::{Course, SMALLEST, append, goes_anew, new_tree};
+use crate::trees::{SMALLEST, TreeTest, append, new_tree, passes_on_new_tree};
 use flush::heaviest;
 use node::{Place, StepKind, StepReply, Tree, TreeStep};
 use std::alloc::Global;
@@ -216,8 +216,8 @@ fn put_and_flush(alloc: Global, tree: &mut Tree<Digit>, at: u8) -> Option<StepRe
 /// Each of ten keys is flushed, and the eleventh does not fit; an update of a key in the leaf is flushed alone.
 struct FillingUp;
 
-impl Course for FillingUp {
-    fn goes(&self, alloc: Global, tree: &mut Tree<Digit>) -> bool {
+impl TreeTest for FillingUp {
+    fn passes(&self, alloc: Global, tree: &mut Tree<Digit>) -> bool {
         for at in 1..11 {
             if put_and_flush(alloc, tree, at) != Some(StepReply::Did(1)) {
                 return false;
@@ -233,7 +233,7 @@ impl Course for FillingUp {
 
 #[test]
 fn a_full_node_has_no_room_for_a_cut(rt: HostRuntime) {
-    assert!(rt; goes_anew(rt.alloc(), SMALLEST, &FillingUp));
+    assert!(rt; passes_on_new_tree(rt.alloc(), SMALLEST, &FillingUp));
 }
 
 const BOTH_SIDES: &[Row] = &[
@@ -262,7 +262,7 @@ const BOTH_SIDES: &[Row] = &[
 ];
 
 #[test]
-fn messages_go_to_both_sides_of_a_pivot(rt: HostRuntime) -> Result<(), usize> {
+fn messages_are_split_at_a_pivot(rt: HostRuntime) -> Result<(), usize> {
     follow_two_leaves(rt.alloc(), BOTH_SIDES)
 }
 
@@ -300,7 +300,7 @@ const SPLIT: &[Row] = &[
 ];
 
 #[test]
-fn only_the_range_delete_stands_on_both_sides_of_a_split(rt: HostRuntime) -> Result<(), usize> {
+fn only_the_range_delete_is_on_both_sides_of_a_split(rt: HostRuntime) -> Result<(), usize> {
     follow_two_leaves(rt.alloc(), SPLIT)
 }
 
@@ -358,15 +358,15 @@ fn grows_to_sixteen(alloc: Global, tree: &mut Tree<Digit>) -> bool {
 /// A tree with two leaves grows to sixteen levels, and not further.
 struct Growing;
 
-impl Course for Growing {
-    fn goes(&self, alloc: Global, tree: &mut Tree<Digit>) -> bool {
+impl TreeTest for Growing {
+    fn passes(&self, alloc: Global, tree: &mut Tree<Digit>) -> bool {
         follow_in(alloc, tree, TWO_LEAVES).is_ok() && grows_to_sixteen(alloc, tree)
     }
 }
 
 #[test]
 fn a_tree_has_at_most_sixteen_levels(rt: HostRuntime) {
-    assert!(rt; goes_anew(rt.alloc(), SMALLEST, &Growing));
+    assert!(rt; passes_on_new_tree(rt.alloc(), SMALLEST, &Growing));
 }
 
 const FIVE_ENTRIES: &[Row] = &[
@@ -422,7 +422,7 @@ const COVERED: &[Row] = &[
 ];
 
 #[test]
-fn a_covered_leaf_goes(rt: HostRuntime) -> Result<(), usize> {
+fn a_covered_leaf_is_dropped(rt: HostRuntime) -> Result<(), usize> {
     follow_two_leaves(rt.alloc(), COVERED)
 }
 
@@ -462,8 +462,8 @@ fn sinks_from_first(alloc: Global, tree: &mut Tree<Digit>) -> bool {
 /// No slot of a new tree is the heaviest; of two slots of equal weight the first is.
 struct Naming;
 
-impl Course for Naming {
-    fn goes(&self, alloc: Global, tree: &mut Tree<Digit>) -> bool {
+impl TreeTest for Naming {
+    fn passes(&self, alloc: Global, tree: &mut Tree<Digit>) -> bool {
         heaviest(tree).is_none()
             && sinks_from_first(alloc, tree)
             && make_heaviest(alloc, tree, &[Plain::Put(7, 1), Plain::Put(1, 1)], 0)
@@ -473,7 +473,7 @@ impl Course for Naming {
 
 #[test]
 fn the_first_of_equally_heavy_slots_is_named(rt: HostRuntime) {
-    assert!(rt; goes_anew(rt.alloc(), SMALLEST, &Naming));
+    assert!(rt; passes_on_new_tree(rt.alloc(), SMALLEST, &Naming));
 }
 
 /// The node at which fifteen slot indexes lead, if so many are allowed.

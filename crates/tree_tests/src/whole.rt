@@ -2,7 +2,7 @@
 //! array of numbers.
 use crate::pair::Pair;
 use crate::some_steps::{Done, try_step};
-use crate::trees::{Course, SMALLEST, append, goes_anew, has};
+use crate::trees::{SMALLEST, TreeTest, append, has, passes_on_new_tree};
 use crate::turns::{relieve_heaviest, take};
 use flush::heaviest;
 use node::{StepKind, StepReply, Tree};
@@ -43,15 +43,15 @@ const KINDS: &[StepKind] = &[
 /// A new tree has no step to do.
 struct NoStep;
 
-impl Course for NoStep {
-    fn goes(&self, alloc: Global, tree: &mut Tree<Digit>) -> bool {
+impl TreeTest for NoStep {
+    fn passes(&self, alloc: Global, tree: &mut Tree<Digit>) -> bool {
         are_answered(alloc, tree, KINDS, StepReply::NotThere) && heaviest(tree).is_none()
     }
 }
 
 #[test]
 fn new_tree_has_no_step_to_do(rt: HostRuntime) {
-    assert!(rt; goes_anew(rt.alloc(), SMALLEST, &NoStep));
+    assert!(rt; passes_on_new_tree(rt.alloc(), SMALLEST, &NoStep));
 }
 
 /// Whether a tree has at each of the five keys the key's number; or no value at any.
@@ -119,8 +119,8 @@ fn holds_five(tree: &Tree<Digit>) -> bool {
 /// Five keys of a new tree are flushed into two leaves.
 struct Sinking;
 
-impl Course for Sinking {
-    fn goes(&self, alloc: Global, tree: &mut Tree<Digit>) -> bool {
+impl TreeTest for Sinking {
+    fn passes(&self, alloc: Global, tree: &mut Tree<Digit>) -> bool {
         send_five(alloc, tree, true)
             && is_first_heaviest(tree)
             && sink_unseen(alloc, tree)
@@ -130,7 +130,7 @@ impl Course for Sinking {
 
 #[test]
 fn five_keys_sink_into_two_leaves(rt: HostRuntime) {
-    assert!(rt; goes_anew(rt.alloc(), SMALLEST, &Sinking));
+    assert!(rt; passes_on_new_tree(rt.alloc(), SMALLEST, &Sinking));
 }
 
 const UP_AND_DOWN: &[StepKind] = &[
@@ -141,7 +141,7 @@ const UP_AND_DOWN: &[StepKind] = &[
 ];
 
 /// Whether each of these steps is done and changes no value.
-fn goes_up_and_down(alloc: Global, tree: &mut Tree<Digit>) -> bool {
+fn is_raised_and_lowered(alloc: Global, tree: &mut Tree<Digit>) -> bool {
     for kind in UP_AND_DOWN {
         if take_first(alloc, tree, *kind) != StepReply::Did(0) || !has_five(alloc, tree, true) {
             return false;
@@ -153,15 +153,15 @@ fn goes_up_and_down(alloc: Global, tree: &mut Tree<Digit>) -> bool {
 /// The height of a tree whose five keys were flushed is raised and lowered, and no value changes.
 struct UpAndDown;
 
-impl Course for UpAndDown {
-    fn goes(&self, alloc: Global, tree: &mut Tree<Digit>) -> bool {
-        send_five(alloc, tree, true) && sink(alloc, tree) && goes_up_and_down(alloc, tree)
+impl TreeTest for UpAndDown {
+    fn passes(&self, alloc: Global, tree: &mut Tree<Digit>) -> bool {
+        send_five(alloc, tree, true) && sink(alloc, tree) && is_raised_and_lowered(alloc, tree)
     }
 }
 
 #[test]
-fn root_goes_up_and_down_again(rt: HostRuntime) {
-    assert!(rt; goes_anew(rt.alloc(), SMALLEST, &UpAndDown));
+fn root_is_raised_and_lowered_again(rt: HostRuntime) {
+    assert!(rt; passes_on_new_tree(rt.alloc(), SMALLEST, &UpAndDown));
 }
 
 /// Whether the leaves are merged into one by one merge less than there are slots, and not by more.
@@ -178,8 +178,8 @@ fn merge_all(alloc: Global, tree: &mut Tree<Digit>) -> bool {
 /// The leaves of a tree whose five keys were flushed and deleted are merged.
 struct Leaving;
 
-impl Course for Leaving {
-    fn goes(&self, alloc: Global, tree: &mut Tree<Digit>) -> bool {
+impl TreeTest for Leaving {
+    fn passes(&self, alloc: Global, tree: &mut Tree<Digit>) -> bool {
         send_five(alloc, tree, true)
             && sink(alloc, tree)
             && send_five(alloc, tree, false)
@@ -191,7 +191,7 @@ impl Course for Leaving {
 
 #[test]
 fn empty_leaves_become_one(rt: HostRuntime) {
-    assert!(rt; goes_anew(rt.alloc(), SMALLEST, &Leaving));
+    assert!(rt; passes_on_new_tree(rt.alloc(), SMALLEST, &Leaving));
 }
 
 /// The number of changes, each followed by a step, after which scans find what the array has, before the first that
@@ -228,7 +228,7 @@ fn count(alloc: Global, pair: &mut Pair, way: Way) -> u32 {
 }
 
 /// The number of rounds of the test that pass with a new tree and a new array, before the first that fails.
-fn count_anew(alloc: Global, way: Way) -> u32 {
+fn count_in_new_tree(alloc: Global, way: Way) -> u32 {
     match Pair::new(alloc) {
         Ok(mut pair) => count(alloc, &mut pair, way),
         Err(_) => 0,
@@ -237,7 +237,7 @@ fn count_anew(alloc: Global, way: Way) -> u32 {
 
 #[test]
 fn searches_find_the_pairs_of_the_row(rt: HostRuntime) {
-    assert_eq!(rt; count_anew(rt.alloc(), Way::Found), 10_000);
+    assert_eq!(rt; count_in_new_tree(rt.alloc(), Way::Found), 10_000);
 }
 
 /// Whether a tree and an array agree at some key after a change and three steps.
@@ -277,7 +277,7 @@ fn count_alike(alloc: Global, pair: &mut Pair) -> u32 {
 
 #[test]
 fn no_step_changes_a_value(rt: HostRuntime) {
-    assert_eq!(rt; count_anew(rt.alloc(), Way::Alike), 20_000);
+    assert_eq!(rt; count_in_new_tree(rt.alloc(), Way::Alike), 20_000);
 }
 
 /// Stores a share of a tree with a copy of its array.
@@ -325,5 +325,5 @@ fn count_kept(alloc: Global, pair: &mut Pair) -> u32 {
 
 #[test]
 fn shared_trees_never_change(rt: HostRuntime) {
-    assert_eq!(rt; count_anew(rt.alloc(), Way::Kept), 100);
+    assert_eq!(rt; count_in_new_tree(rt.alloc(), Way::Kept), 100);
 }
