@@ -1,7 +1,7 @@
 //! Tests of walks through the blocks of one file after the other of a frozen tree, in the order of paths and in other
 //! orders.
-use crate::asked::{USUAL, freeze, new_volume};
-use crate::changes::{Change, Row, goes};
+use crate::changes::{Change, Row, all_succeed};
+use crate::requests::{USUAL, freeze, new_volume};
 use pathkey::NoMemory;
 use std::alloc::Global;
 use test_support::ask::path;
@@ -102,10 +102,10 @@ fn is_walked(alloc: Global, volume: &Volume) -> bool {
 
 /// Whether the files are created in a volume, and walks through its live tree return their blocks.
 fn is_reported(alloc: Global, volume: &mut Volume) -> bool {
-    goes(alloc, volume, FILLED) && is_walked(alloc, volume)
+    all_succeed(alloc, volume, FILLED) && is_walked(alloc, volume)
 }
 
-fn is_reported_anew(alloc: Global) -> bool {
+fn is_reported_in_new(alloc: Global) -> bool {
     match new_volume(alloc, USUAL) {
         Ok(mut volume) => is_reported(alloc, &mut volume),
         Err(_) => false,
@@ -114,5 +114,5 @@ fn is_reported_anew(alloc: Global) -> bool {
 
 #[test]
 fn gives_the_blocks_of_file_after_file(rt: HostRuntime) {
-    assert!(rt; is_reported_anew(rt.alloc()));
+    assert!(rt; is_reported_in_new(rt.alloc()));
 }

@@ -18,7 +18,7 @@ const SHAPE: Shape = Shape {
 
 /// An update of one block, in a form that constant tables can contain.
 #[derive(Clone, Copy)]
-pub enum Laid {
+pub enum SampleUpdate {
     /// Bytes from an offset on.
     Patch(u16, &'static [u8]),
     /// A cut to that many bytes.
@@ -41,12 +41,12 @@ fn patched(alloc: Global, off: u16, new: &[u8]) -> Option<BlockUpdate> {
     }
 }
 
-impl Laid {
+impl SampleUpdate {
     /// The update; `None` if a patch ends after its block, or an allocation fails.
     pub fn update(self, alloc: Global) -> Option<BlockUpdate> {
         match self {
-            Laid::CutTo(len) => Some(BlockUpdate::CutTo(len)),
-            Laid::Patch(off, new) => patched(alloc, off, new),
+            SampleUpdate::CutTo(len) => Some(BlockUpdate::CutTo(len)),
+            SampleUpdate::Patch(off, new) => patched(alloc, off, new),
         }
     }
 }
@@ -96,7 +96,7 @@ fn join_to(alloc: Global, first: &BlockUpdate, later: &BlockUpdate, wanted: &[u8
 }
 
 /// Two updates, and the result of applying their join to five bytes.
-struct Joined(Laid, Laid, &'static [u8]);
+struct Joined(SampleUpdate, SampleUpdate, &'static [u8]);
 
 /// Whether an update and the later one of the row join as the row says.
 fn joins(alloc: Global, first: &BlockUpdate, row: &Joined) -> bool {
@@ -116,20 +116,68 @@ impl Holds for Joined {
 }
 
 const JOINED: &[Joined] = &[
-    Joined(Laid::Patch(4, b"ab"), Laid::Patch(2, b"c"), b"12c4ab"),
-    Joined(Laid::Patch(2, b"c"), Laid::Patch(4, b"ab"), b"12c4ab"),
-    Joined(Laid::Patch(7, b"c"), Laid::Patch(0, b"ab"), b"ab345\0\0c"),
-    Joined(Laid::Patch(2, b"c"), Laid::Patch(3, b"d"), b"12cd5"),
-    Joined(Laid::Patch(4, b"ab"), Laid::Patch(2, b"cd"), b"12cdab"),
-    Joined(Laid::Patch(1, b"aaa"), Laid::Patch(2, b"b"), b"1aba5"),
-    Joined(Laid::Patch(2, b"b"), Laid::Patch(1, b"aaa"), b"1aaa5"),
-    Joined(Laid::CutTo(2), Laid::CutTo(4), b"12"),
-    Joined(Laid::CutTo(4), Laid::CutTo(2), b"12"),
-    Joined(Laid::Patch(0, b"a"), Laid::CutTo(4), b"a234"),
-    Joined(Laid::Patch(1, b"abc"), Laid::CutTo(3), b"1ab"),
-    Joined(Laid::Patch(7, b"a"), Laid::CutTo(6), b"12345\0"),
-    Joined(Laid::CutTo(4), Laid::Patch(0, b"a"), b"a234"),
-    Joined(Laid::CutTo(2), Laid::Patch(4, b"a"), b"12\0\0a"),
+    Joined(
+        SampleUpdate::Patch(4, b"ab"),
+        SampleUpdate::Patch(2, b"c"),
+        b"12c4ab",
+    ),
+    Joined(
+        SampleUpdate::Patch(2, b"c"),
+        SampleUpdate::Patch(4, b"ab"),
+        b"12c4ab",
+    ),
+    Joined(
+        SampleUpdate::Patch(7, b"c"),
+        SampleUpdate::Patch(0, b"ab"),
+        b"ab345\0\0c",
+    ),
+    Joined(
+        SampleUpdate::Patch(2, b"c"),
+        SampleUpdate::Patch(3, b"d"),
+        b"12cd5",
+    ),
+    Joined(
+        SampleUpdate::Patch(4, b"ab"),
+        SampleUpdate::Patch(2, b"cd"),
+        b"12cdab",
+    ),
+    Joined(
+        SampleUpdate::Patch(1, b"aaa"),
+        SampleUpdate::Patch(2, b"b"),
+        b"1aba5",
+    ),
+    Joined(
+        SampleUpdate::Patch(2, b"b"),
+        SampleUpdate::Patch(1, b"aaa"),
+        b"1aaa5",
+    ),
+    Joined(SampleUpdate::CutTo(2), SampleUpdate::CutTo(4), b"12"),
+    Joined(SampleUpdate::CutTo(4), SampleUpdate::CutTo(2), b"12"),
+    Joined(
+        SampleUpdate::Patch(0, b"a"),
+        SampleUpdate::CutTo(4),
+        b"a234",
+    ),
+    Joined(
+        SampleUpdate::Patch(1, b"abc"),
+        SampleUpdate::CutTo(3),
+        b"1ab",
+    ),
+    Joined(
+        SampleUpdate::Patch(7, b"a"),
+        SampleUpdate::CutTo(6),
+        b"12345\0",
+    ),
+    Joined(
+        SampleUpdate::CutTo(4),
+        SampleUpdate::Patch(0, b"a"),
+        b"a234",
+    ),
+    Joined(
+        SampleUpdate::CutTo(2),
+        SampleUpdate::Patch(4, b"a"),
+        b"12\0\0a",
+    ),
 ];
 
 #[test]
@@ -138,7 +186,7 @@ fn two_updates_join(rt: HostRuntime) -> Result<(), usize> {
 }
 
 /// The join of an update and the next one; `None` if they do not join, or an allocation fails.
-fn with_next(alloc: Global, first: &BlockUpdate, next: Laid) -> Option<BlockUpdate> {
+fn with_next(alloc: Global, first: &BlockUpdate, next: SampleUpdate) -> Option<BlockUpdate> {
     match next.update(alloc) {
         Some(next) => join_both(alloc, first, &next).ok()?,
         None => None,
@@ -146,8 +194,8 @@ fn with_next(alloc: Global, first: &BlockUpdate, next: Laid) -> Option<BlockUpda
 }
 
 /// The join of the updates; `None` if they do not join, or an allocation fails.
-fn one_of(alloc: Global, laid: &[Laid]) -> Option<BlockUpdate> {
-    let (first, rest) = laid.split_first()?;
+fn one_of(alloc: Global, updates: &[SampleUpdate]) -> Option<BlockUpdate> {
+    let (first, rest) = updates.split_first()?;
     let mut one = first.update(alloc)?;
     for next in rest {
         one = with_next(alloc, &one, *next)?;
@@ -156,7 +204,11 @@ fn one_of(alloc: Global, laid: &[Laid]) -> Option<BlockUpdate> {
 }
 
 /// Updates and then others, and the result of applying their join to five bytes.
-struct Several(&'static [Laid], &'static [Laid], &'static [u8]);
+struct Several(
+    &'static [SampleUpdate],
+    &'static [SampleUpdate],
+    &'static [u8],
+);
 
 impl Several {
     /// Whether the join of the first ones, and then the others, give the bytes of the row.
@@ -179,18 +231,22 @@ impl Holds for Several {
 
 const SEVERAL: &[Several] = &[
     Several(
-        &[Laid::Patch(0, b"ab"), Laid::Patch(4, b"cd")],
-        &[Laid::Patch(2, b"x"), Laid::Patch(6, b"y")],
+        &[SampleUpdate::Patch(0, b"ab"), SampleUpdate::Patch(4, b"cd")],
+        &[SampleUpdate::Patch(2, b"x"), SampleUpdate::Patch(6, b"y")],
         b"abx4cdy",
     ),
     Several(
-        &[Laid::Patch(0, b"ab"), Laid::Patch(6, b"cd")],
-        &[Laid::CutTo(3), Laid::Patch(4, b"e")],
+        &[SampleUpdate::Patch(0, b"ab"), SampleUpdate::Patch(6, b"cd")],
+        &[SampleUpdate::CutTo(3), SampleUpdate::Patch(4, b"e")],
         b"ab3\0e",
     ),
     Several(
-        &[Laid::CutTo(2), Laid::Patch(3, b"a")],
-        &[Laid::CutTo(1), Laid::Patch(8, b"b"), Laid::Patch(4, b"c")],
+        &[SampleUpdate::CutTo(2), SampleUpdate::Patch(3, b"a")],
+        &[
+            SampleUpdate::CutTo(1),
+            SampleUpdate::Patch(8, b"b"),
+            SampleUpdate::Patch(4, b"c"),
+        ],
         b"1\0\0\0c\0\0\0b",
     ),
 ];
@@ -201,7 +257,7 @@ fn several_updates_join(rt: HostRuntime) -> Result<(), usize> {
 }
 
 /// An update of a block, the length that the block then has, and its first and last bytes.
-type Filled = (Laid, usize, &'static [u8], &'static [u8]);
+type Filled = (SampleUpdate, usize, &'static [u8], &'static [u8]);
 
 /// Whether the block is as the row says.
 fn is_filled(block: &Block, row: &Filled) -> bool {
@@ -238,13 +294,13 @@ fn fills_so(alloc: Global, block: &mut Block, row: &Filled) -> bool {
 }
 
 const FILLED: &[Filled] = &[
-    (Laid::Patch(4095, b"x"), 4096, b"d\0\0\0", b"\0\0x"),
-    (Laid::Patch(4094, b"yz"), 4096, b"d\0", b"\0yz"),
-    (Laid::Patch(0, b"ab"), 4096, b"ab\0", b"\0yz"),
-    (Laid::CutTo(4096), 4096, b"ab\0", b"\0yz"),
-    (Laid::CutTo(2), 2, b"ab", b"ab"),
-    (Laid::CutTo(0), 0, b"", b""),
-    (Laid::Patch(1, b"c"), 2, b"\0c", b"\0c"),
+    (SampleUpdate::Patch(4095, b"x"), 4096, b"d\0\0\0", b"\0\0x"),
+    (SampleUpdate::Patch(4094, b"yz"), 4096, b"d\0", b"\0yz"),
+    (SampleUpdate::Patch(0, b"ab"), 4096, b"ab\0", b"\0yz"),
+    (SampleUpdate::CutTo(4096), 4096, b"ab\0", b"\0yz"),
+    (SampleUpdate::CutTo(2), 2, b"ab", b"ab"),
+    (SampleUpdate::CutTo(0), 0, b"", b""),
+    (SampleUpdate::Patch(1, b"c"), 2, b"\0c", b"\0c"),
 ];
 
 /// Whether all updates turn the block into what their rows say; otherwise the index of the first that does not.
@@ -288,7 +344,7 @@ fn makes_of_nothing(alloc: Global, update: &BlockUpdate, wanted: Option<&[u8]>) 
 }
 
 /// An update, and its result if there is no block.
-struct Begun(Laid, Option<&'static [u8]>);
+struct Begun(SampleUpdate, Option<&'static [u8]>);
 
 impl Holds for Begun {
     fn holds(&self, alloc: Global) -> bool {
@@ -300,8 +356,8 @@ impl Holds for Begun {
 }
 
 const BEGUN: &[Begun] = &[
-    Begun(Laid::Patch(2, b"a"), Some(b"\0\0a")),
-    Begun(Laid::CutTo(7), None),
+    Begun(SampleUpdate::Patch(2, b"a"), Some(b"\0\0a")),
+    Begun(SampleUpdate::CutTo(7), None),
 ];
 
 #[test]
@@ -428,31 +484,36 @@ const ASKED: &[SampleCall] = &[
 ];
 
 /// A test that runs on a new index at a path.
-pub trait Course {
+pub trait IndexTest {
     /// Whether it passes; otherwise the index of what fails, also if an allocation fails.
-    fn goes(&self, alloc: Global, index: &mut BlockIndex, path: &Path) -> Result<(), usize>;
+    fn passes(&self, alloc: Global, index: &mut BlockIndex, path: &Path) -> Result<(), usize>;
 }
 
 /// Whether a test passes on a new index of a shape at a path.
-fn goes_at<C: Course>(alloc: Global, shape: Shape, path: &Path, course: &C) -> Result<(), usize> {
+fn passes_at<C: IndexTest>(
+    alloc: Global,
+    shape: Shape,
+    path: &Path,
+    course: &C,
+) -> Result<(), usize> {
     if !shape.ok() {
         return Err(usize::MAX);
     }
     match BlockIndex::new(alloc, shape) {
-        Ok(mut index) => course.goes(alloc, &mut index, path),
+        Ok(mut index) => course.passes(alloc, &mut index, path),
         Err(_) => Err(usize::MAX),
     }
 }
 
 /// Whether a test passes on a new index of a shape at the path of a text.
-pub fn goes_anew<C: Course>(
+pub fn passes_on_new_index<C: IndexTest>(
     alloc: Global,
     shape: Shape,
     text: &str,
     course: &C,
 ) -> Result<(), usize> {
     match path(alloc, text) {
-        Ok(path) => goes_at(alloc, shape, &path, course),
+        Ok(path) => passes_at(alloc, shape, &path, course),
         Err(_) => Err(usize::MAX),
     }
 }
@@ -460,8 +521,8 @@ pub fn goes_anew<C: Course>(
 /// The requests about a file have their expected results.
 struct Asking;
 
-impl Course for Asking {
-    fn goes(&self, alloc: Global, index: &mut BlockIndex, file: &Path) -> Result<(), usize> {
+impl IndexTest for Asking {
+    fn passes(&self, alloc: Global, index: &mut BlockIndex, file: &Path) -> Result<(), usize> {
         let mut number = 0usize;
         for ask in ASKED {
             if !is_answered(alloc, index, file, *ask) {
@@ -475,7 +536,7 @@ impl Course for Asking {
 
 #[test]
 fn bytes_are_read_as_they_were_written_and_cut(rt: HostRuntime) -> Result<(), usize> {
-    goes_anew(rt.alloc(), SHAPE, "/f", &Asking)
+    passes_on_new_index(rt.alloc(), SHAPE, "/f", &Asking)
 }
 
 /// The text of a file's path, and the number of a block of it.
@@ -572,7 +633,7 @@ fn are_none(pairs: Option<Pairs>) -> bool {
 }
 
 /// Whether the blocks of a subtree are these, each the first after the one before.
-fn goes_on(alloc: Global, index: &BlockIndex, above: &Path, limit: usize) -> bool {
+fn continues(alloc: Global, index: &BlockIndex, above: &Path, limit: usize) -> bool {
     let mut behind: Option<Key> = None;
     for place in BELOW_A {
         let pairs = pairs_of(alloc, index, above, behind.as_ref(), limit);
@@ -597,13 +658,13 @@ fn fill(alloc: Global, index: &mut BlockIndex) -> bool {
 /// The subtree of a path continues as expected in an index of the blocks, for each limit.
 struct GoingOn;
 
-impl Course for GoingOn {
-    fn goes(&self, alloc: Global, index: &mut BlockIndex, above: &Path) -> Result<(), usize> {
+impl IndexTest for GoingOn {
+    fn passes(&self, alloc: Global, index: &mut BlockIndex, above: &Path) -> Result<(), usize> {
         if !fill(alloc, index) {
             return Err(usize::MAX);
         }
         for limit in LIMITS {
-            if !goes_on(alloc, index, above, *limit) {
+            if !continues(alloc, index, above, *limit) {
                 return Err(*limit);
             }
         }
@@ -615,6 +676,6 @@ impl Course for GoingOn {
 const LIMITS: &[usize] = &[1, 2, 3, usize::MAX];
 
 #[test]
-fn the_blocks_of_a_subtree_go_on_behind_each_of_their_keys(rt: HostRuntime) -> Result<(), usize> {
-    goes_anew(rt.alloc(), SHAPE, "/a", &GoingOn)
+fn the_blocks_of_a_subtree_continue_after_each_of_their_keys(rt: HostRuntime) -> Result<(), usize> {
+    passes_on_new_index(rt.alloc(), SHAPE, "/a", &GoingOn)
 }

@@ -63,7 +63,7 @@ pub fn outcome(
 }
 
 /// Whether each change has its expected result, in this order.
-pub fn goes(alloc: Global, volume: &mut Volume, rows: &[Row]) -> bool {
+pub fn all_succeed(alloc: Global, volume: &mut Volume, rows: &[Row]) -> bool {
     for (at, text, change, wanted) in rows {
         if outcome(alloc, volume, text, *change, *at) != *wanted {
             return false;

@@ -26,19 +26,19 @@ type Row = (SampleCall<'static>, ExpectedReply<'static>, Counts);
 
 /// The timestamps of a table's calls.
 #[derive(Clone, Copy)]
-enum Moments {
+enum Timestamps {
     /// The timestamp of each call is the index of its row.
     Rising,
     /// All calls have this timestamp.
     One(u64),
 }
 
-impl Moments {
+impl Timestamps {
     /// The timestamp of the call with this index.
     fn of(self, number: usize) -> u64 {
         match self {
-            Moments::Rising => number as u64,
-            Moments::One(at) => at,
+            Timestamps::Rising => number as u64,
+            Timestamps::One(at) => at,
         }
     }
 }
@@ -72,11 +72,16 @@ fn is_answered(alloc: Global, indexes: &mut Indexes, at: u64, row: &Row) -> bool
 }
 
 /// Executes the calls in turn; returns how many have the replies of their rows, before the first that does not.
-fn answered_in(alloc: Global, indexes: &mut Indexes, moments: Moments, rows: &[Row]) -> usize {
+fn answered_in(
+    alloc: Global,
+    indexes: &mut Indexes,
+    timestamps: Timestamps,
+    rows: &[Row],
+) -> usize {
     let mut count = 0usize;
     for row in rows {
         let next = count.saturating_add(1);
-        if !is_answered(alloc, indexes, moments.of(next), row) {
+        if !is_answered(alloc, indexes, timestamps.of(next), row) {
             return count;
         }
         count = next;
@@ -91,9 +96,9 @@ fn new_indexes(alloc: Global) -> Result<Indexes, NoMemory> {
 
 /// Executes the calls in turn on only the root directory; returns how many have the replies of their rows, before the first that does
 /// not.
-fn answered(alloc: Global, moments: Moments, rows: &[Row]) -> usize {
+fn answered(alloc: Global, timestamps: Timestamps, rows: &[Row]) -> usize {
     match new_indexes(alloc) {
-        Ok(mut indexes) => answered_in(alloc, &mut indexes, moments, rows),
+        Ok(mut indexes) => answered_in(alloc, &mut indexes, timestamps, rows),
         Err(_) => 0,
     }
 }
@@ -663,7 +668,7 @@ const BLOCKS_OF_FILES: &[Row] = &[
 ];
 
 /// Calls with the same timestamp, in a root whose mtime is another at first.
-const ONE_MOMENT: &[Row] = &[
+const ONE_TIMESTAMP: &[Row] = &[
     (SampleCall::Create("/f"), ExpectedReply::Done, (2, 0)),
     (SampleCall::Create("/g"), ExpectedReply::Done, (1, 0)),
     (SampleCall::Mkdir("/a"), ExpectedReply::Done, (1, 0)),
@@ -698,7 +703,7 @@ const ONE_MOMENT: &[Row] = &[
 ];
 
 /// Calls with different timestamps, in a root whose mtime is another at first.
-const RISING_MOMENTS: &[Row] = &[
+const RISING_TIMESTAMPS: &[Row] = &[
     (SampleCall::Create("/f"), ExpectedReply::Done, (2, 0)),
     (SampleCall::Create("/g"), ExpectedReply::Done, (2, 0)),
     (SampleCall::Mkdir("/a"), ExpectedReply::Done, (2, 0)),
@@ -718,61 +723,69 @@ const RISING_MOMENTS: &[Row] = &[
 ];
 
 /// Each table, with what it shows, and the timestamps of its calls.
-const TABLES: &[(&str, Moments, &[Row])] = &[
+const TABLES: &[(&str, Timestamps, &[Row])] = &[
     (
-        "a new entry wants a directory above, which gets its moment, and a free name",
-        Moments::Rising,
+        "a new entry needs a parent directory, whose mtime is set, and a free name",
+        Timestamps::Rising,
         NEW_ENTRIES,
     ),
-    ("an empty directory goes", Moments::Rising, EMPTY_DIRECTORY),
+    (
+        "an empty directory is removed",
+        Timestamps::Rising,
+        EMPTY_DIRECTORY,
+    ),
     (
         "a write is a patch for each block that it touches",
-        Moments::Rising,
+        Timestamps::Rising,
         WRITES,
     ),
-    ("a file ends at the limit", Moments::Rising, ENDS),
+    ("a file ends at the limit", Timestamps::Rising, ENDS),
     (
-        "a truncate cuts the blocks behind its end",
-        Moments::Rising,
+        "a truncate removes the blocks after its end",
+        Timestamps::Rising,
         TRUNCATES,
     ),
-    ("a file goes with its bytes", Moments::Rising, FILES),
     (
-        "a subtree goes by a range-delete for each index, and the moment of its directory",
-        Moments::Rising,
+        "a file is removed with its bytes",
+        Timestamps::Rising,
+        FILES,
+    ),
+    (
+        "a subtree is removed by a range-delete for each index, and its directory's mtime is set",
+        Timestamps::Rising,
         SUBTREES,
     ),
     (
-        "a move that is refused sends nothing",
-        Moments::Rising,
+        "a rename that fails sends nothing",
+        Timestamps::Rising,
         REFUSED_MOVES,
     ),
     (
-        "a move is one message for each pair, the ranges, and the moments of its directories",
-        Moments::Rising,
+        "a rename is one message for each pair, the ranges, and the mtimes of its directories",
+        Timestamps::Rising,
         MOVES,
     ),
     (
-        "an unlink clears no range of a file without bytes and blocks",
-        Moments::Rising,
+        "an unlink sends no range-delete for a file without bytes and blocks",
+        Timestamps::Rising,
         BLOCKS_OF_FILES,
     ),
     (
-        "what has its length and the moment is not told them again",
-        Moments::One(7),
-        ONE_MOMENT,
+        "no message is sent for a length and an mtime that the file already has",
+        Timestamps::One(7),
+        ONE_TIMESTAMP,
     ),
     (
-        "what has another moment is told the new one",
-        Moments::Rising,
-        RISING_MOMENTS,
+        "a message is sent for another mtime",
+        Timestamps::Rising,
+        RISING_TIMESTAMPS,
     ),
 ];
 
 /// Whether all tables pass; otherwise the name of the first that fails.
 fn all_answered(alloc: Global) -> Result<(), &'static str> {
-    for (name, moments, rows) in TABLES {
-        if answered(alloc, *moments, rows) != rows.len() {
+    for (name, timestamps, rows) in TABLES {
+        if answered(alloc, *timestamps, rows) != rows.len() {
             return Err(name);
         }
     }

@@ -1,7 +1,7 @@
 //! Tests of the number of pending messages for a file that is written byte by byte, and for a directory that gets many
 //! files.
 
-use crate::asked::{USUAL, answers, creates, new_volume, waiting};
+use crate::requests::{USUAL, answers, creates, new_volume, waiting};
 use std::alloc::Global;
 use test_support::{ExpectedReply, SampleCall};
 use volume::{Index, Volume};
@@ -33,7 +33,7 @@ fn condenses(alloc: Global, volume: &mut Volume) -> bool {
 
 /// Whether a thousand writes of a byte leave one message in each index of a new volume, besides that of the root
 /// directory.
-fn condenses_anew(alloc: Global) -> bool {
+fn condenses_in_new(alloc: Global) -> bool {
     match new_volume(alloc, USUAL) {
         Ok(mut volume) => condenses(alloc, &mut volume),
         Err(_) => false,
@@ -42,7 +42,7 @@ fn condenses_anew(alloc: Global) -> bool {
 
 #[test]
 fn a_thousand_writes_of_a_byte_wait_as_one_message(rt: HostRuntime) {
-    assert!(rt; condenses_anew(rt.alloc()));
+    assert!(rt; condenses_in_new(rt.alloc()));
 }
 
 /// Compacts a volume, by at most that many steps; returns whether nothing is pending in the metadata then.
@@ -78,7 +78,7 @@ fn leaves(alloc: Global, volume: &mut Volume, later: u64, wanted: u128) -> bool 
 }
 
 /// Whether that many messages are pending in a new volume after a thousand files were created in one directory.
-fn leaves_anew(alloc: Global, later: u64, wanted: u128) -> bool {
+fn leaves_in_new(alloc: Global, later: u64, wanted: u128) -> bool {
     match new_volume(alloc, USUAL) {
         Ok(mut volume) => leaves(alloc, &mut volume, later, wanted),
         Err(_) => false,
@@ -87,10 +87,10 @@ fn leaves_anew(alloc: Global, later: u64, wanted: u128) -> bool {
 
 #[test]
 fn a_thousand_files_leave_one_touch_of_their_directory(rt: HostRuntime) {
-    assert!(rt; leaves_anew(rt.alloc(), 1, 1_001));
+    assert!(rt; leaves_in_new(rt.alloc(), 1, 1_001));
 }
 
 #[test]
 fn a_directory_that_has_the_moment_is_not_touched(rt: HostRuntime) {
-    assert!(rt; leaves_anew(rt.alloc(), 0, 1_000));
+    assert!(rt; leaves_in_new(rt.alloc(), 0, 1_000));
 }

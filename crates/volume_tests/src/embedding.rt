@@ -1,7 +1,7 @@
 //! A test of a volume as a program embeds it: a file is written, kept in a snapshot and unlinked, and its length is
 //! read.
-use crate::asked::{USUAL, new_volume};
 use crate::look_alike::stat_of;
+use crate::requests::{USUAL, new_volume};
 use bytes::Bytes;
 use std::alloc::Global;
 use volume::{Call, Errno, Frozen, Kind, Path, Reply, SnapName, Volume};
@@ -108,7 +108,7 @@ fn is_kept(alloc: Global, volume: &mut Volume) -> bool {
 }
 
 /// Whether each call in a new volume has its expected reply.
-fn is_kept_anew(alloc: Global) -> bool {
+fn is_kept_in_new(alloc: Global) -> bool {
     match new_volume(alloc, USUAL) {
         Ok(mut volume) => is_kept(alloc, &mut volume),
         Err(_) => false,
@@ -117,5 +117,5 @@ fn is_kept_anew(alloc: Global) -> bool {
 
 #[test]
 fn a_snapshot_keeps_what_is_unlinked(rt: HostRuntime) {
-    assert!(rt; is_kept_anew(rt.alloc()));
+    assert!(rt; is_kept_in_new(rt.alloc()));
 }

@@ -1,9 +1,9 @@
 //! Tests of runs of random events of every kind, with jobs taken and finished among them, against the reference
 //! program.
-use crate::asked::{SMALL, new_volume};
 use crate::look_alike::{is_reply, look_alike};
+use crate::requests::{SMALL, new_volume};
 use crate::runs::{Act, add, run};
-use crate::some_events::{some_ask, some_index, some_moment, some_snap, some_step};
+use crate::some_events::{some_ask, some_index, some_snap, some_step, some_timestamp};
 use node::{Place, Shape, StepKind, StepReply, TreeStep};
 use pathkey::{Errno, NoMemory, SnapName};
 use reference::plain::World;
@@ -145,7 +145,7 @@ fn some_act(random: &mut Random, first: u32) -> Act<'static> {
         1 => some_finishing(random, first),
         2 | 3 => Act::Step(some_step(random)),
         _ if random.below(8) == 0 => Act::Snap(some_snap(random)),
-        _ => Act::Live(some_ask(random), some_moment(random)),
+        _ => Act::Live(some_ask(random), some_timestamp(random)),
     }
 }
 

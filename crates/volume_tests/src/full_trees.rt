@@ -1,6 +1,6 @@
 //! Tests of small trees in which none of the steps that compaction tries fits, although another choice of steps would.
-use crate::asked::{SMALL, answers, new_volume};
 use crate::changes::{Change, outcome};
+use crate::requests::{SMALL, answers, new_volume};
 use std::alloc::Global;
 use test_support::{ExpectedReply, SampleCall};
 use volume::Volume;
@@ -64,7 +64,7 @@ fn arrive_all(alloc: Global, volume: &mut Volume) -> bool {
 }
 
 /// Whether a few hundred steps then flush everything that is pending.
-fn comes_to_rest(alloc: Global, volume: &mut Volume) -> bool {
+fn becomes_idle(alloc: Global, volume: &mut Volume) -> bool {
     let is_done = arrive_all(alloc, volume);
     relieve(alloc, volume, 400);
     is_done && volume.compact_step(alloc).is_none()
@@ -73,7 +73,7 @@ fn comes_to_rest(alloc: Global, volume: &mut Volume) -> bool {
 /// The same in a new volume.
 fn rests(alloc: Global) -> bool {
     match new_volume(alloc, SMALL) {
-        Ok(mut volume) => comes_to_rest(alloc, &mut volume),
+        Ok(mut volume) => becomes_idle(alloc, &mut volume),
         Err(_) => false,
     }
 }

@@ -2,7 +2,7 @@
 ghost use Rattle.volume.specs.Jobs.{DoneFits};
 ghost use Rattle.volume.specs.Volumes.{live_of};
 
-use crate::asked::{SMALL, Snap, answers, new_volume};
+use crate::requests::{SMALL, Snap, answers, new_volume};
 use crate::runs::{Turn, follows};
 use jobs::Ticket;
 use node::StepKind;

@@ -1,6 +1,6 @@
 //! Tests of pending lists of blocks: updates of one block are condensed into one message.
 
-use crate::blocks::Laid;
+use crate::blocks::SampleUpdate;
 use crate::metadata::key_of;
 use block_index::BlockUpdate;
 use message::Msg;
@@ -18,7 +18,7 @@ fn edit(alloc: Global, key: &Key, update: BlockUpdate) -> Option<Msg<BlockUpdate
 }
 
 /// The message of a row's update at a key; `None` if an allocation fails.
-fn message(alloc: Global, key: &Key, row: Laid) -> Option<Msg<BlockUpdate>> {
+fn message(alloc: Global, key: &Key, row: SampleUpdate) -> Option<Msg<BlockUpdate>> {
     match row.update(alloc) {
         Some(update) => edit(alloc, key, update),
         None => None,
@@ -26,7 +26,12 @@ fn message(alloc: Global, key: &Key, row: Laid) -> Option<Msg<BlockUpdate>> {
 }
 
 /// Appends an update at a key to a list, and returns how many messages are pending then; `None` if an allocation fails.
-fn push(alloc: Global, list: &mut Pending<BlockUpdate>, key: &Key, row: Laid) -> Option<usize> {
+fn push(
+    alloc: Global,
+    list: &mut Pending<BlockUpdate>,
+    key: &Key,
+    row: SampleUpdate,
+) -> Option<usize> {
     if list.reserve(1).is_err() {
         return None;
     }
@@ -40,7 +45,12 @@ fn push(alloc: Global, list: &mut Pending<BlockUpdate>, key: &Key, row: Laid) ->
 }
 
 /// Whether one message is pending after each update of the rows.
-fn push_all(alloc: Global, list: &mut Pending<BlockUpdate>, key: &Key, rows: &[Laid]) -> bool {
+fn push_all(
+    alloc: Global,
+    list: &mut Pending<BlockUpdate>,
+    key: &Key,
+    rows: &[SampleUpdate],
+) -> bool {
     for row in rows {
         if push(alloc, list, key, *row) != Some(1) {
             return false;
@@ -58,13 +68,13 @@ fn makes(alloc: Global, list: &Pending<BlockUpdate>, key: &Key, wanted: &[u8]) -
 }
 
 /// Whether updates at a key leave one message, and these bytes.
-fn update(alloc: Global, key: &Key, rows: &[Laid], wanted: &[u8]) -> bool {
+fn update(alloc: Global, key: &Key, rows: &[SampleUpdate], wanted: &[u8]) -> bool {
     let mut list = Pending::new(alloc);
     push_all(alloc, &mut list, key, rows) && makes(alloc, &list, key, wanted)
 }
 
 /// Updates of one block, and the bytes that they give for an absent one.
-struct Updates(&'static [Laid], &'static [u8]);
+struct Updates(&'static [SampleUpdate], &'static [u8]);
 
 impl Holds for Updates {
     fn holds(&self, alloc: Global) -> bool {
@@ -78,48 +88,52 @@ impl Holds for Updates {
 const UPDATES: &[Updates] = &[
     Updates(
         &[
-            Laid::Patch(4, b"\xaa\xbb"),
-            Laid::Patch(2, b"\xcc"),
-            Laid::Patch(3, b"\xdd"),
+            SampleUpdate::Patch(4, b"\xaa\xbb"),
+            SampleUpdate::Patch(2, b"\xcc"),
+            SampleUpdate::Patch(3, b"\xdd"),
         ],
         b"\0\0\xcc\xdd\xaa\xbb",
     ),
     Updates(
         &[
-            Laid::Patch(2, b"\xcc"),
-            Laid::Patch(4, b"\xaa\xbb"),
-            Laid::Patch(3, b"\xdd"),
+            SampleUpdate::Patch(2, b"\xcc"),
+            SampleUpdate::Patch(4, b"\xaa\xbb"),
+            SampleUpdate::Patch(3, b"\xdd"),
         ],
         b"\0\0\xcc\xdd\xaa\xbb",
     ),
     Updates(
         &[
-            Laid::Patch(0, b"aaa"),
-            Laid::Patch(1, b"b"),
-            Laid::Patch(9, b"c"),
+            SampleUpdate::Patch(0, b"aaa"),
+            SampleUpdate::Patch(1, b"b"),
+            SampleUpdate::Patch(9, b"c"),
         ],
         b"aba\0\0\0\0\0\0c",
     ),
     Updates(
         &[
-            Laid::Patch(8, b"ab"),
-            Laid::Patch(0, b"cd"),
-            Laid::Patch(4, b"ef"),
-            Laid::Patch(1, b"ghijklmn"),
+            SampleUpdate::Patch(8, b"ab"),
+            SampleUpdate::Patch(0, b"cd"),
+            SampleUpdate::Patch(4, b"ef"),
+            SampleUpdate::Patch(1, b"ghijklmn"),
         ],
         b"cghijklmnb",
     ),
     Updates(
         &[
-            Laid::Patch(6, b"ab"),
-            Laid::Patch(0, b"c"),
-            Laid::CutTo(7),
-            Laid::Patch(3, b"d"),
+            SampleUpdate::Patch(6, b"ab"),
+            SampleUpdate::Patch(0, b"c"),
+            SampleUpdate::CutTo(7),
+            SampleUpdate::Patch(3, b"d"),
         ],
         b"c\0\0d\0\0a",
     ),
     Updates(
-        &[Laid::Patch(6, b"ab"), Laid::CutTo(2), Laid::Patch(4, b"c")],
+        &[
+            SampleUpdate::Patch(6, b"ab"),
+            SampleUpdate::CutTo(2),
+            SampleUpdate::Patch(4, b"c"),
+        ],
         b"\0\0\0\0c",
     ),
 ];
@@ -135,7 +149,12 @@ fn waiting(alloc: Global, key: &Key, count: u8) -> Option<usize> {
     let mut list = Pending::new(alloc);
     let mut waiting = Some(0);
     for number in 0..count {
-        waiting = push(alloc, &mut list, key, Laid::Patch(number as u16 * 2, b"a"));
+        waiting = push(
+            alloc,
+            &mut list,
+            key,
+            SampleUpdate::Patch(number as u16 * 2, b"a"),
+        );
     }
     waiting
 }

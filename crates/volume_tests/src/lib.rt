@@ -6,8 +6,6 @@
 #![tactic(auto)]
 
 #[cfg(test)]
-mod asked;
-#[cfg(test)]
 mod block_walks;
 #[cfg(test)]
 mod blocks;
@@ -39,6 +37,8 @@ mod plain;
 mod removals;
 #[cfg(test)]
 mod reported;
+#[cfg(test)]
+mod requests;
 #[cfg(test)]
 mod runs;
 #[cfg(test)]

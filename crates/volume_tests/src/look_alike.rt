@@ -1,5 +1,5 @@
 //! Whether a volume and the reference program have the same tree, by a walk through all of it.
-use crate::asked::freeze;
+use crate::requests::freeze;
 use pathkey::Path;
 use reference::plain::reading::{list_directory, read_file, stat};
 use reference::plain::{Tree, World};
@@ -24,8 +24,8 @@ pub fn is_reply(reply: &Reply, wanted: &Reply) -> bool {
         (Reply::Done, Reply::Done) => true,
         (Reply::Count(count), Reply::Count(wanted)) => count == wanted,
         (Reply::Data(bytes), Reply::Data(wanted)) => bytes.as_slice() == wanted.as_slice(),
-        (Reply::Stat(kind, length, modified), Reply::Stat(other, wanted, moment)) => {
-            kind == other && length == wanted && modified == moment
+        (Reply::Stat(kind, length, modified), Reply::Stat(other, wanted, mtime)) => {
+            kind == other && length == wanted && modified == mtime
         }
         (Reply::Names(names), Reply::Names(wanted)) => are_one(names, wanted),
         (Reply::Fault(fault), Reply::Fault(wanted)) => fault == wanted,

@@ -47,10 +47,10 @@ fn fault_of(alloc: Global, world: &mut World, snap: Snap<'_>) -> Option<Errno> {
 }
 
 /// Whether this is the reply, or the error of a text that is not a path.
-fn is_reported(told: ExpectedReply<'_>, reply: Result<Reply, Errno>) -> bool {
+fn is_reported(wanted: ExpectedReply<'_>, reply: Result<Reply, Errno>) -> bool {
     match reply {
-        Ok(reply) => told.is(&reply),
-        Err(fault) => matches!(told, ExpectedReply::Fault(wanted) if wanted == fault),
+        Ok(reply) => wanted.is(&reply),
+        Err(fault) => matches!(wanted, ExpectedReply::Fault(errno) if errno == fault),
     }
 }
 
@@ -63,9 +63,9 @@ fn list(alloc: Global, tree: &Tree, path: &Path) -> Result<Reply, Errno> {
 }
 
 /// Whether a directory of the tree has these entries.
-fn lists(alloc: Global, tree: &Tree, text: &str, told: ExpectedReply<'_>) -> bool {
+fn lists(alloc: Global, tree: &Tree, text: &str, wanted: ExpectedReply<'_>) -> bool {
     match path(alloc, text) {
-        Ok(path) => is_reported(told, list(alloc, tree, &path)),
+        Ok(path) => is_reported(wanted, list(alloc, tree, &path)),
         Err(_) => false,
     }
 }
@@ -76,11 +76,11 @@ fn lists_frozen(
     world: &World,
     name: &str,
     text: &str,
-    told: ExpectedReply<'_>,
+    wanted: ExpectedReply<'_>,
 ) -> bool {
     match snap_name(alloc, name) {
         Ok(name) => match world.frozen(&name) {
-            Some(tree) => lists(alloc, tree, text, told),
+            Some(tree) => lists(alloc, tree, text, wanted),
             None => false,
         },
         Err(_) => false,
@@ -124,24 +124,24 @@ fn new_world(alloc: Global) -> Result<World, NoMemory> {
 }
 
 /// A test that runs on a new world.
-trait Course {
+trait WorldTest {
     /// Whether it passes; `false` if an allocation fails.
-    fn goes(&self, alloc: Global, world: &mut World) -> bool;
+    fn passes(&self, alloc: Global, world: &mut World) -> bool;
 }
 
 /// Whether a test passes on a new world.
-fn goes_anew<C: Course>(alloc: Global, course: &C) -> bool {
+fn passes_on_new_world<C: WorldTest>(alloc: Global, course: &C) -> bool {
     match new_world(alloc) {
-        Ok(mut world) => course.goes(alloc, &mut world),
+        Ok(mut world) => course.passes(alloc, &mut world),
         Err(_) => false,
     }
 }
 
 /// Whether each test passes on a new world; otherwise the index of the first that fails.
-fn all_go<C: Course>(alloc: Global, courses: &[C]) -> Result<(), usize> {
+fn all_pass<C: WorldTest>(alloc: Global, courses: &[C]) -> Result<(), usize> {
     let mut number = 0usize;
     for course in courses {
-        if !goes_anew(alloc, course) {
+        if !passes_on_new_world(alloc, course) {
             return Err(number);
         }
         number = number.saturating_add(1);
@@ -307,8 +307,8 @@ const RESTORED: &[Row<'static>] = &[(SampleCall::Readdir("/a"), LISTED)];
 /// A snapshot keeps what the live tree loses, and restores it.
 struct Keeping;
 
-impl Course for Keeping {
-    fn goes(&self, alloc: Global, world: &mut World) -> bool {
+impl WorldTest for Keeping {
+    fn passes(&self, alloc: Global, world: &mut World) -> bool {
         follows(alloc, world, BEFORE)
             && fault_of(alloc, world, Snap::Keep("s")).is_none()
             && follows(alloc, world, BEHIND)
@@ -320,7 +320,7 @@ impl Course for Keeping {
 
 #[test]
 fn snapshot_and_restore(rt: HostRuntime) {
-    assert!(rt; goes_anew(rt.alloc(), &Keeping));
+    assert!(rt; passes_on_new_world(rt.alloc(), &Keeping));
 }
 
 /// A file that replaces a longer one has none of its bytes, also after it is extended.
@@ -387,8 +387,8 @@ const NO_PATHS: &[Row<'static>] = &[
 /// The number of letters of a name, and whether it can be created or fails.
 struct Name(u32, ExpectedReply<'static>);
 
-impl Course for Name {
-    fn goes(&self, alloc: Global, world: &mut World) -> bool {
+impl WorldTest for Name {
+    fn passes(&self, alloc: Global, world: &mut World) -> bool {
         match longer(alloc, "", "n", self.0) {
             Ok(text) => is_answered(alloc, world, &(SampleCall::Create(text.as_str()), self.1)),
             Err(_) => false,
@@ -404,7 +404,7 @@ const LONGEST: &[Name] = &[
 
 #[test]
 fn longest_name(rt: HostRuntime) -> Result<(), usize> {
-    all_go(rt.alloc(), LONGEST)
+    all_pass(rt.alloc(), LONGEST)
 }
 
 /// Creates a directory; returns whether it succeeds.
@@ -447,15 +447,15 @@ const DEEP: &[Row<'static>] = &[
 /// A subtree whose deepest text has 1,022 bytes can be moved to a name one byte longer, and not to a longer one.
 struct Deepest;
 
-impl Course for Deepest {
-    fn goes(&self, alloc: Global, world: &mut World) -> bool {
+impl WorldTest for Deepest {
+    fn passes(&self, alloc: Global, world: &mut World) -> bool {
         makes(alloc, world, "/a") && is_deep(alloc, world, 1022) && follows(alloc, world, DEEP)
     }
 }
 
 #[test]
 fn deepest_text(rt: HostRuntime) {
-    assert!(rt; goes_anew(rt.alloc(), &Deepest));
+    assert!(rt; passes_on_new_world(rt.alloc(), &Deepest));
 }
 
 /// The error of taking the snapshot of the name with a number; `None` if it is taken.
@@ -489,8 +489,8 @@ fn follows_snapshots(alloc: Global, world: &mut World) -> bool {
 /// At most 64 snapshots are taken, and a name that is dropped is free again.
 struct Most;
 
-impl Course for Most {
-    fn goes(&self, alloc: Global, world: &mut World) -> bool {
+impl WorldTest for Most {
+    fn passes(&self, alloc: Global, world: &mut World) -> bool {
         for number in 1u32..65 {
             if fault_of_number(alloc, world, number).is_some() {
                 return false;
@@ -502,7 +502,7 @@ impl Course for Most {
 
 #[test]
 fn most_snapshots(rt: HostRuntime) {
-    assert!(rt; goes_anew(rt.alloc(), &Most));
+    assert!(rt; passes_on_new_world(rt.alloc(), &Most));
 }
 
 const NESTED: &[Row<'static>] = &[
@@ -513,8 +513,8 @@ const NESTED: &[Row<'static>] = &[
 /// A table of calls, with what it shows.
 struct Table(&'static str, &'static [Row<'static>]);
 
-impl Course for Table {
-    fn goes(&self, alloc: Global, world: &mut World) -> bool {
+impl WorldTest for Table {
+    fn passes(&self, alloc: Global, world: &mut World) -> bool {
         follows(alloc, world, self.1)
     }
 }
@@ -534,7 +534,7 @@ const TABLES: &[Table] = &[
 /// Whether all tables pass; otherwise the name of the first that fails.
 fn all_answered(alloc: Global) -> Result<(), &'static str> {
     for table in TABLES {
-        if !goes_anew(alloc, table) {
+        if !passes_on_new_world(alloc, table) {
             return Err(table.0);
         }
     }
@@ -549,8 +549,8 @@ fn answers_as_each_table_says(rt: HostRuntime) -> Result<(), &'static str> {
 /// A table of calls, and the image after them.
 struct Image(&'static [Row<'static>], &'static [u8]);
 
-impl Course for Image {
-    fn goes(&self, alloc: Global, world: &mut World) -> bool {
+impl WorldTest for Image {
+    fn passes(&self, alloc: Global, world: &mut World) -> bool {
         follows(alloc, world, self.0) && has_image(alloc, world, self.1)
     }
 }
@@ -564,6 +564,6 @@ const IMAGES: &[Image] = &[
 ];
 
 #[test]
-fn comes_to_each_image(rt: HostRuntime) -> Result<(), usize> {
-    all_go(rt.alloc(), IMAGES)
+fn has_each_image(rt: HostRuntime) -> Result<(), usize> {
+    all_pass(rt.alloc(), IMAGES)
 }

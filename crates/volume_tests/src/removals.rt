@@ -3,8 +3,8 @@
 //!
 //! The measure is a new volume with the same entries. No function here has a postcondition, so that the proofs of the tests do not
 //! unfold the contract of a volume.
-use crate::asked::new_volume;
 use crate::changes::{Change, outcome};
+use crate::requests::new_volume;
 use node::Shape;
 use std::alloc::Global;
 use volume::{Index, PathCall, Volume};
@@ -141,7 +141,7 @@ fn remove(alloc: Global, volume: &mut Volume, shape: Shape, files: &[u32]) -> bo
 }
 
 /// Creates files, renames every second one to the next, and removes them all.
-fn come_and_go(alloc: Global, volume: &mut Volume, shape: Shape) -> bool {
+fn create_and_remove(alloc: Global, volume: &mut Volume, shape: Shape) -> bool {
     match (every_second(alloc, 0), every_second(alloc, 1)) {
         (Some(moved), Some(left)) => {
             make(alloc, volume, moved.as_slice())
@@ -160,7 +160,7 @@ fn come_and_go(alloc: Global, volume: &mut Volume, shape: Shape) -> bool {
 }
 
 /// Creates directories, and then removes them in order.
-fn directories_go(alloc: Global, volume: &mut Volume, shape: Shape) -> bool {
+fn remove_directories(alloc: Global, volume: &mut Volume, shape: Shape) -> bool {
     match every_second(alloc, 0) {
         Some(numbers) => {
             change_all(
@@ -183,7 +183,8 @@ fn directories_go(alloc: Global, volume: &mut Volume, shape: Shape) -> bool {
 fn stays_small(alloc: Global, shape: Shape) -> bool {
     match new_volume(alloc, shape) {
         Ok(mut volume) => {
-            come_and_go(alloc, &mut volume, shape) && directories_go(alloc, &mut volume, shape)
+            create_and_remove(alloc, &mut volume, shape)
+                && remove_directories(alloc, &mut volume, shape)
         }
         Err(_) => false,
     }

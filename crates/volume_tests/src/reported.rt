@@ -1,5 +1,5 @@
 //! Tests of what a volume reports of its trees, and of frozen trees.
-use crate::asked::{SMALL, USUAL, answers, freeze, frozen, new_volume, tells};
+use crate::requests::{SMALL, USUAL, answers, freeze, frozen, new_volume, replies_frozen};
 use node::{Place, Shape, StepKind, TreeStep};
 use pathkey::Errno;
 use reference::Kind;
@@ -99,17 +99,17 @@ fn relief_takes_the_index_in_which_more_waits(rt: HostRuntime) {
 
 /// Whether a tree has the file, with its byte.
 fn has_file(alloc: Global, tree: &Frozen) -> bool {
-    tells(
+    replies_frozen(
         alloc,
         tree,
         SampleCall::Readdir("/"),
         ExpectedReply::Names(&[(Kind::File, "f")]),
-    ) && tells(
+    ) && replies_frozen(
         alloc,
         tree,
         SampleCall::Read("/f", 0, 9),
         ExpectedReply::Data(b"\xaa"),
-    ) && tells(alloc, tree, SampleCall::Stat("/f"), ExpectedReply::File(1))
+    ) && replies_frozen(alloc, tree, SampleCall::Stat("/f"), ExpectedReply::File(1))
 }
 
 /// Whether the file is removed from the live tree, and remains in one that was frozen before.

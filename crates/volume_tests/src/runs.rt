@@ -1,6 +1,6 @@
 //! Tests of runs of events, in a form that constant tables can contain.
-use crate::asked::{SMALL, Snap, new_volume, snap_name};
 use crate::reported::{at_first_slot, first_leaf};
+use crate::requests::{SMALL, Snap, new_volume, snap_name};
 use jobs::Ticket;
 use node::{StepKind, StepReply};
 use pathkey::{Errno, SnapName};

@@ -1,5 +1,5 @@
 //! Random events: file calls at few paths and their timestamps, calls on three snapshots, steps of all eight kinds.
-use crate::asked::Snap;
+use crate::requests::Snap;
 use node::{Place, StepKind, TreeStep};
 use test_support::{Random, SampleCall};
 use volume::{Index, Step};
@@ -51,7 +51,7 @@ const WRITTEN: [&[u8]; 8] = [
 ];
 
 /// Timestamps, including the least and the greatest.
-const MOMENTS: [u64; 6] = [0, 1, 2, 9, 1_700_000_000, u64::MAX];
+const TIMESTAMPS: [u64; 6] = [0, 1, 2, 9, 1_700_000_000, u64::MAX];
 
 fn some_directory(random: &mut Random) -> &'static str {
     DIRECTORIES[random.below(16) as usize]
@@ -143,8 +143,8 @@ pub fn some_ask(random: &mut Random) -> SampleCall<'static> {
 }
 
 /// The timestamp of a call, which may be below that of the call before.
-pub fn some_moment(random: &mut Random) -> u64 {
-    MOMENTS[random.below(6) as usize]
+pub fn some_timestamp(random: &mut Random) -> u64 {
+    TIMESTAMPS[random.below(6) as usize]
 }
 
 /// A snapshot call: snapshots are taken more often than dropped.

@@ -1,5 +1,5 @@
 //! Tests of many files with steps of both trees between the calls: the answers are the same whichever steps are done.
-use crate::asked::{SMALL, answers, creates, new_volume};
+use crate::requests::{SMALL, answers, creates, new_volume};
 use node::StepReply;
 use reference::Kind;
 use std::alloc::Global;
@@ -116,13 +116,13 @@ fn reported(alloc: Global, turns: u32, last: u32) -> Option<u32> {
 const TURNS: &[u32] = &[0, 1, 1_000];
 
 #[test]
-fn directory_comes_again_whatever_steps_are_done(rt: HostRuntime) {
+fn directory_is_created_again_whatever_steps_are_done(rt: HostRuntime) {
     for turns in TURNS {
         assert_eq!(rt; reported(rt.alloc(), *turns, 0), Some(0), "{turns}");
     }
 }
 
 #[test]
-fn directory_stands_after_many_steps(rt: HostRuntime) {
+fn directory_exists_after_many_steps(rt: HostRuntime) {
     assert!(rt; matches!(reported(rt.alloc(), 0, 1_000), Some(1..)));
 }

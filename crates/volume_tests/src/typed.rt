@@ -1,6 +1,6 @@
 //! Tests of the typed calls: each succeeds once, and fails once.
-use crate::asked::{USUAL, freeze, new_volume};
-use crate::changes::{Change, Row, goes};
+use crate::changes::{Change, Row, all_succeed};
+use crate::requests::{USUAL, freeze, new_volume};
 use std::alloc::Global;
 use test_support::ask::path;
 use volume::{Errno, Frozen, Kind, Path, PathCall, Volume};
@@ -57,14 +57,14 @@ fn is_listed(answer: Result<Vec<(Kind, Vec<u8>)>, Errno>, wanted: &[u8]) -> bool
 }
 
 /// Whether a volume and its frozen tree report the file at a path.
-fn tell_file(alloc: Global, volume: &Volume, tree: &Frozen, file: &Path) -> bool {
+fn report_file(alloc: Global, volume: &Volume, tree: &Frozen, file: &Path) -> bool {
     is_read(volume.read(alloc, file, 0, 100), b"\0\0\0wor")
         && is_read(tree.try_read(alloc, file, 0, 100), b"\0\0\0wor")
         && volume.stat(alloc, file) == Ok((Kind::File, 6, 7))
 }
 
 /// Whether they report the directory at a path.
-fn tell_directory(alloc: Global, volume: &Volume, tree: &Frozen, directory: &Path) -> bool {
+fn report_directory(alloc: Global, volume: &Volume, tree: &Frozen, directory: &Path) -> bool {
     tree.try_stat(alloc, directory) == Ok((Kind::Dir, 0, 4))
         && is_listed(volume.readdir(alloc, directory), b"g")
         && is_listed(tree.try_readdir(alloc, directory), b"g")
@@ -73,7 +73,7 @@ fn tell_directory(alloc: Global, volume: &Volume, tree: &Frozen, directory: &Pat
 /// Whether `/a/g` has these bytes and its mtime, according to all reads.
 fn has_file(alloc: Global, volume: &Volume, tree: &Frozen) -> bool {
     match path(alloc, "/a/g") {
-        Ok(file) => tell_file(alloc, volume, tree, &file),
+        Ok(file) => report_file(alloc, volume, tree, &file),
         Err(_) => false,
     }
 }
@@ -81,7 +81,7 @@ fn has_file(alloc: Global, volume: &Volume, tree: &Frozen) -> bool {
 /// Whether `/a` has that one file and its mtime.
 fn has_directory(alloc: Global, volume: &Volume, tree: &Frozen) -> bool {
     match path(alloc, "/a") {
-        Ok(directory) => tell_directory(alloc, volume, tree, &directory),
+        Ok(directory) => report_directory(alloc, volume, tree, &directory),
         Err(_) => false,
     }
 }
@@ -96,10 +96,10 @@ fn looks(alloc: Global, volume: &Volume) -> bool {
 
 /// Whether all rows pass, reads report what they left, and everything is removed.
 fn is_done(alloc: Global, volume: &mut Volume) -> bool {
-    goes(alloc, volume, ROWS) && looks(alloc, volume) && goes(alloc, volume, WHOLE)
+    all_succeed(alloc, volume, ROWS) && looks(alloc, volume) && all_succeed(alloc, volume, WHOLE)
 }
 
-fn is_done_anew(alloc: Global) -> bool {
+fn is_done_in_new(alloc: Global) -> bool {
     match new_volume(alloc, USUAL) {
         Ok(mut volume) => is_done(alloc, &mut volume),
         Err(_) => false,
@@ -108,5 +108,5 @@ fn is_done_anew(alloc: Global) -> bool {
 
 #[test]
 fn each_call_by_its_name(rt: HostRuntime) {
-    assert!(rt; is_done_anew(rt.alloc()));
+    assert!(rt; is_done_in_new(rt.alloc()));
 }

@@ -1,7 +1,7 @@
 //! Tests of walks through a frozen tree: its entries from a path on, and the blocks of a file from a number on, with a
 //! limit.
-use crate::asked::{USUAL, freeze, new_volume};
-use crate::changes::{Change, Row, goes};
+use crate::changes::{Change, Row, all_succeed};
+use crate::requests::{USUAL, freeze, new_volume};
 use pathkey::NoMemory;
 use std::alloc::Global;
 use test_support::ask::path;
@@ -176,24 +176,24 @@ fn are_listed(alloc: Global, tree: &Frozen) -> bool {
 }
 
 /// Whether walks of a frozen tree are as expected, though its volume changes.
-fn goes_on(alloc: Global, volume: &mut Volume, tree: &Frozen) -> bool {
-    goes(alloc, volume, EMPTIED) && are_walked(alloc, tree) && are_listed(alloc, tree)
+fn is_unchanged(alloc: Global, volume: &mut Volume, tree: &Frozen) -> bool {
+    all_succeed(alloc, volume, EMPTIED) && are_walked(alloc, tree) && are_listed(alloc, tree)
 }
 
 /// Whether walks of the live tree are as expected after it is frozen, though its volume changes.
 fn freezes(alloc: Global, volume: &mut Volume) -> bool {
     match freeze(volume) {
-        Ok(tree) => goes_on(alloc, volume, &tree),
+        Ok(tree) => is_unchanged(alloc, volume, &tree),
         Err(_) => false,
     }
 }
 
 /// Whether the files are created in a volume, and walks of its tree are as expected after it is frozen.
 fn is_reported(alloc: Global, volume: &mut Volume) -> bool {
-    goes(alloc, volume, FILLED) && freezes(alloc, volume)
+    all_succeed(alloc, volume, FILLED) && freezes(alloc, volume)
 }
 
-fn is_reported_anew(alloc: Global) -> bool {
+fn is_reported_in_new(alloc: Global) -> bool {
     match new_volume(alloc, USUAL) {
         Ok(mut volume) => is_reported(alloc, &mut volume),
         Err(_) => false,
@@ -202,5 +202,5 @@ fn is_reported_anew(alloc: Global) -> bool {
 
 #[test]
 fn walks_through_a_frozen_tree(rt: HostRuntime) {
-    assert!(rt; is_reported_anew(rt.alloc()));
+    assert!(rt; is_reported_in_new(rt.alloc()));
 }

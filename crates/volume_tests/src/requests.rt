@@ -95,7 +95,7 @@ fn reply_of(alloc: Global, frozen: &Frozen, call: &Call) -> Reply {
 }
 
 /// Whether a frozen tree has this reply.
-pub fn tells(
+pub fn replies_frozen(
     alloc: Global,
     frozen: &Frozen,
     ask: SampleCall<'_>,
