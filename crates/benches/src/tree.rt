@@ -81,7 +81,7 @@ fn do_little(alloc: Global, tree: &mut Tree<Set>) -> Result<Little, NoMemory> {
 }
 
 /// A little of the work on a new tree.
-fn do_little_anew(alloc: Global) -> Result<Little, NoMemory> {
+fn do_little_on_new_tree(alloc: Global) -> Result<Little, NoMemory> {
     match new_tree(alloc) {
         Ok(mut tree) => do_little(alloc, &mut tree),
         Err(refused) => Err(refused),
@@ -94,7 +94,7 @@ fn show_little(rt: &impl Print, alloc: Global) -> anyhow::Result<()> {
         found,
         pending,
         joined,
-    } = do_little_anew(alloc)?;
+    } = do_little_on_new_tree(alloc)?;
     println!(rt; "{found} found, {pending} pending, {joined} after edits that join")?;
     Ok(())
 }

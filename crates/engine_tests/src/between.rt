@@ -1,9 +1,9 @@
 //! Tests of a turn that takes a job, while a client does something between taking and installing.
 ghost use Rattle.std.specs.Prelude.{◌≡◌};
 
-use crate::asked::answers;
 use crate::depth::{makes_all, turns_until_idle};
 use crate::ends::{Snap, fault_of};
+use crate::requests::answers;
 use engine::{Between, Client, EngineId, Flusher, TurnReply};
 use pathkey::Errno;
 use std::alloc::Global;
@@ -140,7 +140,7 @@ pub fn prepares<J: EngineId, R: Wait>(
 
 /// A turn during which the client does this between taking and installing: whether turn and client have the expected
 /// replies.
-pub fn goes_on<J: EngineId, R: Wait>(
+pub fn interferes<J: EngineId, R: Wait>(
     rt: &R,
     alloc: Global,
     mut client: Client<J>,

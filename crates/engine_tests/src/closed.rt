@@ -1,8 +1,8 @@
 //! Tests of an engine that ends between the two critical sections of a turn.
 ghost use Rattle.std.specs.Prelude.{◌≡◌};
 
-use crate::asked::{SMALL, new_room};
 use crate::between::prepares;
+use crate::requests::{SMALL, new_room};
 use engine::{Between, Clients, Engine, EngineBuilder, EngineId, Flusher, TurnReply};
 use std::alloc::Global;
 use std::marker::Brand;

@@ -2,7 +2,7 @@
 //! pending is flushed, the tree becomes as deep as it must, and then there is nothing to do.
 ghost use Rattle.std.specs.Prelude.{◌≡◌};
 
-use crate::asked::answers;
+use crate::requests::answers;
 use engine::{Between, Client, EngineId, Flusher, TurnReply};
 use node::{ShapeReport, StepReply};
 use std::alloc::Global;

@@ -1,8 +1,8 @@
 //! Tests of the end of an engine: it ends only with all its clients. Also makes each call of a client once.
 ghost use Rattle.std.specs.Prelude.{◌≡◌};
 
-use crate::asked::{SMALL, answers, is, name_of, new_room};
 use crate::crew::{end, two_of};
+use crate::requests::{SMALL, answers, is, name_of, new_room};
 use engine::{Client, CloseFault, Engine, EngineBuilder, EngineId};
 use pathkey::{Errno, Path};
 use std::alloc::Global;
@@ -44,13 +44,13 @@ fn stat_in<J: EngineId, R: Wait>(
     client: &mut Client<J>,
     text: &str,
     path: &Path,
-    told: ExpectedReply<'_>,
+    wanted: ExpectedReply<'_>,
 ) -> Result<bool, Errno> {
     let Some(name) = name_of(alloc, text) else {
         return Err(Errno::ENOMEM);
     };
     match client.frozen(rt, &name) {
-        Ok(tree) => Ok(is(told, &tree.stat(alloc, path))),
+        Ok(tree) => Ok(is(wanted, &tree.stat(alloc, path))),
         Err(fault) => Err(fault),
     }
 }
@@ -67,7 +67,7 @@ fn each_call<J: EngineId, R: Wait>(rt: &R, alloc: Global, client: &mut Client<J>
     );
     let kept = fault_of(rt, alloc, client, Snap::Keep, "s");
     let again = fault_of(rt, alloc, client, Snap::Keep, "s");
-    let gone = answers(
+    let removed = answers(
         rt,
         alloc,
         client,
@@ -89,7 +89,7 @@ fn each_call<J: EngineId, R: Wait>(rt: &R, alloc: Global, client: &mut Client<J>
     let is_right = made
         && kept.is_none()
         && again == Some(Errno::EEXIST)
-        && gone
+        && removed
         && past == Ok(true)
         && none == Err(Errno::ENOENT)
         && back.is_none()

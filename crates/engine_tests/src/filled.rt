@@ -1,6 +1,6 @@
 //! Volumes of many files, from whose roots jobs can be taken.
-use crate::asked::{SMALL, call_of, name_of};
 use crate::own::{OWNED, PLACE, mark_of};
+use crate::requests::{SMALL, call_of, name_of};
 use engine::EngineBuilder;
 use pathkey::Errno;
 use reference::{Call, Reply};
@@ -25,10 +25,10 @@ pub fn answers(
     alloc: Global,
     volume: &mut Volume,
     ask: SampleCall<'_>,
-    told: ExpectedReply<'_>,
+    wanted: ExpectedReply<'_>,
 ) -> bool {
     match call_of(alloc, ask) {
-        Some(call) => told.is(&reply_to(alloc, volume, &call)),
+        Some(call) => wanted.is(&reply_to(alloc, volume, &call)),
         None => false,
     }
 }

@@ -1,7 +1,7 @@
 //! Tests of what is pending in a slot after the mark of a job that was taken there is removed: one message for each key,
 //! however many were appended meanwhile.
-use crate::asked::call_of;
 use crate::filled::{answers, filled_volume, take};
+use crate::requests::call_of;
 use pathkey::NoMemory;
 use std::alloc::Global;
 use test_support::{ExpectedReply, SampleCall};
@@ -85,8 +85,8 @@ fn folds_where_cancelled(
     block: &Option<Job>,
 ) -> bool {
     let all = writes_all(alloc, volume);
-    let gone = cancels(volume, meta) && cancels(volume, block);
-    all && gone && writes(alloc, volume, WRITES + 2) && is_folded(alloc, volume)
+    let cancelled = cancels(volume, meta) && cancels(volume, block);
+    all && cancelled && writes(alloc, volume, WRITES + 2) && is_folded(alloc, volume)
 }
 
 /// The event that takes a job of the slot in which something is pending.
@@ -209,6 +209,6 @@ fn fold(alloc: Global) -> bool {
 }
 
 #[test]
-fn a_list_folds_once_its_mark_is_gone(rt: HostRuntime) {
+fn a_list_is_condensed_once_its_mark_is_removed(rt: HostRuntime) {
     assert!(rt; fold(rt.alloc()));
 }

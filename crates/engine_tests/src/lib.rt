@@ -4,8 +4,6 @@
 #![tactic(auto)]
 
 #[cfg(test)]
-mod asked;
-#[cfg(test)]
 mod between;
 #[cfg(test)]
 mod closed;
@@ -27,6 +25,8 @@ mod meeting;
 mod own;
 #[cfg(test)]
 mod pairs;
+#[cfg(test)]
+mod requests;
 #[cfg(test)]
 mod scene;
 #[cfg(test)]

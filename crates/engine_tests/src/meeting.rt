@@ -1,8 +1,8 @@
 //! Tests of two clients that wait for one another's file, which shows that threads share the volume.
 ghost use Rattle.std.specs.Prelude.{◌≡◌};
 
-use crate::asked::{SMALL, answers, is, new_room};
 use crate::crew::{end, two_of};
+use crate::requests::{SMALL, answers, is, new_room};
 use engine::{Client, Engine, EngineBuilder, EngineId};
 use pathkey::Path;
 use std::alloc::Global;

@@ -1,7 +1,7 @@
 //! A client of a stress test: files that only it writes, and calls on names that all share.
 ghost use Rattle.std.specs.Prelude.{◌≡◌};
 
-use crate::asked::{call_of, name_of};
+use crate::requests::{call_of, name_of};
 use crate::tally::{Course, Tally};
 use engine::{Client, EngineId};
 use pathkey::Errno;
@@ -93,7 +93,7 @@ struct Known {
     /// The number of restores that had begun when that returned.
     begun: u64,
     /// Whether the client has read since that it was lost.
-    is_gone: bool,
+    is_lost: bool,
 }
 
 impl Known {
@@ -110,7 +110,7 @@ impl Known {
         match course {
             Course::Later => number <= self.written,
             Course::First | Course::Rests => {
-                number == 0 || (number == self.written && !self.is_gone && ended <= self.begun)
+                number == 0 || (number == self.written && !self.is_lost && ended <= self.begun)
             }
         }
     }
@@ -133,7 +133,7 @@ impl Own {
             written: 0,
             ended: 0,
             begun: 0,
-            is_gone: false,
+            is_lost: false,
         };
         Own {
             client: client % CLIENTS,
@@ -164,7 +164,7 @@ impl Own {
         known.written = known.written.wrapping_add(1);
         known.ended = ended;
         known.begun = begun;
-        known.is_gone = false;
+        known.is_lost = false;
         self.last = file;
     }
 
@@ -184,7 +184,7 @@ impl Own {
         let is_of_file = mark / TAG == u64::from(self.number(file));
         let known = &mut self.files[file % FILES];
         let is_right = known.may_be(mark % TAG, course, ended, begun);
-        known.is_gone = mark % TAG != known.written;
+        known.is_lost = mark % TAG != known.written;
         is_of_file && is_right
     }
 }

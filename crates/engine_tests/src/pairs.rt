@@ -1,8 +1,8 @@
 //! Tests of two clients and two flushers, each in a thread of its own.
 ghost use Rattle.std.specs.Prelude.{◌≡◌};
 
-use crate::asked::{SMALL, answers, new_room};
 use crate::crew::{end, two_flushers, two_of};
+use crate::requests::{SMALL, answers, new_room};
 use engine::{Client, Engine, EngineBuilder, EngineId, Flusher};
 use std::alloc::Global;
 use std::marker::Brand;

@@ -1,9 +1,9 @@
 //! Tests of an engine with one client and one flusher.
 ghost use Rattle.std.specs.Prelude.{◌≡◌};
 
-use crate::asked::{SMALL, new_room};
-use crate::between::{Interference, gives_back, goes_on};
+use crate::between::{Interference, gives_back, interferes};
 use crate::depth::{sinks, sinks_beside, takes_of_the_other};
+use crate::requests::{SMALL, new_room};
 use crate::unlocked::writes_meanwhile;
 use engine::{Client, Engine, EngineBuilder, EngineId, Flusher};
 use std::alloc::Global;
@@ -40,7 +40,7 @@ fn plays<J: EngineId + Send + Sync, R: Threads + Wait + Sync>(
         Scene::Sinks => sinks(rt, alloc, client, flusher),
         Scene::SinksBeside(files) => sinks_beside(rt, alloc, client, flusher, files),
         Scene::TakesOfTheOther => takes_of_the_other(rt, alloc, client, flusher),
-        Scene::GoesOn(interference) => goes_on(rt, alloc, client, flusher, interference),
+        Scene::GoesOn(interference) => interferes(rt, alloc, client, flusher, interference),
         Scene::GivesBack => gives_back(rt, alloc, client, flusher),
         Scene::WritesMeanwhile => writes_meanwhile(rt, alloc, client, flusher),
     }

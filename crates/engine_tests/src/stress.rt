@@ -2,9 +2,9 @@
 //! restores between.
 ghost use Rattle.std.specs.Prelude.{◌≡◌};
 
-use crate::asked::name_of;
 use crate::filled::{FIRST, kept_room};
 use crate::own::{CLIENTS, LATER, Own, rest, work};
+use crate::requests::name_of;
 use crate::tally::{Course, Tally};
 use engine::{Between, Client, Clients, Engine, EngineBuilder, EngineId, Flusher, TurnReply};
 use std::alloc::Global;

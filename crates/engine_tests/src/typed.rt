@@ -1,5 +1,5 @@
 //! Tests of the typed calls of a client: each once; the entries then have the mtimes of their changes.
-use crate::asked::{SMALL, new_room};
+use crate::requests::{SMALL, new_room};
 use engine::{Client, ClientTask, EngineBuilder, EngineId, Errno, Kind, Path};
 use std::alloc::Global;
 use std::sync::Wait;
@@ -83,7 +83,7 @@ fn removes<J: EngineId, R: Wait>(
 }
 
 /// Whether each call has its expected result.
-fn goes<J: EngineId, R: Wait>(rt: &R, alloc: Global, client: &mut Client<J>) -> bool {
+fn succeeds<J: EngineId, R: Wait>(rt: &R, alloc: Global, client: &mut Client<J>) -> bool {
     match new_places(alloc) {
         Ok(places) => {
             changes(rt, alloc, client, &places) == Ok(5)
@@ -109,7 +109,7 @@ impl ClientTask for EachCall {
         client: &mut Client<J>,
     ) {
         self.is_right
-            .store(goes(rt, alloc, client), Ordering::SeqCst);
+            .store(succeeds(rt, alloc, client), Ordering::SeqCst);
     }
 }
 

@@ -1,8 +1,8 @@
 //! Tests that a job is built without the lock: a client's write returns while a flusher builds.
 ghost use Rattle.std.specs.Prelude.{◌≡◌};
 
-use crate::asked::answers;
 use crate::depth::{FILES, makes_all, shapes, turns_until_idle};
+use crate::requests::answers;
 use engine::{Between, Client, EngineId, Flusher, TurnReply};
 use std::alloc::Global;
 use std::sync::Wait;
@@ -197,11 +197,11 @@ pub fn writes_meanwhile<J: EngineId + Send + Sync, R: Threads + Wait + Sync>(
 ) -> bool {
     let is_ready = fills(rt, alloc, &mut client, &mut flusher) && is_ready(rt, alloc, &mut client);
     let flags = Flags::new();
-    let told = &flags;
+    let shared = &flags;
     let (built, read) = join(
         rt,
-        move || builds(rt, alloc, flusher, told),
-        move || writes(rt, alloc, client, told),
+        move || builds(rt, alloc, flusher, shared),
+        move || writes(rt, alloc, client, shared),
     );
     is_ready && built && read
 }

@@ -1,7 +1,7 @@
 //! Tests of calls by texts and buffers of more than a block, with ample memory: no contract states that allocations
 //! succeed.
-use crate::asked::{USUAL, freeze, new_volume};
 use crate::pieces::{Piece, built};
+use crate::requests::{USUAL, freeze, new_volume};
 use ffi_calls::{create, frozen_readdir, load, print, read, readdir, stat, write};
 use images::LoadFault;
 use reference::Meta;

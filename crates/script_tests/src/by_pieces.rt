@@ -2,8 +2,8 @@
 //! fails, wherever it is cut.
 ghost use Rattle.std.specs.Prelude.{◌<◌};
 
-use crate::asked::{USUAL, freeze};
 use crate::pieces::{Piece, built};
+use crate::requests::{USUAL, freeze};
 use crate::streams::has_image;
 use images::{ImageLoader, ImagePrinter, LoadFault};
 use std::alloc::Global;
@@ -101,7 +101,7 @@ fn shows(alloc: Global, volume: &Volume, size: usize, text: &[u8]) -> bool {
 }
 
 /// Whether an image is loaded in pieces of that many bytes, and printed in such pieces again.
-fn goes(alloc: Global, text: &[u8], size: usize) -> bool
+fn is_round_trip(alloc: Global, text: &[u8], size: usize) -> bool
     requires { 0 < size }
 {
     match loaded(alloc, text, size) {
@@ -120,11 +120,11 @@ const IMAGES: [&[u8]; 5] = [
 ];
 
 #[test]
-fn goes_in_pieces_of_any_size(rt: HostRuntime) {
+fn round_trips_in_pieces_of_any_size(rt: HostRuntime) {
     for (number, text) in IMAGES.iter().enumerate() {
-        assert!(rt; goes(rt.alloc(), text, 1), "{number} by 1");
-        assert!(rt; goes(rt.alloc(), text, 7), "{number} by 7");
-        assert!(rt; goes(rt.alloc(), text, 4_096), "{number} by 4,096");
+        assert!(rt; is_round_trip(rt.alloc(), text, 1), "{number} by 1");
+        assert!(rt; is_round_trip(rt.alloc(), text, 7), "{number} by 7");
+        assert!(rt; is_round_trip(rt.alloc(), text, 4_096), "{number} by 4,096");
     }
 }
 
@@ -136,16 +136,16 @@ const LONG: [Piece; 3] = [
 ];
 
 /// Whether a text in pieces is loaded and printed in pieces of 4,096 bytes.
-fn goes_long(alloc: Global, pieces: &[Piece]) -> bool {
+fn is_long_round_trip(alloc: Global, pieces: &[Piece]) -> bool {
     match built(alloc, pieces) {
-        Some(text) => goes(alloc, text.as_slice(), 4_096),
+        Some(text) => is_round_trip(alloc, text.as_slice(), 4_096),
         None => false,
     }
 }
 
 #[test]
-fn a_long_image_goes_in_pieces(rt: HostRuntime) {
-    assert!(rt; goes_long(rt.alloc(), &LONG));
+fn a_long_image_round_trips_in_pieces(rt: HostRuntime) {
+    assert!(rt; is_long_round_trip(rt.alloc(), &LONG));
 }
 
 /// Texts that are not images, and the number of their first bad line.

@@ -106,23 +106,23 @@ fn read<'a>(alloc: Global, words: &'a [&'a str]) -> Option<Options<'a>> {
 }
 
 /// The numbers of the options.
-fn numbers_of(asked: &Options<'_>) -> [u16; 5] {
+fn numbers_of(options: &Options<'_>) -> [u16; 5] {
     [
-        u16::from(asked.flushers),
-        asked.steps,
-        asked.fanout,
-        asked.pending,
-        asked.leaf,
+        u16::from(options.flushers),
+        options.steps,
+        options.fanout,
+        options.pending,
+        options.leaf,
     ]
 }
 
 /// Whether the command line sets the options of the row.
 fn is_taken(alloc: Global, row: &Row) -> bool {
     match read(alloc, row.words) {
-        Some(asked) => {
-            numbers_of(&asked) == row.numbers
-                && [asked.image, asked.strict, asked.explain] == row.switches
-                && asked.script == row.script
+        Some(options) => {
+            numbers_of(&options) == row.numbers
+                && [options.image, options.strict, options.explain] == row.switches
+                && options.script == row.script
         }
         None => false,
     }

@@ -1,5 +1,5 @@
 //! Tests that compaction ends, also in a small tree in which no step that it finds fits.
-use crate::asked::{SMALL, new_volume};
+use crate::requests::{SMALL, new_volume};
 use ffi_calls::{compact, create, mkdir, rename, rmtree};
 use pathkey::Errno;
 use std::alloc::Global;

@@ -3,8 +3,6 @@
 #![tactic(auto)]
 
 #[cfg(test)]
-mod asked;
-#[cfg(test)]
 mod buffers;
 #[cfg(test)]
 mod by_pieces;
@@ -20,6 +18,8 @@ mod paces;
 mod pieces;
 #[cfg(test)]
 mod replies;
+#[cfg(test)]
+mod requests;
 #[cfg(test)]
 mod streams;
 #[cfg(test)]

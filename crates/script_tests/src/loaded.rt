@@ -1,5 +1,5 @@
 //! Tests of the error of loading an image, which depends on its text.
-use crate::asked::USUAL;
+use crate::requests::USUAL;
 use crate::streams::Source;
 use images::{LoadFault, load_image};
 use node::Shape;

@@ -1,7 +1,7 @@
 //! Tests of scripts with steps that a flush policy chooses: the replies that it receives, and that the answers and the tree
 //! are the same with them.
-use crate::asked::{SMALL, USUAL, new_volume};
 use crate::pieces::{Piece, built};
+use crate::requests::{SMALL, USUAL, new_volume};
 use crate::streams::has_image;
 use node::{Place, StepKind, StepReply, TreeStep};
 use shell::{Pace, Tidy, run_script};
@@ -95,7 +95,7 @@ fn new_reported_once(alloc: Global) -> Option<StepReply> {
 }
 
 #[test]
-fn pace_is_reported_what_its_step_did(rt: HostRuntime) {
+fn policy_receives_the_reply_of_its_step(rt: HostRuntime) {
     assert!(rt; matches!(new_reported_once(rt.alloc()), Some(StepReply::Did(1..))));
 }
 

@@ -13,7 +13,7 @@ fn is_text_of(alloc: Global, fault: ScriptFault, wanted: &str) -> bool {
 }
 
 #[test]
-fn tells_each_fault(rt: HostRuntime) {
+fn reports_each_fault(rt: HostRuntime) {
     assert!(rt; is_text_of(rt.alloc(), ScriptFault::Memory, "betr: no memory"));
     assert!(rt; is_text_of(rt.alloc(), ScriptFault::Read, "betr: read failed"));
     assert!(rt; is_text_of(rt.alloc(), ScriptFault::Write, "betr: write failed"));

@@ -2,8 +2,8 @@
 //! then.
 ghost use Rattle.std.specs.Prelude.{Some};
 
-use crate::asked::{SMALL, USUAL, freeze, new_volume, waiting};
 use crate::pieces::{Piece, built};
+use crate::requests::{SMALL, USUAL, freeze, new_volume, waiting};
 use images::{ImageFault, print_image};
 use node::Shape;
 use shell::{ScriptFault, Tidy, run_script};
@@ -357,15 +357,15 @@ fn stops_at_a_failing_flush(rt: HostRuntime) {
 }
 
 /// Whether a script continues after a signal at the first read and at the first write.
-fn goes_on(alloc: Global) -> bool {
+fn continues(alloc: Global) -> bool {
     let mut stream = whole(b"mkdir /a\nstat /a\n", b"ok\ndir 0 0\n");
     stream.signal = true;
     new_ends_so(alloc, SMALL, &stream)
 }
 
 #[test]
-fn goes_on_after_a_signal(rt: HostRuntime) {
-    assert!(rt; goes_on(rt.alloc()));
+fn continues_after_a_signal(rt: HostRuntime) {
+    assert!(rt; continues(rt.alloc()));
 }
 
 /// Whether a script of which no more than this can be read has these answers, and leaves a tree of this image.

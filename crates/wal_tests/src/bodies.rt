@@ -10,30 +10,30 @@ use wal::encode::{
 use wal::{PathCall, SnapshotCall, WalEntry, decode_entries};
 
 /// Whether bytes were encoded at the front of a buffer.
-fn are_laid(laid: Result<usize, Errno>, room: &[u8], want: &[u8]) -> bool {
-    match laid {
+fn are_encoded(encoded: Result<usize, Errno>, room: &[u8], want: &[u8]) -> bool {
+    match encoded {
         Ok(size) => size == want.len() && size <= room.len() && &room[..size] == want,
         Err(_) => false,
     }
 }
 
 #[test]
-fn laid_as_by_hand(rt: HostRuntime) -> Result<(), Fail> {
+fn encoded_as_by_hand(rt: HostRuntime) -> Result<(), Fail> {
     let mut room = [0u8; 64];
-    let laid = encode_path_call(rt.alloc(), PathCall::Mkdir, b"/a", 7, &mut room);
-    assert!(rt; are_laid(laid, &room, FIRST_BODY));
-    let laid = encode_path_call(rt.alloc(), PathCall::Create, b"/a/x", 8, &mut room);
-    assert!(rt; are_laid(laid, &room, &SECOND_BODY[..52]));
-    let laid = encode_write(rt.alloc(), b"/a/x", 2, b"hi", 9, &mut room);
-    assert!(rt; are_laid(laid, &room, &SECOND_BODY[52..]));
-    let laid = encode_snapshot_call(rt.alloc(), SnapshotCall::Snapshot, b"s", &mut room);
-    assert!(rt; are_laid(laid, &room, THIRD_BODY));
+    let encoded = encode_path_call(rt.alloc(), PathCall::Mkdir, b"/a", 7, &mut room);
+    assert!(rt; are_encoded(encoded, &room, FIRST_BODY));
+    let encoded = encode_path_call(rt.alloc(), PathCall::Create, b"/a/x", 8, &mut room);
+    assert!(rt; are_encoded(encoded, &room, &SECOND_BODY[..52]));
+    let encoded = encode_write(rt.alloc(), b"/a/x", 2, b"hi", 9, &mut room);
+    assert!(rt; are_encoded(encoded, &room, &SECOND_BODY[52..]));
+    let encoded = encode_snapshot_call(rt.alloc(), SnapshotCall::Snapshot, b"s", &mut room);
+    assert!(rt; are_encoded(encoded, &room, THIRD_BODY));
     Ok(())
 }
 
 /// The number of a change that is encoded and decoded again.
-fn reported(alloc: Global, laid: Result<usize, Errno>, room: &[u8]) -> u64 {
-    let Ok(size) = laid else {
+fn reported(alloc: Global, encoded: Result<usize, Errno>, room: &[u8]) -> u64 {
+    let Ok(size) = encoded else {
         return 0;
     };
     if size > room.len() {
@@ -91,26 +91,26 @@ fn reported_of(changes: &[WalEntry]) -> u64 {
 }
 
 #[test]
-fn read_as_they_were_laid(rt: HostRuntime) -> Result<(), Fail> {
+fn decoded_as_they_were_encoded(rt: HostRuntime) -> Result<(), Fail> {
     let mut room = [0u8; 64];
-    let laid = encode_path_call(rt.alloc(), PathCall::Unlink, b"/a", 1, &mut room);
-    assert_eq!(rt; reported(rt.alloc(), laid, &room), 101);
-    let laid = encode_path_call(rt.alloc(), PathCall::Rmdir, b"/a", 2, &mut room);
-    assert_eq!(rt; reported(rt.alloc(), laid, &room), 202);
-    let laid = encode_path_call(rt.alloc(), PathCall::Rmtree, b"/a", 3, &mut room);
-    assert_eq!(rt; reported(rt.alloc(), laid, &room), 303);
-    let laid = encode_rename(rt.alloc(), b"/a", b"/b", 4, &mut room);
-    assert_eq!(rt; reported(rt.alloc(), laid, &room), 404);
-    let laid = encode_truncate(rt.alloc(), b"/a", 12, 5, &mut room);
-    assert_eq!(rt; reported(rt.alloc(), laid, &room), 505);
-    let laid = encode_punch(rt.alloc(), b"/a", 4096, 8192, 6, &mut room);
-    assert_eq!(rt; reported(rt.alloc(), laid, &room), 606);
-    let laid = encode_mtime(rt.alloc(), b"/a", 7, &mut room);
-    assert_eq!(rt; reported(rt.alloc(), laid, &room), 907);
-    let laid = encode_snapshot_call(rt.alloc(), SnapshotCall::Remove, b"s", &mut room);
-    assert_eq!(rt; reported(rt.alloc(), laid, &room), 700);
-    let laid = encode_snapshot_call(rt.alloc(), SnapshotCall::Restore, b"s", &mut room);
-    assert_eq!(rt; reported(rt.alloc(), laid, &room), 800);
+    let encoded = encode_path_call(rt.alloc(), PathCall::Unlink, b"/a", 1, &mut room);
+    assert_eq!(rt; reported(rt.alloc(), encoded, &room), 101);
+    let encoded = encode_path_call(rt.alloc(), PathCall::Rmdir, b"/a", 2, &mut room);
+    assert_eq!(rt; reported(rt.alloc(), encoded, &room), 202);
+    let encoded = encode_path_call(rt.alloc(), PathCall::Rmtree, b"/a", 3, &mut room);
+    assert_eq!(rt; reported(rt.alloc(), encoded, &room), 303);
+    let encoded = encode_rename(rt.alloc(), b"/a", b"/b", 4, &mut room);
+    assert_eq!(rt; reported(rt.alloc(), encoded, &room), 404);
+    let encoded = encode_truncate(rt.alloc(), b"/a", 12, 5, &mut room);
+    assert_eq!(rt; reported(rt.alloc(), encoded, &room), 505);
+    let encoded = encode_punch(rt.alloc(), b"/a", 4096, 8192, 6, &mut room);
+    assert_eq!(rt; reported(rt.alloc(), encoded, &room), 606);
+    let encoded = encode_mtime(rt.alloc(), b"/a", 7, &mut room);
+    assert_eq!(rt; reported(rt.alloc(), encoded, &room), 907);
+    let encoded = encode_snapshot_call(rt.alloc(), SnapshotCall::Remove, b"s", &mut room);
+    assert_eq!(rt; reported(rt.alloc(), encoded, &room), 700);
+    let encoded = encode_snapshot_call(rt.alloc(), SnapshotCall::Restore, b"s", &mut room);
+    assert_eq!(rt; reported(rt.alloc(), encoded, &room), 800);
     Ok(())
 }
 
@@ -123,17 +123,17 @@ fn ends_so(reported: Result<usize, Errno>, want: Result<usize, Errno>) -> bool {
 fn refused_texts(rt: HostRuntime) -> Result<(), Fail> {
     let mut room = [0u8; 64];
     let mkdir = PathCall::Mkdir;
-    let laid = encode_path_call(rt.alloc(), mkdir, b"", 1, &mut room);
-    assert!(rt; ends_so(laid, Err(Errno::ENOENT)));
-    let laid = encode_path_call(rt.alloc(), mkdir, b"a", 1, &mut room);
-    assert!(rt; ends_so(laid, Err(Errno::EINVAL)));
-    let laid = encode_rename(rt.alloc(), b"/a", b"b", 1, &mut room);
-    assert!(rt; ends_so(laid, Err(Errno::EINVAL)));
-    let laid = encode_snapshot_call(rt.alloc(), SnapshotCall::Snapshot, b"", &mut room);
-    assert!(rt; ends_so(laid, Err(Errno::EINVAL)));
+    let encoded = encode_path_call(rt.alloc(), mkdir, b"", 1, &mut room);
+    assert!(rt; ends_so(encoded, Err(Errno::ENOENT)));
+    let encoded = encode_path_call(rt.alloc(), mkdir, b"a", 1, &mut room);
+    assert!(rt; ends_so(encoded, Err(Errno::EINVAL)));
+    let encoded = encode_rename(rt.alloc(), b"/a", b"b", 1, &mut room);
+    assert!(rt; ends_so(encoded, Err(Errno::EINVAL)));
+    let encoded = encode_snapshot_call(rt.alloc(), SnapshotCall::Snapshot, b"", &mut room);
+    assert!(rt; ends_so(encoded, Err(Errno::EINVAL)));
     // An empty buffer: only the size is returned.
-    let laid = encode_path_call(rt.alloc(), mkdir, b"/a", 1, &mut []);
-    assert!(rt; ends_so(laid, Ok(50)));
+    let encoded = encode_path_call(rt.alloc(), mkdir, b"/a", 1, &mut []);
+    assert!(rt; ends_so(encoded, Ok(50)));
     assert_eq!(rt; room[0], 0);
     Ok(())
 }

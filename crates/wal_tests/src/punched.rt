@@ -11,7 +11,7 @@ type Run = (u64, u8);
 /// Holes that are punched in a file one after the other, and the file then.
 struct Row {
     /// The offset and the count of each.
-    asked: &'static [(u64, u64)],
+    holes: &'static [(u64, u64)],
     /// How many bytes the last one set to zero.
     count: u64,
     /// The mtime of the file; holes are punched at timestamp 7.
@@ -31,7 +31,7 @@ const LENGTH: u64 = 12298;
 const ROWS: [Row; 11] = [
     // The second block.
     Row {
-        asked: &[(4096, 4096)],
+        holes: &[(4096, 4096)],
         count: 4096,
         modified: 7,
         bytes: &[(4096, b'a'), (4096, 0), (4096, b'c'), (10, b'd')],
@@ -39,7 +39,7 @@ const ROWS: [Row; 11] = [
     },
     // From within the first block into the third.
     Row {
-        asked: &[(4090, 4106)],
+        holes: &[(4090, 4106)],
         count: 4106,
         modified: 7,
         bytes: &[(4090, b'a'), (4106, 0), (4092, b'c'), (10, b'd')],
@@ -47,7 +47,7 @@ const ROWS: [Row; 11] = [
     },
     // Two bytes at the edge of two blocks: none is removed.
     Row {
-        asked: &[(4095, 2)],
+        holes: &[(4095, 2)],
         count: 2,
         modified: 7,
         bytes: &[(4095, b'a'), (2, 0), (4095, b'b'), (4096, b'c'), (10, b'd')],
@@ -55,7 +55,7 @@ const ROWS: [Row; 11] = [
     },
     // One byte within a block.
     Row {
-        asked: &[(5000, 1)],
+        holes: &[(5000, 1)],
         count: 1,
         modified: 7,
         bytes: &[
@@ -70,7 +70,7 @@ const ROWS: [Row; 11] = [
     },
     // The first block and the first part of the second.
     Row {
-        asked: &[(0, 4100)],
+        holes: &[(0, 4100)],
         count: 4100,
         modified: 7,
         bytes: &[(4100, 0), (4092, b'b'), (4096, b'c'), (10, b'd')],
@@ -78,7 +78,7 @@ const ROWS: [Row; 11] = [
     },
     // All, and beyond the end: the last block is stored partially, and remains.
     Row {
-        asked: &[(0, u64::MAX)],
+        holes: &[(0, u64::MAX)],
         count: LENGTH,
         modified: 7,
         bytes: &[(LENGTH, 0)],
@@ -86,7 +86,7 @@ const ROWS: [Row; 11] = [
     },
     // From within the last block on.
     Row {
-        asked: &[(12290, 1_099_511_627_776)],
+        holes: &[(12290, 1_099_511_627_776)],
         count: 8,
         modified: 7,
         bytes: &[(4096, b'a'), (4096, b'b'), (4096, b'c'), (2, b'd'), (8, 0)],
@@ -94,7 +94,7 @@ const ROWS: [Row; 11] = [
     },
     // Within blocks that are not stored any more: they remain so.
     Row {
-        asked: &[(0, 8192), (10, 4100), (8000, 192)],
+        holes: &[(0, 8192), (10, 4100), (8000, 192)],
         count: 192,
         modified: 7,
         bytes: &[(8192, 0), (4096, b'c'), (10, b'd')],
@@ -102,7 +102,7 @@ const ROWS: [Row; 11] = [
     },
     // The same bytes twice.
     Row {
-        asked: &[(4000, 9000), (4000, 9000)],
+        holes: &[(4000, 9000), (4000, 9000)],
         count: 8298,
         modified: 7,
         bytes: &[(4000, b'a'), (8298, 0)],
@@ -110,7 +110,7 @@ const ROWS: [Row; 11] = [
     },
     // After the end.
     Row {
-        asked: &[(LENGTH, 1)],
+        holes: &[(LENGTH, 1)],
         count: 0,
         modified: 3,
         bytes: &WHOLE,
@@ -118,7 +118,7 @@ const ROWS: [Row; 11] = [
     },
     // Nothing.
     Row {
-        asked: &[(100, 0)],
+        holes: &[(100, 0)],
         count: 0,
         modified: 3,
         bytes: &WHOLE,
@@ -251,8 +251,8 @@ fn reads_runs(alloc: Global, tree: &Frozen, file: &Path, runs: &[Run]) -> bool {
 /// Whether it has this length and mtime.
 fn is_reported(alloc: Global, tree: &Frozen, file: &Path, modified: u64) -> bool {
     match stat(alloc, tree, file) {
-        Some((kind, length, moment)) => {
-            kind == Kind::File && length == LENGTH && moment == modified
+        Some((kind, length, mtime)) => {
+            kind == Kind::File && length == LENGTH && mtime == modified
         }
         None => false,
     }
@@ -333,7 +333,7 @@ fn makes_beside(
     row: &Row,
 ) -> bool {
     snapshot(alloc, volume, name)
-        && punch_each(alloc, volume, file, row.asked) == Some(row.count)
+        && punch_each(alloc, volume, file, row.holes) == Some(row.count)
         && is_live(alloc, volume, file, row)
         && keeps(alloc, volume, file, name)
 }

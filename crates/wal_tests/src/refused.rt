@@ -121,7 +121,7 @@ fn is_spoilt(alloc: Global, commands: &str) -> bool {
 }
 
 #[test]
-fn no_image_comes_of_it(rt: HostRuntime) -> Result<(), Fail> {
+fn result_is_not_an_image(rt: HostRuntime) -> Result<(), Fail> {
     for number in 0..6usize {
         assert!(rt; is_spoilt(rt.alloc(), SPOILT[number]), "{number}");
     }

@@ -181,7 +181,7 @@ fn no_records(rt: HostRuntime) -> Result<(), Fail> {
 }
 
 #[test]
-fn untold(rt: HostRuntime) -> Result<(), Fail> {
+fn are_not_valid(rt: HostRuntime) -> Result<(), Fail> {
     let kinds: [u8; 3] = [0, 9, 255];
     for kind in &kinds {
         let fields = RawAttributes {

@@ -2,7 +2,7 @@
 
 /// A call on paths.
 #[derive(Clone, Copy)]
-pub enum PathAsked {
+pub enum PathRequest {
     /// Creates a directory.
     Mkdir(usize),
     /// Creates an empty file.
@@ -29,9 +29,9 @@ pub enum PathAsked {
 
 /// A call on paths, or on the whole tree.
 #[derive(Clone, Copy)]
-pub enum Asked {
+pub enum Request {
     /// On paths.
-    Path(PathAsked),
+    Path(PathRequest),
     /// Takes a snapshot under the name with this number.
     Keep(usize),
     /// Drops the snapshot of this name.

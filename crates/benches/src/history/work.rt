@@ -1,6 +1,6 @@
 //! Makes the calls of a client, and logs each with the clock before it and after it has returned.
 use crate::flushers::rest;
-use crate::history::call::{Asked, PathAsked};
+use crate::history::call::{PathRequest, Request};
 use crate::history::draw::Draw;
 use crate::history::log::Log;
 use crate::history::names::{COUNT, FIRST_OFFSET, Names};
@@ -29,27 +29,27 @@ impl Course {
 }
 
 /// The mark that a call writes; 0 if it writes none.
-fn mark_of(asked: PathAsked) -> u64 {
-    match asked {
-        PathAsked::Write(_, _, mark) => mark,
+fn mark_of(request: PathRequest) -> u64 {
+    match request {
+        PathRequest::Write(_, _, mark) => mark,
         _ => 0,
     }
 }
 
 /// The call, with the bytes of its mark.
-fn sample<'a>(names: &'a Names, asked: PathAsked, mark: &'a [u8]) -> SampleCall<'a> {
-    match asked {
-        PathAsked::Mkdir(path) => SampleCall::Mkdir(names.text(path)),
-        PathAsked::Create(path) => SampleCall::Create(names.text(path)),
-        PathAsked::Write(path, offset, _) => SampleCall::Write(names.text(path), offset, mark),
-        PathAsked::Truncate(path, len) => SampleCall::Truncate(names.text(path), len),
-        PathAsked::Unlink(path) => SampleCall::Unlink(names.text(path)),
-        PathAsked::Rmdir(path) => SampleCall::Rmdir(names.text(path)),
-        PathAsked::Rename(old, new) => SampleCall::Rename(names.text(old), names.text(new)),
-        PathAsked::Rmtree(path) => SampleCall::Rmtree(names.text(path)),
-        PathAsked::Read(path) => SampleCall::Read(names.text(path), FIRST_OFFSET, COUNT),
-        PathAsked::Stat(path) => SampleCall::Stat(names.text(path)),
-        PathAsked::Readdir(path) => SampleCall::Readdir(names.text(path)),
+fn sample<'a>(names: &'a Names, request: PathRequest, mark: &'a [u8]) -> SampleCall<'a> {
+    match request {
+        PathRequest::Mkdir(path) => SampleCall::Mkdir(names.text(path)),
+        PathRequest::Create(path) => SampleCall::Create(names.text(path)),
+        PathRequest::Write(path, offset, _) => SampleCall::Write(names.text(path), offset, mark),
+        PathRequest::Truncate(path, len) => SampleCall::Truncate(names.text(path), len),
+        PathRequest::Unlink(path) => SampleCall::Unlink(names.text(path)),
+        PathRequest::Rmdir(path) => SampleCall::Rmdir(names.text(path)),
+        PathRequest::Rename(old, new) => SampleCall::Rename(names.text(old), names.text(new)),
+        PathRequest::Rmtree(path) => SampleCall::Rmtree(names.text(path)),
+        PathRequest::Read(path) => SampleCall::Read(names.text(path), FIRST_OFFSET, COUNT),
+        PathRequest::Stat(path) => SampleCall::Stat(names.text(path)),
+        PathRequest::Readdir(path) => SampleCall::Readdir(names.text(path)),
     }
 }
 
@@ -63,9 +63,9 @@ fn make_on_paths<J: EngineId, R: Wait>(
     log: &mut Log,
 ) -> bool {
     match call.call(alloc) {
-        Ok(asked) => {
+        Ok(request) => {
             let begin = course.now();
-            let reply = client.call(rt, alloc, &asked, begin);
+            let reply = client.call(rt, alloc, &request, begin);
             let end = course.now();
             log.add(begin, end, call, &reply)
         }
@@ -80,11 +80,18 @@ fn make_path_call<J: EngineId, R: Wait>(
     client: &mut Client<J>,
     names: &Names,
     course: &Course,
-    asked: PathAsked,
+    request: PathRequest,
     log: &mut Log,
 ) -> bool {
-    let mark = mark_of(asked).to_be_bytes();
-    make_on_paths(rt, alloc, client, course, sample(names, asked, &mark), log)
+    let mark = mark_of(request).to_be_bytes();
+    make_on_paths(
+        rt,
+        alloc,
+        client,
+        course,
+        sample(names, request, &mark),
+        log,
+    )
 }
 
 /// Makes a snapshot call, which returns nothing.
@@ -92,30 +99,30 @@ fn ask_snapshot<J: EngineId, R: Wait>(
     rt: &R,
     alloc: Global,
     client: &mut Client<J>,
-    asked: Asked,
+    request: Request,
     name: &SnapName,
 ) -> Result<(), Errno> {
-    match asked {
-        Asked::Keep(_) => client.snapshot(rt, alloc, name),
-        Asked::Drop(_) => client.drop_snapshot(rt, name),
+    match request {
+        Request::Keep(_) => client.snapshot(rt, alloc, name),
+        Request::Drop(_) => client.drop_snapshot(rt, name),
         _ => client.restore(rt, name),
     }
 }
 
 /// The word of a call on the whole tree, and the number of its snapshot's name.
-fn word_of(asked: Asked) -> (&'static str, usize) {
-    match asked {
-        Asked::Keep(name) => ("snapshot", name),
-        Asked::Drop(name) => ("drop_snapshot", name),
-        Asked::Restore(name) => ("restore", name),
-        Asked::Look(name) => ("look", name),
+fn word_of(request: Request) -> (&'static str, usize) {
+    match request {
+        Request::Keep(name) => ("snapshot", name),
+        Request::Drop(name) => ("drop_snapshot", name),
+        Request::Restore(name) => ("restore", name),
+        Request::Look(name) => ("look", name),
         _ => ("scan", 0),
     }
 }
 
 /// The word for the result of a call that returns nothing.
-fn answer_of(told: Result<(), Errno>) -> &'static str {
-    match told {
+fn answer_of(result: Result<(), Errno>) -> &'static str {
+    match result {
         Ok(()) => "ok",
         Err(fault) => fault.name(),
     }
@@ -128,16 +135,16 @@ fn make_on_snapshot<J: EngineId, R: Wait>(
     client: &mut Client<J>,
     names: &Names,
     course: &Course,
-    asked: Asked,
+    request: Request,
     log: &mut Log,
 ) -> bool {
-    let (word, number) = word_of(asked);
+    let (word, number) = word_of(request);
     match names.snapshots.get(number) {
         Some(name) => {
             let begin = course.now();
-            let told = ask_snapshot(rt, alloc, client, asked, name);
+            let result = ask_snapshot(rt, alloc, client, request, name);
             let end = course.now();
-            log.add_snapshot(begin, end, word, number, answer_of(told))
+            log.add_snapshot(begin, end, word, number, answer_of(result))
         }
         None => false,
     }
@@ -196,12 +203,12 @@ fn make_look<J: EngineId, R: Wait>(
     client: &mut Client<J>,
     names: &Names,
     course: &Course,
-    asked: Asked,
+    request: Request,
     log: &mut Log,
 ) -> bool {
-    let (word, number) = word_of(asked);
-    let name = match asked {
-        Asked::Look(name) => names.snapshots.get(name),
+    let (word, number) = word_of(request);
+    let name = match request {
+        Request::Look(name) => names.snapshots.get(name),
         _ => None,
     };
     let begin = course.now();
@@ -222,13 +229,15 @@ fn make<J: EngineId, R: Wait>(
     client: &mut Client<J>,
     names: &Names,
     course: &Course,
-    asked: Asked,
+    request: Request,
     log: &mut Log,
 ) -> bool {
-    match asked {
-        Asked::Path(asked) => make_path_call(rt, alloc, client, names, course, asked, log),
-        Asked::Look(_) | Asked::Scan => make_look(rt, alloc, client, names, course, asked, log),
-        _ => make_on_snapshot(rt, alloc, client, names, course, asked, log),
+    match request {
+        Request::Path(request) => make_path_call(rt, alloc, client, names, course, request, log),
+        Request::Look(_) | Request::Scan => make_look(
+            rt, alloc, client, names, course, request, log,
+        ),
+        _ => make_on_snapshot(rt, alloc, client, names, course, request, log),
     }
 }
 

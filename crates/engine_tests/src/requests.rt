@@ -28,15 +28,15 @@ fn replies<J: EngineId, R: Wait>(
     alloc: Global,
     client: &mut Client<J>,
     call: &Call,
-    told: ExpectedReply<'_>,
+    wanted: ExpectedReply<'_>,
 ) -> bool {
     let reply = client.call(rt, alloc, call, 0);
-    is(told, &reply)
+    is(wanted, &reply)
 }
 
 /// Whether this is the reply.
-pub fn is(told: ExpectedReply<'_>, reply: &Reply) -> bool {
-    told.is(reply)
+pub fn is(wanted: ExpectedReply<'_>, reply: &Reply) -> bool {
+    wanted.is(reply)
 }
 
 /// Whether a call of the client has this reply.
@@ -45,10 +45,10 @@ pub fn answers<J: EngineId, R: Wait>(
     alloc: Global,
     client: &mut Client<J>,
     ask: SampleCall<'_>,
-    told: ExpectedReply<'_>,
+    wanted: ExpectedReply<'_>,
 ) -> bool {
     match call_of(alloc, ask) {
-        Some(call) => replies(rt, alloc, client, &call, told),
+        Some(call) => replies(rt, alloc, client, &call, wanted),
         None => false,
     }
 }
