@@ -1,4 +1,5 @@
--- Extended attributes side by side: what bytes seem to be is what they are.
+-- Packed extended attributes: a guess of the decoder that is packed to the same bytes is the right
+-- one.
 use Rattle.std.proofs.Common.{◌≡◌, ◌≢◌, ℕ, zero, suc, ◌+◌, ◌<◌, ◌≤◌, List, [], ◌∷◌, ◌++◌, length, get_or, take, drop, true, false, ◌==◌, ◌&&◌, not, nat_le, sym, ap, subst, ◌∙◌, arith, append_assoc, length-append, flat_map, All}
 use Rattle.std.specs.List.{list_all, AllByRecursion}
 use Rattle.std.specs.Ordering.{is_lt}
@@ -18,7 +19,7 @@ rise_parts last e es h =
     let inner : (is_lt (by_bytes last e.name) ≡ true) × (may_stand e ≡ true) = and_parts _ _ outer.0 in
     (inner.1, outer.1)
 
--- each of those that rise may stand
+-- each of a sorted list of attributes is within the limits
 pub all_stand : (last : List ℕ) (es : List ExtendedAttribute) → assert_invariant last es ≡ true → AllByRecursion (λ e. may_stand e ≡ true) es
 all_stand last [] h = tt
 all_stand last (e ∷ es) h = let parts = rise_parts last e es h in (parts.0, all_stand e.name es parts.1)
@@ -28,7 +29,7 @@ stands_at last [] i one h lt is = absurd (omega arith)
 stands_at last (e ∷ es) zero one h lt is = subst (λ (x : ExtendedAttribute). may_stand x ≡ true) (sym is) (rise_parts last e es h).0
 stands_at last (e ∷ es) (suc i) one h lt is = stands_at e.name es i one (rise_parts last e es h).1 (omega arith) is
 
--- what standing says of a name and of a value
+-- what the limits say of a name and of a value
 record Stands (e : ExtendedAttribute) : Type 0 where
   name : Lacks 0 e.name
   value : length e.value ≤ 65536
@@ -52,7 +53,7 @@ packed_more bytes new es i one lt is before wrote =
 grouped : (n f v r : List ℕ) → (n ++ 0 ∷ (f ++ v)) ++ r ≡ n ++ 0 ∷ (f ++ (v ++ r))
 grouped n f v r = append_assoc n (0 ∷ (f ++ v)) r ∙ ap (λ (x : List ℕ). n ++ 0 ∷ x) (append_assoc f v r)
 
--- a name that was cut off at a byte 0
+-- a name that ends at the first byte 0
 pub name_cut : (bytes front back rest : List ℕ) (e : ExtendedAttribute) → may_stand e ≡ true → bytes ≡ packed_one e ++ rest → bytes ≡ front ++ 0 ∷ back → All (λ b. b ≢ 0) front
     → (front ≡ e.name) × (back ≡ four_bytes (length e.value) ++ (e.value ++ rest))
 unfolding packed_one
@@ -66,7 +67,7 @@ no_name bytes rest e same all =
     not_there 0 e.name (four_bytes (length e.value) ++ (e.value ++ rest))
     (subst (Lacks 0) (same ∙ grouped e.name (four_bytes (length e.value)) e.value rest) (lacks_from_all 0 bytes all))
 
--- four bytes of a number, and what is behind them
+-- the four bytes of a number, and the bytes after them
 pub number_cut : (bytes digits behind rest : List ℕ) (n : ℕ) → digits ≡ take 4 bytes → behind ≡ drop 4 bytes → bytes ≡ four_bytes n ++ rest → (digits ≡ four_bytes n) × (behind ≡ rest)
 unfolding four_bytes
 number_cut bytes digits behind rest n front back e = (front ∙ ap (take 4) e, back ∙ ap (drop 4) e)
@@ -82,7 +83,7 @@ value_cut behind value rest front back n e is f b =
 pub has_value : (behind value rest : List ℕ) (n : ℕ) → behind ≡ value ++ rest → n ≡ length value → n ≤ length behind
 has_value behind value rest n e is = let size : length behind ≡ length value + length rest = ap length e ∙ length-append value rest in omega arith
 
--- ---- bytes that are no extended attributes side by side
+-- ---- bytes that are not packed extended attributes
 
 module _ (bytes : List ℕ) (parse_unchecked : List ExtendedAttribute) (outcome : (es : List ExtendedAttribute) → assert_invariant [] es ≡ true → bytes ≡ packed es → parse_unchecked ≡ es) where
   pub not_risen : assert_invariant [] parse_unchecked ≡ false → (es : List ExtendedAttribute) → assert_invariant [] es ≡ true → bytes ≡ packed es → ⊥

@@ -1,4 +1,4 @@
--- Names and paths that are escaped, and their keys.
+-- Escaped names and paths, and their keys.
 use Rattle.std.proofs.Common.{◌≡◌, ◌≢◌, ◌⊎◌, ⊎_elim, inl, inr, ℕ, ◌<◌, ◌≤◌, List, [], ◌∷◌, ◌++◌, length, map, true, false, cond, ◌==◌, nat_le, codes, refl, sym, ap, subst, ◌∙◌, arith, rules, append_assoc, Ok, Err}
 use Rattle.std.specs.List.{list_all}
 use Rattle.std.proofs.lemmas.Bool.{and_parts, and_from, eqb-true, eqb-false}
@@ -18,7 +18,7 @@ escaped_cases b n = elim (b == 1) as (λ t. (b == 1) ≡ t → ((b ≡ 1) × (co
   | false ↦ λ e. inr (eqb-false b 1 e, refl)
 ] refl
 
--- no name is escaped to nothing but one that is nothing, and none to the byte 1 alone
+-- only the empty name is escaped to the empty name, and no name to the byte 1 alone
 not_nothing : (b : ℕ) (n : Name) → escaped (b ∷ n) ≡ [] → ⊥
 not_nothing b n e = ⊎_elim
     (λ (f : (b ≡ 1) × (escaped (b ∷ n) ≡ 1 ∷ b ∷ n)). let g : 1 ∷ b ∷ n ≡ [] = sym f.1 ∙ e in cc)

@@ -1,4 +1,4 @@
--- Texts that are written part by part, and extended attributes that are looked at one by one.
+-- Texts that are written part by part, and extended attributes that are checked one by one.
 use Rattle.std.proofs.Common.{◌≡◌, ℕ, suc, ◌+◌, ◌<◌, List, ◌∷◌, ◌++◌, length, take, drop, get_or, true, ◌&&◌, sym, ap, ◌∙◌, append_assoc, add-one, drop-cons, flat_map}
 use Rattle.std.specs.Ordering.{is_lt}
 use Rattle.pathkey.specs.Order.{by_bytes}
@@ -27,7 +27,7 @@ line_more old front now new items i one lt is before wrote =
     ∙ ap (λ (x : Text). old ++ x) (append_assoc front (flat_map extended_line (take i items)) (extended_line one)
     ∙ ap (λ (x : Text). front ++ x) (ap (λ (a : ExtendedAttribute). flat_map extended_line (take i items) ++ extended_line a) is ∙ sym (taken_more extended_line one items i lt)))
 
--- whether the rest may stand is told by the first of it, and what is behind that
+-- a list of attributes is valid if its first one is, and the list after it is
 pub rise_at : (last : List ℕ) (items : List ExtendedAttribute) (i : ℕ) (one : ExtendedAttribute) → i < length items → one ≡ get_or items i one
     → assert_invariant last (drop i items) ≡ (is_lt (by_bytes last one.name) && may_stand one && assert_invariant one.name (drop (i + 1) items))
 rise_at last items i one lt is =

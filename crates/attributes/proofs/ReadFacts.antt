@@ -1,4 +1,4 @@
--- What a text seems to tell is what it tells, where it is a record.
+-- The parser's guess is right if the text is a record.
 use Rattle.std.proofs.Common.{◌≡◌, ◌≢◌, ◌⊎◌, ⊎_elim, eq-eqb, inl, inr, ℕ, ◌/◌, ◌%◌, ◌^◌, ◌<◌, ◌≤◌, List, [], ◌∷◌, ◌++◌, length, get_or, Bool, true, false, cond, ◌==◌, ◌&&◌, not, nat_lt, refl, sym, ap, subst, ◌∙◌, arith, append_assoc, append-nil, Option, Some, None, Ok, decimal, flat_map, codes, All}
 use Rattle.std.specs.Prelude.{IfSome, slice_index, bytes_eq}
 use Rattle.std.specs.List.{list_all, AllByRecursion}
@@ -31,7 +31,7 @@ use Rattle.attributes.specs.Text.{Text, basic_lines, extended_line, extended_wor
 
 -- ---- texts cut at a byte
 
--- no byte is this one
+-- no byte of the text is this one
 pub Lacks : ℕ → Text → Type 0
 Lacks s [] = Unit {0}
 Lacks s (x ∷ xs) = (x ≢ s) × Lacks s xs
@@ -82,7 +82,7 @@ cut_value text front back value rest is all free e = same_cut 10 front value bac
 pub never_cut : (s : ℕ) (text value rest : Text) → All (λ b. b ≢ s) text → text ≡ value ++ s ∷ rest → ⊥
 never_cut s text value rest all e = not_there s value rest (subst (Lacks s) e (lacks_from_all s text all))
 
--- a word, what stands behind it, and the rest
+-- a word, its value, and the rest
 pub line_grouped : (word value rest : Text) → (word ++ value ++ 10 ∷ []) ++ rest ≡ word ++ (value ++ 10 ∷ rest)
 line_grouped word value rest = simp append_assoc
 
@@ -181,7 +181,7 @@ some_time text rest after end m u (Some t) begins h other e first second =
     let two = second t.until rest h.1 one.1 in
     (ap (λ (n : ℕ). Some (record { modified = n; until = u })) one.0 ∙ ap (λ (n : ℕ). Some (record { modified = t.modified; until = n })) two.0, two.1)
 
--- ---- all that each record has
+-- ---- the lines that every record has
 
 grouped : (h k m u w n t r : Text) → (h ++ k ++ m ++ u ++ w ++ n ++ t) ++ r ≡ h ++ (k ++ (m ++ (u ++ (w ++ (n ++ (t ++ r))))))
 grouped h k m u w n t r = simp append_assoc

@@ -1,4 +1,4 @@
--- Which attributes a record can tell.
+-- Which attributes are valid, that is, have a record.
 use Rattle.std.specs.Prelude.{◌≡◌, ◌<◌, ◌^◌, ℕ, List, [], ◌∷◌, length, Bool, true, not, ◌&&◌, ◌==◌, nat_le, Option, Some, None, IfSome}
 use Rattle.std.specs.List.{list_all, AllByRecursion}
 use Rattle.std.specs.Ordering.{is_lt}
@@ -11,18 +11,18 @@ use Rattle.attributes.specs.declared.record.BasicAttributes.{BasicAttributes}
 use Rattle.attributes.specs.declared.record.ExtendedAttribute.{ExtendedAttribute}
 use Rattle.attributes.specs.declared.record.Attributes.{Attributes}
 
--- ---- what a record can tell
+-- ---- valid attributes
 
 -- a name of at most 255 bytes, none of them 0, and a value of at most 65,536
 abbrev pub may_stand : ExtendedAttribute → Bool
 may_stand one = nat_le (length one.name) 255 && list_all (λ b. not (b == 0)) one.name && nat_le (length one.value) 65536
 
--- each may stand, and the names rise from this one on: the first is above it
+-- each is within the limits, and the names are in rising order, the first after `last`
 abbrev pub assert_invariant : List ℕ → List ExtendedAttribute → Bool
 assert_invariant last [] = true
 assert_invariant last (one ∷ rest) = is_lt (by_bytes last one.name) && may_stand one && assert_invariant one.name rest
 
--- the mode has twelve bits, and the extended attributes may stand; they rise from the empty name on, which none has
+-- the mode has twelve bits, and the extended attributes are valid; the empty name is before every name
 abbrev pub is_valid : Attributes → Bool
 is_valid a = nat_le a.basic.mode 4095 && assert_invariant [] a.extended
 

@@ -1,4 +1,4 @@
--- What the paths and the texts of records are.
+-- The paths of attribute records and their texts.
 pub mod Places
 pub mod Laws
 pub mod Attributes

@@ -1,4 +1,4 @@
--- Extended attributes side by side, as C programs hand them over.
+-- Packed extended attributes, as C programs pass them.
 use Rattle.std.specs.Prelude.{◌≡◌, ◌≢◌, true, ℕ, ◌/◌, ◌%◌, List, [], ◌∷◌, ◌++◌, length, flat_map, Result, Ok, Err}
 use Rattle.std.specs.List.{AllByRecursion}
 use Rattle.pathkey.specs.declared.errno.Errno.{Errno}
@@ -6,7 +6,7 @@ use Rattle.pathkey.specs.declared.errno.Errno.TheVariants.{EINVAL, ENOMEM}
 use Rattle.attributes.specs.declared.record.ExtendedAttribute.{ExtendedAttribute}
 use Rattle.attributes.specs.Attributes.{AreBytesOf, assert_invariant}
 
--- a number below 2^32 in four bytes, least first
+-- a number below 2^32 as four bytes in little-endian order
 unfoldable pub four_bytes : ℕ → List ℕ
 four_bytes n = n % 256 ∷ n / 256 % 256 ∷ n / 65536 % 256 ∷ n / 16777216 ∷ []
 
@@ -17,8 +17,7 @@ packed_one one = one.name ++ 0 ∷ (four_bytes (length one.value) ++ one.value)
 abbrev pub packed : List ExtendedAttribute → List ℕ
 packed extended = flat_map packed_one extended
 
--- what bytes were read as: extended attributes that may stand in a record, which they are side by side; or a refusal, by EINVAL
--- where they are none
+-- the result of unpacking: valid extended attributes with these packed bytes; or it failed, with EINVAL if there are none
 abbrev pub Unpacks : List ℕ → Result (List ExtendedAttribute) Errno → Type 0
 Unpacks bytes (Ok es) = (assert_invariant [] es ≡ true) × (bytes ≡ packed es)
 Unpacks bytes (Err EINVAL) = (es : List ExtendedAttribute) → assert_invariant [] es ≡ true → AllByRecursion AreBytesOf es → bytes ≢ packed es

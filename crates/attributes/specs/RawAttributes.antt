@@ -6,7 +6,7 @@ use Rattle.attributes.specs.declared.record.MtimeOverride.{MtimeOverride}
 use Rattle.attributes.specs.declared.record.BasicAttributes.{BasicAttributes}
 use Rattle.attributes.specs.declared.raw_attributes.RawAttributes.{RawAttributes}
 
--- ---- attributes as fields: what is not there is 0
+-- ---- attributes as fields: an absent one is 0
 
 abbrev pub kind_number : Kind → ℕ
 kind_number Directory = 1
@@ -27,7 +27,7 @@ abbrev pub link_of : Kind → ℕ
 link_of (NameOf n) = n
 link_of _ = 0
 
--- the fields of attributes whose time was set by hand, or was not
+-- the fields of attributes with this explicitly set mtime, if there is one
 abbrev pub with_time : BasicAttributes → Option MtimeOverride → RawAttributes
 with_time b None = record { mode = b.mode; user = b.user; group = b.group; kind = kind_number b.kind; names = b.names; link = link_of b.kind; device = device_of b.kind; modified = 0; valid_until = 0; has_modified = 0 }
 with_time b (Some t) = record { mode = b.mode; user = b.user; group = b.group; kind = kind_number b.kind; names = b.names; link = link_of b.kind; device = device_of b.kind; modified = t.modified; valid_until = t.until; has_modified = 1 }
@@ -38,7 +38,7 @@ fields_of b = with_time b b.modified
 abbrev pub no_fields : RawAttributes
 no_fields = record { mode = 0; user = 0; group = 0; kind = 0; names = 0; link = 0; device = 0; modified = 0; valid_until = 0; has_modified = 0 }
 
--- ---- the attributes that fields tell
+-- ---- the attributes of given fields
 
 abbrev pub kind_of : RawAttributes → Option Kind
 kind_of f =
@@ -55,7 +55,7 @@ kind_of f =
 abbrev pub time_of : RawAttributes → Option MtimeOverride
 time_of f = if f.has_modified == 0 then None else Some (record { modified = f.modified; until = f.valid_until })
 
--- none where the kind is none or the mode has more than twelve bits
+-- none if the kind is unknown or the mode has more than twelve bits
 abbrev pub basic_of : RawAttributes → Option BasicAttributes
 basic_of f =
     if nat_le f.mode 4095

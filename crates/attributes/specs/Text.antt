@@ -1,4 +1,4 @@
--- The text of a record.
+-- The text of an attribute record.
 use Rattle.pathkey.specs.declared.errno.Errno.{Errno}
 use Rattle.pathkey.specs.declared.errno.Errno.TheVariants.{EINVAL, ENOMEM}
 use Rattle.std.specs.Prelude.{◌≡◌, ◌≢◌, true, Result, Ok, Err, ℕ, ◌+◌, ◌/◌, ◌%◌, List, [], ◌∷◌, ◌++◌, codes, decimal, flat_map, Option, Some, None}
@@ -15,7 +15,7 @@ use Rattle.attributes.specs.declared.record.Attributes.{Attributes}
 abbrev pub Text : Type 0
 Text = List ℕ
 
--- the word for a kind
+-- the word of a kind
 abbrev pub kind_word : Kind → Text
 kind_word Directory = codes "directory"
 kind_word File = codes "file"
@@ -31,7 +31,7 @@ abbrev pub number_text : Option ℕ → Text
 number_text None = []
 number_text (Some n) = 32 ∷ decimal n
 
--- the words for a kind
+-- the words of a kind
 unfoldable pub kind_text : Kind → Text
 kind_text k = kind_word k ++ number_text (number_of k)
 
@@ -39,12 +39,12 @@ kind_text k = kind_word k ++ number_text (number_of k)
 unfoldable pub octal : ℕ → Text
 octal mode = (48 + mode / 512) ∷ (48 + mode / 64 % 8) ∷ (48 + mode / 8 % 8) ∷ (48 + mode % 8) ∷ []
 
--- the lines of a time that was set by hand; none where none was
+-- the lines of an explicitly set mtime; none if there is none
 unfoldable pub time_lines : Option MtimeOverride → Text
 time_lines None = []
 time_lines (Some t) = number_line (codes "modified ") t.modified ++ number_line (codes "until ") t.until
 
--- the lines that each record has
+-- the lines that every record has
 unfoldable pub basic_lines : BasicAttributes → Text
 basic_lines b =
     codes "doorvervain record 1\n"
@@ -66,7 +66,7 @@ extended_line one = extended_words one ++ codes "\n"
 abbrev pub printed : Attributes → Text
 printed a = basic_lines a.basic ++ flat_map extended_line a.extended
 
--- what a text was read as: the valid attributes whose record it is, or a refusal, by EINVAL where it is no record
+-- the result of parsing: the valid attributes with this record; or it failed, with EINVAL if there are none
 abbrev pub Reads : Text → Result Attributes Errno → Type 0
 Reads text (Ok a) = (is_valid a ≡ true) × (text ≡ printed a)
 Reads text (Err EINVAL) = (a : Attributes) → IsAttributes a → text ≢ printed a

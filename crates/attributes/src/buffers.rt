@@ -1,4 +1,8 @@
-//! Records and their places in buffers of bytes and plain fields, as C programs have them.
+//! The C form of this crate: records and their paths are written to buffers of the caller, and
+//! attributes are plain fields.
+//!
+//! A buffer is written only if the whole text fits; the result is the length of the text in either
+//! case, so a caller learns how much it needs.
 ghost use Rattle.std.specs.Prelude.{◌≡◌, ◌≤◌, ◌++◌, drop, length};
 ghost use Rattle.pathkey.specs.Texts.{parsed};
 ghost use Rattle.attributes.specs.Buffers.{Parses, Prints, Writes, laid, place_of};
@@ -13,7 +17,7 @@ use crate::xattr_codec::{decode_xattrs, encode_xattrs};
 use pathkey::{Errno, Path};
 use std::alloc::Global;
 
-/// Writes the text of the mirrored path of a path into the front of the buffer, where it has room for it: how long the text is.
+/// Writes the text of a path's record directory to the front of the buffer if it fits, and returns its length.
 pub fn write_record_dir(alloc: Global, path: &[u8], out: &mut [u8]) -> Result<usize, Errno>
     ensures { Writes (place_of record_dir (parsed path.now)) result out.old out.new }
 {
@@ -22,7 +26,8 @@ pub fn write_record_dir(alloc: Global, path: &[u8], out: &mut [u8]) -> Result<us
     write_path(alloc, &place, out)
 }
 
-/// The same of the path of a path's record.
+/// Writes the text of the path of a path's record to the front of the buffer if it fits, and
+/// returns its length.
 pub fn write_record_path(alloc: Global, path: &[u8], out: &mut [u8]) -> Result<usize, Errno>
     ensures { Writes (place_of record_path (parsed path.now)) result out.old out.new }
 {
@@ -31,7 +36,7 @@ pub fn write_record_path(alloc: Global, path: &[u8], out: &mut [u8]) -> Result<u
     write_path(alloc, &place, out)
 }
 
-// Writes the text of a path into the front of the buffer, where it has room for it: how long the text is.
+// Writes the text of a path to the front of the buffer if it fits, and returns its length.
 fn write_path(alloc: Global, path: &Path, out: &mut [u8]) -> Result<usize, Errno>
     ensures { Writes (Ok path.now) result out.old out.new }
 {
@@ -39,7 +44,7 @@ fn write_path(alloc: Global, path: &Path, out: &mut [u8]) -> Result<usize, Errno
     Ok(copy_out(text.as_slice(), out))
 }
 
-// Lays bytes into the front of the buffer, where it has room for them: how many they are.
+// Copies the bytes to the front of the buffer if they fit, and returns how many they are.
 fn copy_out(bytes: &[u8], out: &mut [u8]) -> usize
     ensures count { result ≡ length bytes.now }
     ensures buffer { out.new ≡ laid bytes.now out.old }
@@ -50,8 +55,8 @@ fn copy_out(bytes: &[u8], out: &mut [u8]) -> usize
     bytes.len()
 }
 
-/// Writes the record of the attributes that fields and extended attributes side by side tell into the front of the buffer, where it has
-/// room for it: how long the record is. `EINVAL`: no record can tell them. `ENOMEM`.
+/// Writes the record of the given fields and packed extended attributes to the front of the buffer if it fits, and returns its length.
+/// Fails with `EINVAL` if the attributes are not valid, and with `ENOMEM` if an allocation fails.
 pub fn write_record(
     alloc: Global,
     fields: &RawAttributes,
@@ -69,8 +74,9 @@ pub fn write_record(
     Ok(copy_out(text.as_slice(), out))
 }
 
-/// Reads a record: its attributes go to the fields, and its extended attributes side by side into the front of the buffer, where it has
-/// room for them. How many bytes those are. `EINVAL`: it is no record. `ENOMEM`. A refusal leaves fields of no attributes.
+/// Reads a record into the fields, and its packed extended attributes into the front of the buffer if they fit. Returns the length of
+/// the packed attributes. Fails with `EINVAL` if the text is not a record, and with `ENOMEM` if an allocation fails; then all fields
+/// are 0.
 pub fn read_record(
     alloc: Global,
     text: &[u8],

@@ -1,25 +1,28 @@
-//! Laws of mirrored paths and of the paths of records. The functions do nothing.
+//! Laws of record directories and of the paths of records. The functions do nothing at run time.
 ghost use Rattle.attributes.specs.Laws.{ApartLaw, BelowLaw, FitsLaw, NoMirrorBelowLaw, OneMirrorLaw, OneRecordLaw, ReservedLaw};
 
-/// Each path has a mirrored path and a record of its own.
+/// No two paths have the same record directory or the same record.
 pub fn one_to_one()
     ensures record_dir { OneMirrorLaw }
     ensures record_path { OneRecordLaw }
 {}
 
-/// Records and mirrored paths lie apart from every path of a user, and from each other.
+/// The paths of records and record directories differ from every path of a user, and from each
+/// other.
 pub fn apart()
     ensures reserved { ReservedLaw }
     ensures users { ApartLaw }
     ensures records { NoMirrorBelowLaw }
 {}
 
-/// What lies below a path is mirrored below what is mirrored of the path: a directory that moves takes its mirror along.
+/// The record directory of a path contains the records of everything below the path, so renaming it renames all these
+/// records.
 pub fn below()
     ensures { BelowLaw }
 {}
 
-/// A mirrored path or a record's path is one where its names and its text are not too long.
+/// A record directory or a record's path is a valid path if its names and its text are not too
+/// long.
 pub fn fits()
     ensures { FitsLaw }
 {}

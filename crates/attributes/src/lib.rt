@@ -1,7 +1,12 @@
-//! What an entry has beside its bytes: kind, mode, owner, a time set by hand, extended attributes.
+//! The attributes that an entry has beside its bytes: kind, mode, owner, an explicitly set mtime, and extended
+//! attributes.
 //!
-//! An entry whose attributes are not the usual ones has a record: a small file of the same volume, below a name of
-//! the root that no user has. Here is where the record of a path lies, and the record's text.
+//! They are kept in the *attribute record* of the entry: a small text file of the same volume, below a reserved
+//! name of the root. This crate defines a record's path and its text; `docs/FORMATS.md` has the format of both. It
+//! knows no volumes.
+//!
+//! Each path has at most one record, no record's path is a path of a user, and valid attributes have exactly one
+//! text.
 #![tactic(auto)]
 
 pub mod buffers;

@@ -1,4 +1,6 @@
-//! Prints the text of a record.
+//! Prints the text of an attribute record. `docs/FORMATS.md` has its format.
+//!
+//! Valid attributes have exactly one text, so the reader can check a text by printing what it read.
 ghost use Rattle.std.specs.Prelude.{◌≡◌, ◌≤◌, ◌++◌, codes, flat_map, IfOk, OnOk, true};
 ghost use Rattle.attributes.specs.Attributes.{is_valid};
 ghost use Rattle.attributes.specs.Text.{basic_lines, extended_line, kind_text, octal, printed, time_lines};
@@ -9,10 +11,10 @@ use std::alloc::Global;
 use textio::output::{WriteFailed, put};
 use textio::text::{put_hex, put_number, put_number_line, put_percent};
 
-/// How many bytes most records have at most.
+/// Most records have at most this many bytes.
 const USUAL: usize = 192;
 
-/// The text of a record. It fails for want of memory alone.
+/// The text of a record. Fails only if an allocation fails.
 pub fn print(alloc: Global, attributes: &Attributes) -> Result<Vec<u8>, NoMemory>
     requires { is_valid attributes.now ≡ true }
     ensures { IfOk result (λ text. text.items ≡ printed attributes.now) }
@@ -36,7 +38,7 @@ fn put_all(text: &mut Vec<u8>, attributes: &Attributes) -> Result<(), WriteFaile
     Ok(())
 }
 
-// Adds the lines that each record has.
+// Adds the lines that every record has.
 fn put_basic(text: &mut Vec<u8>, basic: &BasicAttributes) -> Result<(), WriteFailed>
     requires { basic.now.mode ≤ 4095 }
     ensures { OnOk result (text.new.items ≡ text.old.items ++ basic_lines basic.now) }
@@ -51,7 +53,7 @@ fn put_basic(text: &mut Vec<u8>, basic: &BasicAttributes) -> Result<(), WriteFai
     Ok(())
 }
 
-// Adds the line of a kind.
+// Adds the line of the kind.
 fn put_kind(text: &mut Vec<u8>, kind: Kind) -> Result<(), WriteFailed>
     ensures { OnOk result (text.new.items ≡ text.old.items ++ (codes "kind " ++ kind_text kind ++ codes "\n")) }
 {
@@ -60,7 +62,7 @@ fn put_kind(text: &mut Vec<u8>, kind: Kind) -> Result<(), WriteFailed>
     put(text, b"\n")
 }
 
-// Adds the words for a kind.
+// Adds the words of a kind.
 #[tactic(auto, unfolding(crate::specs::Text::kind_text))]
 fn put_kind_words(text: &mut Vec<u8>, kind: Kind) -> Result<(), WriteFailed>
     ensures { OnOk result (text.new.items ≡ text.old.items ++ kind_text kind) }
@@ -73,7 +75,7 @@ fn put_kind_words(text: &mut Vec<u8>, kind: Kind) -> Result<(), WriteFailed>
     put_number(text, number)
 }
 
-// Adds the line of a mode.
+// Adds the line of the mode.
 fn put_mode(text: &mut Vec<u8>, mode: u16) -> Result<(), WriteFailed>
     requires { mode ≤ 4095 }
     ensures { OnOk result (text.new.items ≡ text.old.items ++ (codes "mode " ++ octal mode ++ codes "\n")) }
@@ -83,7 +85,7 @@ fn put_mode(text: &mut Vec<u8>, mode: u16) -> Result<(), WriteFailed>
     put(text, b"\n")
 }
 
-// A mode in octal digits.
+// Adds a mode in octal digits.
 #[tactic(auto, unfolding(crate::specs::Text::octal))]
 fn octal_digits(mode: u16) -> [u8; 4]
     requires { mode ≤ 4095 }
@@ -97,7 +99,7 @@ fn octal_digits(mode: u16) -> [u8; 4]
     ]
 }
 
-// Adds the lines of a time that was set by hand, if one was.
+// Adds the two lines of an explicitly set mtime, if there is one.
 #[tactic(auto, unfolding(crate::specs::Text::time_lines))]
 fn put_time(text: &mut Vec<u8>, mtime_override: Option<MtimeOverride>) -> Result<(), WriteFailed>
     ensures { OnOk result (text.new.items ≡ text.old.items ++ time_lines mtime_override) }

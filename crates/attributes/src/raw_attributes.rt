@@ -1,10 +1,11 @@
-//! Attributes as plain numbers, as C programs have them.
+//! Attributes as plain numbers, for C. An absent attribute is 0. Converting valid attributes to fields and back gives
+//! the same attributes.
 ghost use Rattle.std.specs.Prelude.{◌≡◌};
 ghost use Rattle.attributes.specs.RawAttributes.{basic_of, device_of, fields_of, kind_number, kind_of, link_of, no_fields, time_of};
 
 use crate::record::{BasicAttributes, Kind, MtimeOverride};
 
-/// The attributes that each entry has, as plain numbers. What is not there is 0.
+/// The attributes that every entry has, as plain numbers. An absent attribute is 0.
 #[derive(Clone, Copy)]
 #[repr(C)]
 pub struct RawAttributes {
@@ -14,25 +15,25 @@ pub struct RawAttributes {
     pub user: u32,
     /// The owner's group.
     pub group: u32,
-    /// The kind: 1 for a directory, then file, symbolic link, pipe, socket, character device, block device, and 8 for one of
+    /// The kind: 1 for a directory, then file, symbolic link, FIFO, socket, character device, block device, and 8 for one of
     /// several names of a file.
     pub kind: u8,
-    /// How many names it has.
+    /// The number of names of the entry (its link count).
     pub names: u64,
-    /// The number of the file that has several names.
+    /// The number of the file with several names, if this is one of its names.
     pub link: u64,
-    /// The number of a device.
+    /// The number of the device, if this is one.
     pub device: u64,
-    /// The time that was set by hand, in nanoseconds since 1970.
+    /// The explicitly set mtime, in nanoseconds since 1970.
     pub modified: u64,
-    /// The moment up to which it holds.
+    /// The entry's own mtime up to which `modified` is valid.
     pub valid_until: u64,
-    /// Whether a time was set by hand: 1 where one was.
+    /// 1 if an mtime was set explicitly, otherwise 0.
     pub has_modified: u8,
 }
 
 impl RawAttributes {
-    /// The fields of no attributes: all are 0.
+    /// All fields 0, which are not valid attributes.
     pub fn none() -> RawAttributes
         ensures { result ≡ no_fields }
     {
@@ -50,7 +51,7 @@ impl RawAttributes {
         }
     }
 
-    /// The fields of attributes.
+    /// Converts attributes to fields.
     pub fn of(basic: &BasicAttributes) -> RawAttributes
         ensures { result ≡ fields_of basic.now }
     {
@@ -77,8 +78,8 @@ impl RawAttributes {
         }
     }
 
-    /// The attributes that the fields tell; none where the kind is none, or the mode has more than twelve bits. Fields that the kind
-    /// does not have are not looked at.
+    /// Converts fields to attributes. `None` if the kind is unknown or the mode has more than twelve bits. Fields that the kind does
+    /// not use are ignored.
     pub fn basic(&self) -> Option<BasicAttributes>
         ensures { result ≡ basic_of self.now }
     {
@@ -113,7 +114,7 @@ impl RawAttributes {
         }
     }
 
-    // The time that was set by hand.
+    // The explicitly set mtime, if there is one.
     fn mtime_override(&self) -> Option<MtimeOverride>
         ensures { result ≡ time_of self.now }
     {
@@ -127,7 +128,7 @@ impl RawAttributes {
     }
 }
 
-// The number of a kind.
+// The number of a kind in the field `kind`.
 fn kind_number(kind: Kind) -> u8
     ensures { result ≡ kind_number kind }
 {
@@ -143,7 +144,7 @@ fn kind_number(kind: Kind) -> u8
     }
 }
 
-// The number of a device.
+// The number of a device, and 0 for any other kind.
 fn device_of(kind: Kind) -> u64
     ensures { result ≡ device_of kind }
 {
@@ -153,7 +154,7 @@ fn device_of(kind: Kind) -> u64
     }
 }
 
-// The number of a file that has several names.
+// The number of a file with several names, and 0 for any other kind.
 fn link_of(kind: Kind) -> u64
     ensures { result ≡ link_of kind }
 {

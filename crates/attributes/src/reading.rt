@@ -1,4 +1,7 @@
-//! Reads the text of a record. Each record has one text: what a text seems to tell is printed again and compared.
+//! Parses the text of an attribute record. `docs/FORMATS.md` has its format.
+//!
+//! A text is valid if and only if it is what the printer prints for the attributes: so the parser guesses without
+//! checking, prints its guess again, and compares.
 ghost use Rattle.std.specs.Prelude.{◌≡◌, ◌≢◌, ◌↔◌, Option, Some, ◌++◌, ◌∷◌, ◌+◌, ◌<◌, ◌^◌, List, ℕ, Ok, IfOk, IfSome, codes, flat_map, slice_index, true};
 ghost use Rattle.std.specs.List.{AllByRecursion};
 ghost use Rattle.textio.specs.Held.{IsFree};
@@ -26,10 +29,11 @@ use std::alloc::Global;
 use textio::values::{read_bytes, read_number};
 use textio::words::{split_line, split_space};
 
-/// The first line of each record.
+/// The first line of every record.
 const HEADING: &[u8] = b"doorvervain record 1\n";
 
-/// The attributes whose record a text is. `EINVAL`: it is no record. `ENOMEM`.
+/// Parses a record. Fails with `EINVAL` if the text is not a record, and with `ENOMEM` if an
+/// allocation fails.
 pub fn parse(alloc: Global, text: &[u8]) -> Result<Attributes, Errno>
     ensures reported { Reads text.now result }
     ensures read_back { (a : PAttributes) → IsAttributes a → text.now ≡ printed a → IsOrNoMemory result (Ok a) }
@@ -44,7 +48,7 @@ pub fn parse(alloc: Global, text: &[u8]) -> Result<Attributes, Errno>
     Ok(attributes)
 }
 
-// Whether a text is the record of these attributes.
+// Whether the text is the record of these attributes.
 fn is_record(alloc: Global, attributes: &Attributes, text: &[u8]) -> Result<bool, NoMemory>
     requires { is_valid attributes.now ≡ true }
     ensures { IfOk result (λ outcome. outcome ≡ true ↔ (text.now ≡ printed attributes.now)) }
@@ -53,7 +57,7 @@ fn is_record(alloc: Global, attributes: &Attributes, text: &[u8]) -> Result<bool
     Ok(written.as_slice() == text)
 }
 
-// The attributes that a text seems to tell: those whose record it is, if it is one.
+// The attributes of a text. The result is right if the text is a record, and arbitrary otherwise.
 fn parse_unchecked(alloc: Global, text: &[u8]) -> Result<Attributes, NoMemory>
     ensures { IfOk result (λ a. (b : PAttributes) → IsAttributes b → text.now ≡ printed b → a ≡ b) }
 {
@@ -62,7 +66,8 @@ fn parse_unchecked(alloc: Global, text: &[u8]) -> Result<Attributes, NoMemory>
     Ok(Attributes { basic, extended })
 }
 
-// What the lines that each record has seem to tell, and the text behind them, which begins with no `m`.
+// The attributes on the lines that every record has, and the text after these lines, which does not
+// begin with `m`.
 fn guess_basic(text: &[u8]) -> (BasicAttributes, &[u8])
     ensures { (b : PBasic) (rest : List ℕ) → IsBasic b → slice_index rest 0 ≢ 109 → text.now ≡ basic_lines b ++ rest
         → (result.0 ≡ b) × (result.1.now ≡ rest) }
@@ -84,7 +89,7 @@ fn guess_basic(text: &[u8]) -> (BasicAttributes, &[u8])
     (basic, rest)
 }
 
-// What stands behind the first bytes of a text, where they are these.
+// The text after the prefix `front`, or the whole text if it does not begin with that.
 fn behind<'a>(text: &'a [u8], front: &[u8]) -> &'a [u8]
     ensures { (rest : List ℕ) → text.now ≡ front.now ++ rest → result.now ≡ rest }
 {
@@ -94,7 +99,7 @@ fn behind<'a>(text: &'a [u8], front: &[u8]) -> &'a [u8]
     }
 }
 
-// What stands behind a word on the first line, and the text behind the line.
+// The value after a word on the first line, and the text after the line.
 fn value_of<'a>(text: &'a [u8], word: &[u8]) -> (&'a [u8], &'a [u8])
     ensures { (value rest : List ℕ) → IsFree value → text.now ≡ word.now ++ (value ++ 10 ∷ rest)
         → (result.0.now ≡ value) × (result.1.now ≡ rest) }
@@ -105,7 +110,7 @@ fn value_of<'a>(text: &'a [u8], word: &[u8]) -> (&'a [u8], &'a [u8])
     }
 }
 
-// The number behind a word on the first line, and the text behind the line.
+// The number after a word on the first line, and the text after the line.
 fn guess_number<'a>(text: &'a [u8], word: &[u8]) -> (u64, &'a [u8])
     ensures { (n : ℕ) (rest : List ℕ) → n < 2 ^ 64 → text.now ≡ number_line word.now n ++ rest
         → (result.0 ≡ n) × (result.1.now ≡ rest) }
@@ -117,7 +122,7 @@ fn guess_number<'a>(text: &'a [u8], word: &[u8]) -> (u64, &'a [u8])
     }
 }
 
-// The same of the number of an owner or a group.
+// The user or group number after a word on the first line, and the text after the line.
 fn guess_owner<'a>(text: &'a [u8], word: &[u8]) -> (u32, &'a [u8])
     ensures { (n : ℕ) (rest : List ℕ) → n < 2 ^ 32 → text.now ≡ number_line word.now n ++ rest
         → (result.0 ≡ n) × (result.1.now ≡ rest) }
@@ -129,7 +134,7 @@ fn guess_owner<'a>(text: &'a [u8], word: &[u8]) -> (u32, &'a [u8])
     (number as u32, rest)
 }
 
-// The mode on the first line, and the text behind the line.
+// The mode on the first line, and the text after the line.
 fn guess_mode(text: &[u8]) -> (u16, &[u8])
     ensures { (mode : ℕ) (rest : List ℕ) → mode < 4096 → text.now ≡ (codes "mode " ++ octal mode ++ codes "\n") ++ rest
         → (result.0 ≡ mode) × (result.1.now ≡ rest) }
@@ -138,7 +143,7 @@ fn guess_mode(text: &[u8]) -> (u16, &[u8])
     (read_octal(value), rest)
 }
 
-// The number that four octal digits write.
+// The number that has these four octal digits.
 fn read_octal(word: &[u8]) -> u16
     ensures { (mode : ℕ) → mode < 4096 → word.now ≡ octal mode → result ≡ mode }
 {
@@ -156,7 +161,7 @@ fn digit(byte: u8) -> u16
     u16::from(byte.saturating_sub(b'0').min(7))
 }
 
-// The kind on the first line, and the text behind the line.
+// The kind on the first line, and the text after the line.
 fn guess_kind(text: &[u8]) -> (Kind, &[u8])
     ensures { (k : PKind) (rest : List ℕ) → IfSome (number_of k) (λ n. n < 2 ^ 64) → text.now ≡ (codes "kind " ++ kind_text k ++ codes "\n") ++ rest
         → (result.0 ≡ k) × (result.1.now ≡ rest) }
@@ -166,7 +171,7 @@ fn guess_kind(text: &[u8]) -> (Kind, &[u8])
     (kind_of(word, number), rest)
 }
 
-// A word, and the number behind it if there is one.
+// The first word, and the number after it if there is one.
 fn split_kind(words: &[u8]) -> (&[u8], Option<u64>)
     ensures { (k : PKind) → IfSome (number_of k) (λ n. n < 2 ^ 64) → words.now ≡ kind_text k
         → (result.0.now ≡ kind_word k) × (result.1 ≡ number_of k) }
@@ -177,7 +182,7 @@ fn split_kind(words: &[u8]) -> (&[u8], Option<u64>)
     }
 }
 
-// The kind of a word and a number.
+// The kind with this word and number.
 fn kind_of(word: &[u8], number: Option<u64>) -> Kind
     ensures { (k : PKind) → word.now ≡ kind_word k → number ≡ number_of k → result ≡ k }
 {
@@ -199,7 +204,7 @@ fn kind_of(word: &[u8], number: Option<u64>) -> Kind
     numbered_kind(word, number.unwrap_or(0))
 }
 
-// The kind of a word behind which a number stands.
+// The kind of a word that is followed by a number.
 fn numbered_kind(word: &[u8], number: u64) -> Kind
     ensures { (k : PKind) → word.now ≡ kind_word k → Some number ≡ number_of k → result ≡ k }
 {
@@ -212,7 +217,7 @@ fn numbered_kind(word: &[u8], number: u64) -> Kind
     Kind::NameOf(number)
 }
 
-// The time that was set by hand, if the text begins with one, and the text behind it.
+// The explicitly set mtime, if the text begins with one, and the text after its lines.
 fn guess_time(text: &[u8]) -> (Option<MtimeOverride>, &[u8])
     ensures { (t : Option PTime) (rest : List ℕ) → IfSome t IsTime → slice_index rest 0 ≢ 109 → text.now ≡ time_lines t ++ rest
         → (result.0 ≡ t) × (result.1.now ≡ rest) }
@@ -234,7 +239,7 @@ fn begins_with_m(text: &[u8]) -> bool
     }
 }
 
-// The extended attributes that the lines of a text seem to tell.
+// The extended attributes on the lines of a text, without checking.
 fn guess_extended(alloc: Global, text: &[u8]) -> Result<ExtendedAttributes, NoMemory>
     ensures { IfOk result (λ v. (es : List PExtended) → AllByRecursion AreBytesOf es → text.now ≡ flat_map extended_line es → v ≡ es) }
 {
@@ -248,7 +253,7 @@ fn guess_extended(alloc: Global, text: &[u8]) -> Result<ExtendedAttributes, NoMe
     Ok(extended)
 }
 
-// The extended attribute that a line seems to tell.
+// The extended attribute on a line, without checking.
 fn guess_one(alloc: Global, line: &[u8]) -> Result<ExtendedAttribute, NoMemory>
     ensures { IfOk result (λ one. (e : PExtended) → AreBytesOf e → line.now ≡ extended_words e → one ≡ e) }
 {
@@ -258,7 +263,7 @@ fn guess_one(alloc: Global, line: &[u8]) -> Result<ExtendedAttribute, NoMemory>
     Ok(ExtendedAttribute { name, value })
 }
 
-// The words for a name and for a value on the line of an extended attribute.
+// The words of the name and of the value on the line of an extended attribute.
 fn words_of(line: &[u8]) -> (&[u8], &[u8])
     ensures { (e : PExtended) → line.now ≡ extended_words e → (result.0.now ≡ flat_map percent e.name) × (result.1.now ≡ hex_text e.value) }
 {
@@ -268,7 +273,7 @@ fn words_of(line: &[u8]) -> (&[u8], &[u8])
     }
 }
 
-// The name that a word writes in percent form.
+// Decodes a name in percent form.
 fn name_of(alloc: Global, word: &[u8]) -> Result<Bytes, NoMemory>
     ensures { IfOk result (λ name. name ≡ percent_decode word.now) }
 {
@@ -277,7 +282,7 @@ fn name_of(alloc: Global, word: &[u8]) -> Result<Bytes, NoMemory>
     Ok(Bytes::from_vec(name)?)
 }
 
-// The bytes that a word writes in hexadecimal.
+// Decodes bytes in hexadecimal.
 fn bytes_of(alloc: Global, word: &[u8]) -> Result<Bytes, NoMemory>
     ensures { IfOk result (λ bytes. (v : List ℕ) → AreBytes v → word.now ≡ hex_text v → bytes ≡ v) }
 {

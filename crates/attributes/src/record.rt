@@ -1,4 +1,7 @@
-//! What a record tells of an entry.
+//! The contents of an attribute record as Rust types.
+//!
+//! Valid attributes (`is_valid`) have a mode of twelve bits, and extended attributes in strictly
+//! rising order of names, within the limits of Linux. Only valid attributes have a record.
 ghost use Rattle.std.specs.Prelude.{◌≡◌, ◌==◌, [], ◌∷◌, ◌++◌, OnOk, not};
 ghost use Rattle.std.specs.List.{list_all};
 ghost use Rattle.attributes.specs.Attributes.{is_valid, may_stand, number_of, assert_invariant};
@@ -16,9 +19,9 @@ pub enum Kind {
     Directory,
     /// A file.
     File,
-    /// A symbolic link: its bytes are the target.
+    /// A symbolic link: the bytes of the file are its target.
     SymbolicLink,
-    /// A pipe with a name.
+    /// A named pipe.
     Fifo,
     /// A socket.
     Socket,
@@ -59,42 +62,44 @@ impl Kind {
     }
 }
 
-/// A time of last change that was set by hand.
+/// An explicitly set mtime (utimensat).
 #[derive(Clone, Copy, Debug, PartialEq, Eq)]
 pub struct MtimeOverride {
-    /// The time, in nanoseconds since 1970.
+    /// The mtime, in nanoseconds since 1970.
     pub modified: u64,
-    /// The moment of last change up to which it holds: once the entry has a later one, that is the time.
+    /// The entry's own mtime when this override was set. The override is ignored once the entry's mtime
+    /// is newer.
     pub until: u64,
 }
 
-/// The attributes that each entry has.
+/// The attributes that every entry has.
 #[derive(Clone, Copy, Debug, PartialEq, Eq)]
 pub struct BasicAttributes {
     /// What the entry is.
     pub kind: Kind,
-    /// The twelve bits of permissions, set-user, set-group and sticky; a record has none above them.
+    /// The twelve bits of permissions, set-user, set-group and sticky; in a record all higher bits
+    /// are 0.
     pub mode: u16,
     /// The owner.
     pub user: u32,
     /// The owner's group.
     pub group: u32,
-    /// How many names it has.
+    /// The number of names of the entry (its link count).
     pub names: u64,
-    /// The time that was set by hand, if one was.
+    /// The explicitly set mtime, if there is one.
     pub modified: Option<MtimeOverride>,
 }
 
-/// An extended attribute. Contracts see name and value as their bytes.
+/// An extended attribute. In contracts, name and value are lists of bytes.
 #[derive(Drop)]
 pub struct ExtendedAttribute {
-    /// The name, as `user.comment`.
+    /// The name, for example `user.comment`.
     pub name: Bytes,
     /// The value.
     pub value: Bytes,
 }
 
-/// Extended attributes, which contracts see as the list of them.
+/// A list of extended attributes. In contracts it is a plain list.
 pub struct ExtendedAttributes {
     items: Vec<ExtendedAttribute>,
 }
@@ -115,7 +120,7 @@ impl Model for ExtendedAttributes {
 }
 
 impl ExtendedAttributes {
-    /// None.
+    /// The empty list.
     pub fn new(alloc: Global) -> ExtendedAttributes
         ensures { result ≡ [] }
     {
@@ -124,7 +129,7 @@ impl ExtendedAttributes {
         }
     }
 
-    /// Adds one behind the others.
+    /// Appends an attribute.
     pub fn push(&mut self, one: ExtendedAttribute) -> Result<(), NoMemory>
         ensures { OnOk result (self.new ≡ self.old ++ one ∷ []) }
     {
@@ -132,7 +137,7 @@ impl ExtendedAttributes {
         Ok(())
     }
 
-    /// All of them, one behind the other.
+    /// All attributes, in the order in which they were added.
     pub fn as_slice(&self) -> &[ExtendedAttribute]
         ensures { result.now ≡ self.now }
     {
@@ -140,10 +145,10 @@ impl ExtendedAttributes {
     }
 }
 
-/// All that a record tells.
+/// Everything that a record contains.
 #[derive(Drop)]
 pub struct Attributes {
-    /// What each entry has.
+    /// The attributes that every entry has.
     pub basic: BasicAttributes,
     /// The extended attributes.
     pub extended: ExtendedAttributes,
@@ -152,15 +157,15 @@ pub struct Attributes {
 /// The greatest mode: twelve bits.
 const GREATEST_MODE: u16 = 0o7777;
 
-/// The most bytes that the name of an extended attribute has.
+/// The maximal length of the name of an extended attribute.
 const LONGEST_NAME: usize = 255;
 
-/// The most bytes that its value has.
+/// The maximal length of its value.
 const LONGEST_VALUE: usize = 65_536;
 
 impl Attributes {
-    /// Whether a record can tell them: the mode has twelve bits, and the extended attributes stand in rising order of names,
-    /// each of 1 to 255 bytes and none of them 0, with values of at most 65,536 bytes.
+    /// Whether the attributes have a record: the mode has twelve bits, and the extended attributes are in rising order of
+    /// names, with names of 1 to 255 bytes without a byte 0, and values of at most 65,536 bytes.
     pub fn is_valid(&self) -> bool
         ensures { result ≡ is_valid self.now }
     {
@@ -168,7 +173,7 @@ impl Attributes {
     }
 }
 
-/// Whether extended attributes may stand in a record, in this order.
+/// Whether a record can have these extended attributes, in this order.
 pub(crate) fn assert_invariant(attributes: &[ExtendedAttribute]) -> bool
     ensures { result ≡ assert_invariant [] attributes.now }
 {
@@ -183,7 +188,7 @@ pub(crate) fn assert_invariant(attributes: &[ExtendedAttribute]) -> bool
     true
 }
 
-// Whether an extended attribute may stand in a record.
+// Whether the name and the value are within the limits of Linux.
 fn may_stand(one: &ExtendedAttribute) -> bool
     ensures { result ≡ may_stand one.now }
 {

@@ -1,4 +1,8 @@
-//! Where the record of a path lies.
+//! The path of an entry's record, below a reserved name of the root. `docs/FORMATS.md` has the
+//! mapping.
+//!
+//! The map from paths to record directories is one to one, and no record's path is a record
+//! directory or below one, since names that begin with a byte 1 are escaped.
 ghost use Rattle.std.specs.Prelude.{◌≡◌, [], ◌∷◌, ◌++◌, IfOk, OnOk, if◌then◌else◌};
 ghost use Rattle.pathkey.specs.Names.{Path as Names, EachName};
 ghost use Rattle.pathkey.specs.Enc.{enc};
@@ -8,13 +12,13 @@ ghost use Rattle.attributes.specs.Places.{HasPlainNames, IsOrNoMemory, escaped, 
 use pathkey::{Errno, Key, NoMemory, Path, dec};
 use std::alloc::Global;
 
-/// The name below the root that no path of a user has.
+/// The reserved name in the root: users cannot reach it.
 const RESERVED: &[u8] = b".doorvervain";
 
-/// The key of the directory that mirrors the root.
+/// The key of the root's record directory.
 const ROOT: &[u8] = b".doorvervain\0tree\0";
 
-/// What begins one more byte of itself in a mirrored name, and the name of a record.
+/// The name of a record in its directory, and the escape byte in front of names that begin with it.
 const MARK: u8 = 1;
 
 /// Whether the path is at or below the reserved name.
@@ -27,9 +31,9 @@ pub fn is_reserved(path: &Path) -> bool
     }
 }
 
-/// The same path below the reserved name: `/.doorvervain/tree` and the names of the path, of which one that begins with a
-/// byte 1 has one more in front. `EINVAL`: the path is at or below the reserved name. `ENAMETOOLONG`: a name would have more
-/// than 255 bytes, or the text more than 1,023. `ENOMEM`.
+/// The record directory of a path: the same path below `/.doorvervain/tree`, where a name that begins with a byte 1 has one
+/// more in front. Fails with `EINVAL` if the path is at or below the reserved name, with `ENAMETOOLONG` if a name would have
+/// more than 255 bytes or the text more than 1,023, and with `ENOMEM` if an allocation fails.
 pub fn record_dir(alloc: Global, path: &Path) -> Result<Path, Errno>
     ensures { IsOrNoMemory result (placed path.now (record_dir path.now)) }
 {
@@ -40,7 +44,8 @@ pub fn record_dir(alloc: Global, path: &Path) -> Result<Path, Errno>
     path_of_key(alloc, key.as_slice())
 }
 
-/// Where the record of a path lies: its mirrored path, and behind that the name of one byte 1. Refused as `record_dir`.
+/// The path of a path's record: the file in the record directory whose name is the one byte 1. Fails as `record_dir`
+/// does.
 pub fn record_path(alloc: Global, path: &Path) -> Result<Path, Errno>
     ensures { IsOrNoMemory result (placed path.now (record_path path.now)) }
 {
@@ -61,7 +66,7 @@ fn record_key(alloc: Global, path: &Path) -> Result<Vec<u8>, NoMemory>
     Ok(key)
 }
 
-// The key of the mirrored path.
+// The key of the record directory.
 fn record_dir_key(alloc: Global, path: &Path) -> Result<Vec<u8>, NoMemory>
     ensures key { IfOk result (λ key. key.items ≡ enc (record_dir path.now)) }
     ensures names { EachName path.now }
@@ -75,7 +80,7 @@ fn record_dir_key(alloc: Global, path: &Path) -> Result<Vec<u8>, NoMemory>
     Ok(key)
 }
 
-// Adds a name to a key, with one more byte in front where it begins with the mark.
+// Appends a name to a key, escaped if it begins with `MARK`.
 fn push_escaped(key: &mut Vec<u8>, name: &[u8]) -> Result<(), NoMemory>
     ensures { OnOk result (key.new.items ≡ key.old.items ++ (escaped name.now ++ 0 ∷ [])) }
 {
@@ -87,7 +92,7 @@ fn push_escaped(key: &mut Vec<u8>, name: &[u8]) -> Result<(), NoMemory>
     Ok(())
 }
 
-// Whether a name begins with the mark.
+// Whether a name begins with `MARK`.
 fn begins_with_mark(name: &[u8]) -> bool
     ensures { escaped name.now ≡ (if result then 1 ∷ name.now else name.now) }
 {
@@ -97,7 +102,7 @@ fn begins_with_mark(name: &[u8]) -> bool
     }
 }
 
-// The path whose key this is; none where a name or the text would be too long.
+// The path with this key. Fails if a name or the text would be too long.
 fn path_of_key(alloc: Global, key: &[u8]) -> Result<Path, Errno>
     ensures { (p : Names) → HasPlainNames p → key.now ≡ enc p → IsOrNoMemory result (fitting p) }
 {
@@ -108,7 +113,7 @@ fn path_of_key(alloc: Global, key: &[u8]) -> Result<Path, Errno>
     }
 }
 
-/// The text of a path, as `/a/b`.
+/// The text of a path, for example `/a/b`.
 pub fn text_of(alloc: Global, path: &Path) -> Result<Vec<u8>, NoMemory>
     ensures { IfOk result (λ text. text.items ≡ text_of path.now) }
 {

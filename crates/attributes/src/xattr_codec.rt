@@ -1,5 +1,6 @@
-//! Extended attributes side by side, as C programs hand them over. They have one form: what bytes seem to hold is packed again and
-//! compared.
+//! Encodes extended attributes as packed bytes, the form in which C programs pass them, and decodes them.
+//!
+//! Valid extended attributes have one packed form: a decoder's result is encoded again and compared.
 ghost use Rattle.std.specs.Prelude.{◌≡◌, ◌≢◌, ◌↔◌, ◌++◌, ◌∷◌, ◌<◌, ◌≤◌, [], List, ℕ, All, Ok, IfOk, IfSome, MatchOption, OnOk, length, slice_index, take, true};
 ghost use Rattle.std.specs.List.{AllByRecursion};
 ghost use Rattle.attributes.specs.Attributes.{AreBytesOf, may_stand, assert_invariant};
@@ -12,7 +13,7 @@ use bytes::Bytes;
 use pathkey::{Errno, NoMemory};
 use std::alloc::Global;
 
-/// The extended attributes side by side: of each the name, a byte 0, the value's length in four bytes, least first, and the value.
+/// Packs extended attributes: for each its name, a byte 0, the value's length in four bytes in little-endian order, and the value.
 pub fn encode_xattrs(alloc: Global, extended: &ExtendedAttributes) -> Result<Vec<u8>, NoMemory>
     requires { assert_invariant [] extended.now ≡ true }
     ensures { IfOk result (λ bytes. bytes.items ≡ packed extended.now) }
@@ -24,7 +25,7 @@ pub fn encode_xattrs(alloc: Global, extended: &ExtendedAttributes) -> Result<Vec
     Ok(bytes)
 }
 
-// Adds one.
+// Packs one attribute.
 #[tactic(auto, unfolding(crate::specs::Packed::packed_one))]
 fn push_packed(bytes: &mut Vec<u8>, one: &ExtendedAttribute) -> Result<(), NoMemory>
     requires { may_stand one.now ≡ true }
@@ -38,7 +39,7 @@ fn push_packed(bytes: &mut Vec<u8>, one: &ExtendedAttribute) -> Result<(), NoMem
     Ok(())
 }
 
-// A number in four bytes.
+// A number as four bytes in little-endian order.
 #[tactic(auto, unfolding(crate::specs::Packed::four_bytes))]
 fn four_bytes(number: usize) -> [u8; 4]
     requires { number ≤ 65536 }
@@ -52,7 +53,8 @@ fn four_bytes(number: usize) -> [u8; 4]
     ]
 }
 
-/// The extended attributes that bytes are, side by side. `EINVAL`: they are none that may stand in a record. `ENOMEM`.
+/// Unpacks extended attributes. Fails with `EINVAL` if the bytes are not the packed form of valid attributes, and with
+/// `ENOMEM` if an allocation fails.
 pub fn decode_xattrs(alloc: Global, bytes: &[u8]) -> Result<ExtendedAttributes, Errno>
     ensures reported { Unpacks bytes.now result }
     ensures read_back { (es : List PExtended) → assert_invariant [] es ≡ true → AllByRecursion AreBytesOf es → bytes.now ≡ packed es → IsOrNoMemory result (Ok es) }
@@ -67,7 +69,7 @@ pub fn decode_xattrs(alloc: Global, bytes: &[u8]) -> Result<ExtendedAttributes, 
     Ok(extended)
 }
 
-// Whether bytes are these extended attributes, side by side.
+// Whether the bytes are the packed form of these extended attributes.
 fn is_packed(alloc: Global, extended: &ExtendedAttributes, bytes: &[u8]) -> Result<bool, NoMemory>
     requires { assert_invariant [] extended.now ≡ true }
     ensures { IfOk result (λ outcome. outcome ≡ true ↔ (bytes.now ≡ packed extended.now)) }
@@ -76,7 +78,8 @@ fn is_packed(alloc: Global, extended: &ExtendedAttributes, bytes: &[u8]) -> Resu
     Ok(written.as_slice() == bytes)
 }
 
-// The extended attributes that bytes seem to be.
+// Unpacks extended attributes. The result is right if the bytes are packed attributes, and
+// arbitrary otherwise.
 fn parse_unchecked(alloc: Global, bytes: &[u8]) -> Result<ExtendedAttributes, NoMemory>
     ensures { IfOk result (λ v. (es : List PExtended) → assert_invariant [] es ≡ true → bytes.now ≡ packed es → v ≡ es) }
 {
@@ -90,7 +93,7 @@ fn parse_unchecked(alloc: Global, bytes: &[u8]) -> Result<ExtendedAttributes, No
     Ok(extended)
 }
 
-// The extended attribute of this name and value.
+// An extended attribute with copies of this name and value.
 fn copied(alloc: Global, name: &[u8], value: &[u8]) -> Result<ExtendedAttribute, NoMemory>
     ensures { IfOk result (λ one. (one.name ≡ name.now) × (one.value ≡ value.now)) }
 {
@@ -99,7 +102,7 @@ fn copied(alloc: Global, name: &[u8], value: &[u8]) -> Result<ExtendedAttribute,
     Ok(ExtendedAttribute { name, value })
 }
 
-// The name and the value that bytes begin with, and the bytes behind them; none where they begin with none.
+// The first name, its value, and the bytes after both; `None` if there is no whole attribute.
 fn cut_one(bytes: &[u8]) -> Option<(&[u8], &[u8], &[u8])>
     ensures shorter { IfSome result (λ r. length r.2.now < length bytes.now) }
     ensures reported { (e : PExtended) (rest : List ℕ) → may_stand e ≡ true → bytes.now ≡ packed_one e ++ rest
@@ -114,7 +117,7 @@ fn cut_one(bytes: &[u8]) -> Option<(&[u8], &[u8], &[u8])>
     Some((name, value, rest))
 }
 
-// The value behind its length, and the bytes behind it.
+// The value after its length, and the bytes after it; `None` if the value is cut off.
 fn cut_value(bytes: &[u8]) -> Option<(&[u8], &[u8])>
     ensures shorter { IfSome result (λ r. length r.1.now ≤ length bytes.now) }
     ensures reported { (value rest : List ℕ) → length value ≤ 65536 → bytes.now ≡ four_bytes (length value) ++ (value ++ rest)
@@ -131,7 +134,7 @@ fn cut_value(bytes: &[u8]) -> Option<(&[u8], &[u8])>
     Some(behind.split_at(len))
 }
 
-// The number of four bytes.
+// The number with these four bytes.
 fn number_of(digits: &[u8]) -> usize
     requires { length digits.now ≡ 4 }
     ensures { (n : ℕ) → n ≤ 65536 → digits.now ≡ four_bytes n → result ≡ n }
@@ -142,7 +145,7 @@ fn number_of(digits: &[u8]) -> usize
         + usize::from(digits[3]) * 16_777_216
 }
 
-// The bytes before and behind the first byte 0; none where there is none.
+// The bytes before and after the first byte 0; `None` if there is no byte 0.
 fn cut_null(bytes: &[u8]) -> Option<(&[u8], &[u8])>
     ensures { MatchOption result (All (λ b. b ≢ 0) bytes.now) (λ cut. (bytes.now ≡ cut.0.now ++ 0 ∷ cut.1.now) × All (λ b. b ≢ 0) cut.0.now) }
 {
@@ -151,7 +154,7 @@ fn cut_null(bytes: &[u8]) -> Option<(&[u8], &[u8])>
     Some((front, &rest[1..]))
 }
 
-// The place of the first byte 0.
+// The index of the first byte 0.
 fn position(bytes: &[u8]) -> Option<usize>
     ensures { MatchOption result (All (λ b. b ≢ 0) bytes.now)
         (λ i. (i < length bytes.now) × (slice_index bytes.now i ≡ 0) × All (λ b. b ≢ 0) (take i bytes.now)) }

@@ -1,9 +1,9 @@
-//! Clients of an engine beside a volume alone and a map of std under a lock.
+//! Measures clients of an engine, against a volume alone and a map of std under a lock.
 //!
-//! Without a word it does a little of the work and says how many rows were answered as they have to be.
-//! `benches clients measure` prints nanoseconds a call for each row, the least of five runs; `benches clients growth` those of one
-//! client beside one flusher for more and more files. `benches clients volume`, `relieved`, `client`, `flusher` and `map` do the work
-//! of one row once, for a measurement from outside.
+//! Without a word it does a little of the work and prints how many rows had the expected replies. `benches clients measure` prints
+//! nanoseconds a call for each row, the least of five runs; `benches clients growth` those of one client with one flusher for more
+//! and more files. `benches clients volume`, `relieved`, `client`, `flusher` and `map` do the work of one row once, for an external
+//! measurement.
 use crate::clients::table::{Row, few_calls, measure, measure_growth, show_once};
 use std::alloc::Global;
 use std::rt::Clock;

@@ -1,4 +1,4 @@
-//! Flushers that make turns until they are told to stop, and count them; one that rests counts what each turn did too.
+//! Flushers that run turns until they are stopped, and count them; one that sleeps also counts what each turn did.
 use engine::{Between, EngineId, Flusher, TurnReply};
 use std::alloc::Global;
 use std::sync::Wait;
@@ -6,33 +6,33 @@ use std::sync::atomic::{AtomicBool, AtomicU64, Ordering};
 use std::thread::{Parker, Scope};
 use std::time::Duration;
 
-/// How many microseconds a rest takes, or somewhat more.
+/// The length of a sleep in microseconds, or somewhat more.
 const REST: u64 = 20;
 
-/// After how many turns a flusher that does not rest looks whether it has to stop.
+/// The number of turns after which a flusher that does not sleep checks whether it has to stop.
 const TURNS: u32 = 64;
 
-/// How many turns flushers made.
+/// The turns of flushers.
 #[derive(Clone, Copy)]
 pub struct Turns {
     /// All of them.
     pub made: u64,
-    /// Those of flushers that rest in which a job was installed.
+    /// Those of flushers that sleep in which a job was installed.
     pub installed: u64,
-    /// Those of flushers that rest in which the job was stale, since a restore came between.
+    /// Those of flushers that sleep in which the job was stale, since a restore was done between.
     pub stale: u64,
 }
 
-/// How flushers make turns.
+/// How flushers run turns.
 #[derive(Clone, Copy)]
 pub enum Pace {
     /// Many in a row, by `run_flusher`.
     Many,
-    /// One by one: a rest in the middle of each, and one behind it.
+    /// One by one: with a sleep in the middle of each, and one after it.
     Rests,
 }
 
-/// What flushers are told, and what they made.
+/// The state that the flushers share: whether they have to stop, and their turns.
 #[derive(Drop)]
 pub struct Watch {
     pace: Pace,
@@ -44,7 +44,7 @@ pub struct Watch {
 }
 
 impl Watch {
-    /// No turn was made.
+    /// The initial state.
     pub fn new(pace: Pace) -> Watch {
         Watch {
             pace,
@@ -55,7 +55,7 @@ impl Watch {
         }
     }
 
-    /// Tells them to stop.
+    /// Signals them to stop.
     pub fn end(&self) {
         self.stop.store(true, Ordering::SeqCst);
     }
@@ -65,7 +65,7 @@ impl Watch {
         self.stop.load(Ordering::SeqCst)
     }
 
-    /// How many turns there were so far.
+    /// The turns so far.
     pub fn turns(&self) -> Turns {
         Turns {
             made: self.turns.load(Ordering::SeqCst),
@@ -74,12 +74,12 @@ impl Watch {
         }
     }
 
-    /// Notes so many turns.
+    /// Records that many turns.
     fn note_all(&self, turns: u32) {
         self.turns.fetch_add(u64::from(turns), Ordering::SeqCst);
     }
 
-    /// Notes what a turn did.
+    /// Records what a turn did.
     fn note(&self, reply: TurnReply) {
         self.note_all(1);
         match reply {
@@ -94,7 +94,7 @@ impl Watch {
     }
 }
 
-/// A rest between the two holds of a turn, so that calls come between.
+/// A sleep between the two critical sections of a turn, so that calls can be made between.
 #[derive(Drop)]
 struct Rests<'a, R: Wait> {
     rt: &'a R,
@@ -106,12 +106,12 @@ impl<'a, R: Wait> Between for Rests<'a, R> {
     }
 }
 
-/// Rests, so that others get the lock.
+/// Sleeps, so that others get the lock.
 pub fn rest<R: Wait>(rt: &R) {
     Parker::new().park_timeout(rt, Duration::from_micros(REST));
 }
 
-/// A turn with its rests.
+/// A turn with its sleeps.
 fn turn<J: EngineId, H: Wait>(rt: &H, alloc: Global, flusher: &mut Flusher<J>, watch: &Watch) {
     watch.note(flusher.turn(rt, alloc, &mut Rests { rt }));
     rest(rt);
@@ -128,7 +128,7 @@ pub fn start<'s, E, J: EngineId + Send + Sync + 's, H: Wait + Sync>(
     let _ = scope.spawn(move || flush(rt, alloc, flusher, watch));
 }
 
-/// Turns until it has to stop.
+/// Runs turns until it has to stop.
 fn flush<J: EngineId, H: Wait>(rt: &H, alloc: Global, mut flusher: Flusher<J>, watch: &Watch) {
     for _ in 0..u64::MAX {
         if watch.is_ended() {

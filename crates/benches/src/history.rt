@@ -1,7 +1,8 @@
-//! Clients and flushers of one engine over a tree that all share, with each call's begin, end and answer by a clock that all share.
+//! Records histories: clients and flushers of one engine over a tree that all share, with each call's begin, end and answer by a
+//! clock that all share.
 //!
-//! `benches history SEED CALLS` makes about so many calls, and prints a line for each; without numbers it makes a few, and says how
-//! many there were. `tests/history/run` at the top asks whether one order explains them.
+//! `benches history SEED CALLS` makes about that many calls, and prints a line for each; without numbers it makes a few, and prints
+//! how many there were. `tests/history/run` checks whether one order explains them.
 use crate::flushers::Turns;
 use crate::history::log::Log;
 use crate::history::names::{AREAS, SNAPSHOTS};
@@ -21,10 +22,10 @@ pub mod names;
 pub mod run;
 pub mod work;
 
-/// How many calls each client makes where the words are not two numbers.
+/// The number of calls of each client if the words are not two numbers.
 const FEW: u64 = 200;
 
-/// Makes about so many calls that a seed chooses; a few where the words are not two numbers.
+/// Makes about that many calls that a seed chooses; a few if the words are not two numbers.
 pub fn do_work<R: Threads + Wait + Print + Sync>(
     rt: &R,
     alloc: Global,
@@ -37,12 +38,12 @@ pub fn do_work<R: Threads + Wait + Print + Sync>(
     }
 }
 
-/// The number that a word says.
+/// The number in a word.
 fn number(word: &str) -> Option<u64> {
     word.parse::<u64>().ok()
 }
 
-/// A course of about so many calls of all clients together.
+/// A workload of about that many calls of all clients together.
 fn new_course(seed: u64, calls: u64) -> Course {
     Course {
         seed: (seed % 65_536) as u32,
@@ -51,7 +52,7 @@ fn new_course(seed: u64, calls: u64) -> Course {
     }
 }
 
-/// Makes a few calls, and says how many were logged.
+/// Makes a few calls, and prints how many were logged.
 fn few_calls<R: Threads + Wait + Print + Sync>(rt: &R, alloc: Global) -> anyhow::Result<()> {
     let course = new_course(1, FEW * CLIENTS as u64);
     let logged = match run(rt, alloc, &course) {
@@ -62,7 +63,7 @@ fn few_calls<R: Threads + Wait + Print + Sync>(rt: &R, alloc: Global) -> anyhow:
     Ok(())
 }
 
-/// How many calls the logs have.
+/// The number of calls in the logs.
 fn logged(logs: &[Log]) -> usize {
     let mut logged = 0usize;
     for log in logs {
@@ -71,7 +72,7 @@ fn logged(logs: &[Log]) -> usize {
     logged
 }
 
-/// Makes the calls of a course, and prints what came of it: nothing where memory is refused.
+/// Makes the calls of a workload, and prints the result: nothing if an allocation fails.
 fn show<R: Threads + Wait + Sync, W: Write + Drop>(
     rt: &R,
     alloc: Global,
@@ -84,20 +85,20 @@ fn show<R: Threads + Wait + Sync, W: Write + Drop>(
     }
 }
 
-/// Prints what came of a course, gathered into large writes.
+/// Prints the result of a workload, buffered into large writes.
 fn print_outcome<W: Write + Drop>(alloc: Global, outcome: &Outcome, out: W) -> anyhow::Result<()> {
     let mut out = BufWriter::new(alloc, out)?;
     print_whole(&mut out, outcome)?;
     Ok(())
 }
 
-/// Prints what came of a course, to the end.
+/// Prints the whole result of a workload.
 fn print_whole<W: Write>(out: &mut W, outcome: &Outcome) -> io::Result<()> {
     print_all(out, outcome.logs.as_slice(), outcome.turns)?;
     out.flush()
 }
 
-/// Prints a line of what there is, the lines of all calls, and one of what flushers did.
+/// Prints a line with the parameters, the lines of all calls, and one of what flushers did.
 fn print_all<W: Write>(out: &mut W, logs: &[Log], turns: Turns) -> io::Result<()> {
     writeln!(out, "history {CLIENTS} {AREAS} {SNAPSHOTS}")?;
     for log in logs {

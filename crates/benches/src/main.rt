@@ -1,8 +1,8 @@
-//! `benches`: times beside a map of std, in one run, and calls for a check from outside; what scripts can measure stands in `bench/`.
+//! `benches`: times against a map of std, in one run, and histories for an external checker; what scripts can measure is in `bench/`.
 //!
-//! The first word says of what: `benches tree` of a tree (`tree.rt`), `benches clients` of clients of an engine and of a volume alone
-//! (`clients.rt`), `benches history` what clients are answered (`history.rt`). The next say which work. Without them a little of the
-//! work is done, and without the first a little of each.
+//! The first word chooses what: `benches tree` measures a tree (`tree.rt`), `benches clients` clients of an engine and a volume alone
+//! (`clients.rt`), `benches history` records the answers of clients (`history.rt`). The next words choose the work. Without them a
+//! little of the work is done, and without the first a little of each.
 #![tactic(auto)]
 
 use std::alloc::Global;
@@ -21,7 +21,7 @@ fn main(rt: HostRuntime) -> anyhow::Result<()> {
     do_work(&rt, rt.alloc(), words.as_slice())
 }
 
-/// The work that the words name.
+/// Does the work that the words choose.
 fn do_work<R: Threads + Wait + Clock + Print + Eprint + Sync>(
     rt: &R,
     alloc: Global,
@@ -45,7 +45,7 @@ fn do_work<R: Threads + Wait + Clock + Print + Eprint + Sync>(
     }
 }
 
-/// The word at a place, or an empty one where there is none.
+/// The word at an index, or an empty one if there is none.
 fn word_at(words: &[String], place: usize) -> &str {
     match words.get(place) {
         Some(word) => word.as_str(),

@@ -1,8 +1,8 @@
-//! A tree beside a map of std.
+//! Measures a tree against a map of std.
 //!
-//! Without a word it does a little of the work and says how much it found. `benches tree measure` does all of it
-//! and prints nanoseconds an operation; `benches tree tree` and `benches tree map` do the appends alone, for a
-//! measurement of memory from outside.
+//! Without a word it does a little of the work and prints how much it found. `benches tree measure` does all of it and
+//! prints nanoseconds an operation; `benches tree tree` and `benches tree map` do only the appends, for an external
+//! measurement of memory.
 use crate::tree::measure::{ALL, LIMIT, appends, edits, look_ups};
 use crate::tree::number::Set;
 use crate::tree::work::{Appended, Numbers, append, insert, look_up, new_tree, settle};
@@ -23,7 +23,7 @@ const FEW: Numbers = Numbers {
     count: 6_000,
 };
 
-/// The work that a word names.
+/// Does the work that a word chooses.
 pub fn do_work(
     rt: &(impl Clock + Print + Eprint),
     alloc: Global,
@@ -54,14 +54,14 @@ fn append_all(alloc: Global) -> Result<(), NoMemory> {
     }
 }
 
-/// What a little of the work comes to.
+/// The results of a little of the work.
 #[derive(Clone, Copy)]
 struct Little {
     /// How many keys are found.
     found: u64,
-    /// How many messages wait then.
+    /// The number of pending messages then.
     pending: u128,
-    /// How many wait after edits that join.
+    /// The number of pending messages after edits that join.
     joined: u128,
 }
 
@@ -81,20 +81,20 @@ fn do_little(alloc: Global, tree: &mut Tree<Set>) -> Result<Little, NoMemory> {
 }
 
 /// A little of the work on a new tree.
-fn do_little_anew(alloc: Global) -> Result<Little, NoMemory> {
+fn do_little_on_new_tree(alloc: Global) -> Result<Little, NoMemory> {
     match new_tree(alloc) {
         Ok(mut tree) => do_little(alloc, &mut tree),
         Err(refused) => Err(refused),
     }
 }
 
-/// Does it, and says what it comes to.
+/// Does a little of the work, and prints its results.
 fn show_little(rt: &impl Print, alloc: Global) -> anyhow::Result<()> {
     let Little {
         found,
         pending,
         joined,
-    } = do_little_anew(alloc)?;
+    } = do_little_on_new_tree(alloc)?;
     println!(rt; "{found} found, {pending} pending, {joined} after edits that join")?;
     Ok(())
 }

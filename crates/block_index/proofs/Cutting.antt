@@ -48,7 +48,7 @@ later_in p a j h l g = block_in_blocks_from p p a j h (omega arith) (refl, g)
 earlier_out : (p : Path) (a j : ℕ) → IsPath p → a < 2 ^ 32 → j < most_blocks → j < a → is_in (blocks_from p a) (block_key p j) ≡ false
 earlier_out p a j is_path h l g = false_from_ne_true _ (λ e. let s : (p ≡ p) × (a ≤ j) = block_in_blocks p p a j is_path.names is_path.names h (omega arith) e in let z : a ≤ j = s.1 in omega arith)
 
--- what is no block of p is in no range of its blocks, where it has a value
+-- a key with a value that is not that of a block of p is in no range of its blocks
 outside : (t : Tree) (d : Blocks) (p : Path) (a : ℕ) (k : Key) → IsPath p → a < 2 ^ 32 → BlocksMean t d → ((i : ℕ) → i < most_blocks → k ≡ block_key p i → ⊥) → cleared (blocks_from p a) d k ≡ d k
 outside t d p a k is_path h means_t out = elim (is_in (blocks_from p a) k) as (λ b. is_in (blocks_from p a) k ≡ b → cond b None (d k) ≡ d k) [
   | false ↦ λ e. refl

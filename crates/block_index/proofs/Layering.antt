@@ -1,4 +1,4 @@
--- Layers over a block: in what order they are laid, what a cut leaves of them, and where their bytes lie.
+-- Layers over a block: the order in which they are applied, the effect of a cut on them, and where their bytes are.
 use Rattle.std.proofs.Common.{◌≡◌, ℕ, ◌+◌, ◌-◌, ◌<◌, ◌≤◌, min, max, List, [], ◌∷◌, ◌++◌, length, take, drop, map, get_or, sym, ap, refl, ◌∙◌, Option, None, Some, ◌⊎◌, inl, inr, ⊎_elim, arith, subst, add-one, length-append, length-take, length-drop}
 use Rattle.std.proofs.lemmas.List.{ext_get_or, get_or-take, take-take, take-append-le, drop-append-le, drop_at, take_all, map-append}
 use Rattle.std.proofs.lemmas.Bool.{cases_lt}
@@ -13,18 +13,18 @@ use Rattle.block_index.specs.declared.layer_data.Extent.{Extent}
 
 -- ---- bytes over bytes
 
--- a place lies inside n places from a on, or not
+-- a position is among the n positions from a on, or not
 inside_or : (a n x : ℕ) → ((a ≤ x) × (x < a + n)) ⊎ ((x < a) ⊎ (a + n ≤ x))
 inside_or a n x = ⊎_elim
     (λ (h : x < a). inr (inl h))
     (λ (h : a ≤ x). ⊎_elim (λ (g : x < a + n). inl (h, g)) (λ (g : a + n ≤ x). inr (inr g)) (cases_lt x (a + n)))
     (cases_lt x a)
 
--- a byte on which nothing is laid
+-- a byte that no layer overwrites
 over_outside : (b : List ℕ) (off : ℕ) (w : List ℕ) (x : ℕ) → (x < off) ⊎ (off + length w ≤ x) → get_or (over b off w) x 0 ≡ get_or b x 0
 over_outside b off w x h = ⊎_elim (λ (g : x < off). over_before b off w x g) (λ (g : off + length w ≤ x). over_after b off w x g) h
 
--- what does not touch can be laid in either order
+-- layers that do not touch can be applied in either order
 pub over_swap : (b : List ℕ) (a : ℕ) (v : List ℕ) (c : ℕ) (w : List ℕ) → (a + length v < c) ⊎ (c + length w < a) → over (over b a v) c w ≡ over (over b c w) a v
 over_swap b a v c w apart =
     let m : length (over b a v) ≡ max (length b) (a + length v) = length-over b a v in
@@ -42,7 +42,7 @@ over_swap b a v c w apart =
     (inside_or c (length w) x))
     (inside_or a (length v) x))
 
--- what a cut leaves of bytes that were laid
+-- the effect of a cut on bytes that were overwritten
 take_over : (n : ℕ) (b : List ℕ) (off : ℕ) (w : List ℕ) → take n (over b off w) ≡ over (take n b) (min off n) (take (n - off) w)
 take_over n b off w =
     let m : length (over b off w) ≡ max (length b) (off + length w) = length-over b off w in
@@ -70,7 +70,7 @@ take_over n b off w =
 
 -- ---- layers
 
--- layers behind others
+-- layers after others
 pub with_layers-append : (ps qs : List Overlay) (old : Option (List ℕ)) → with_layers (ps ++ qs) old ≡ with_layers ps (with_layers qs old)
 with_layers-append [] qs old = refl
 with_layers-append (p ∷ ps) qs old = ap (overlaid p.off p.bytes) (with_layers-append ps qs old)
@@ -79,7 +79,7 @@ take_held : (n : ℕ) (o : Option (List ℕ)) → held (shortened n o) ≡ take 
 take_held n None = sym (take_all n [] (omega arith))
 take_held n (Some b) = refl
 
--- a cut behind layers is one before what it leaves of them
+-- a cut after layers is one before the cut layers
 pub shortened_applied : (n : ℕ) (ps : List Overlay) (old : Option (List ℕ)) → shortened n (with_layers ps old) ≡ with_layers (map (clipped n) ps) (shortened n old)
 shortened_applied n [] old = refl
 shortened_applied n (p ∷ ps) old =
@@ -101,7 +101,7 @@ pub shortened_twice : (m n : ℕ) (old : Option (List ℕ)) → shortened n (sho
 shortened_twice m n None = refl
 shortened_twice m n (Some b) = ap (λ (c : List ℕ). Some c) (take_both m n b)
 
--- ---- where their bytes lie
+-- ---- where their bytes are
 
 -- more bytes change no layer
 pub layers_grow : (bs ws : List ℕ) (es : List Extent) → AreInside bs es → map (layer_in (bs ++ ws)) es ≡ map (layer_in bs) es
@@ -120,12 +120,12 @@ inside_grow bs ws (e ∷ es) inside =
     let f : e.start + e.len ≤ length bs = inside.0 in
     (omega arith, inside.1, inside_grow bs ws es inside.2)
 
--- an extent behind all, and one before them
+-- an extent after all others, and one before them
 pub inside_push : (bs : List ℕ) (es : List Extent) (e : Extent) → AreInside bs es → e.start + e.len ≤ length bs → e.off + e.len ≤ 4096 → AreInside bs (es ++ e ∷ [])
 inside_push bs [] e inside there fits = (there, fits, tt)
 inside_push bs (f ∷ es) e inside there fits = (inside.0, inside.1, inside_push bs es e inside.2 there fits)
 
--- the layer of bytes that were put behind all others
+-- the layer of bytes that were appended to all others
 pub layer_behind : (bs ws : List ℕ) (off start len : ℕ) → start ≡ length bs → len ≡ length ws → layer_in (bs ++ ws) (record { off = off; start = start; len = len }) ≡ record { off = off; bytes = ws }
 layer_behind bs ws off start len s l = ap (λ (b : List ℕ). record { off = off; bytes = b }) (ap (take len) (drop_at bs ws start (sym s)) ∙ take_all len ws (omega arith))
 
@@ -172,10 +172,10 @@ layer_there bs [] i d h = absurd (omega arith)
 layer_there bs (e ∷ es) zero d h = refl
 layer_there bs (e ∷ es) (suc i) d h = layer_there bs es i d (omega arith) ∙ ap (λ (n : ℕ). layer_in bs (get_or es i d) ∷ drop n (map (layer_in bs) es)) (add-one i) ∙ ap (λ (n : ℕ). layer_in bs (get_or es i d) ∷ drop n (layer_in bs e ∷ map (layer_in bs) es)) (sym (add-one (suc i)))
 
--- ---- one that is taken out
+-- ---- one that is removed
 
 module _ {A B : Type 0} (f : A → B) where
-  -- those before it, and those behind it
+  -- those before it, and those after it
   before_taken : (xs : List A) (i : ℕ) → i < length xs → take i (map f (take i xs ++ drop (suc i) xs)) ≡ take i (map f xs)
   before_taken [] i h = absurd (omega arith)
   before_taken (x ∷ xs) zero h = refl
@@ -207,7 +207,7 @@ next_one [] (suc i) x ys e = absurd (cc)
 next_one (y ∷ xs) zero x ys e = cc
 next_one {A = A} (y ∷ xs) (suc i) x ys e = ap (λ (zs : List A). y ∷ zs) (next_one xs i x ys e)
 
--- layers below which one is put that does not touch the one that comes
+-- layers below which one is inserted that does not touch the next one
 pub applied_past : (ps : List Overlay) (i : ℕ) (p : Overlay) (rest : Option (List ℕ) → Option (List ℕ)) (old : Option (List ℕ)) → drop i ps ≡ p ∷ drop (i + 1) ps
     → with_layers (take (i + 1) ps) (rest old) ≡ with_layers (take i ps) (overlaid p.off p.bytes (rest old))
 applied_past ps i p rest old e =
@@ -231,7 +231,7 @@ cut_follows self l first n k ps layers empty cuts h old =
     ∙ sym (shortened_applied n ps (cut_by self.cut old))
     ∙ ap (λ (qs : List Overlay). shortened n (with_layers qs (cut_by self.cut old))) layers
 
--- layers that lie inside the block are cut by its end alone
+-- layers within the block are cut only by its end
 pub clipped_inside : (bs : List ℕ) (es : List Extent) → AreInside bs es → map (clipped 4096) (map (layer_in bs) es) ≡ map (layer_in bs) es
 clipped_inside bs [] inside = refl
 clipped_inside bs (e ∷ es) inside =

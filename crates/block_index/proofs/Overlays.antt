@@ -1,4 +1,4 @@
--- Bytes laid over a block, once and twice.
+-- Bytes that overwrite those of a block, once and twice.
 use Rattle.std.proofs.Common.{◌≡◌, true, false, leb, ℕ, [], ◌+◌, ◌-◌, ◌<◌, ◌≤◌, min, max, List, ◌++◌, length, take, drop, get_or, sym, ap, refl, ◌∙◌, ◌⊎◌, inl, inr, ⊎_elim, arith, length-append, length-take, length-drop}
 use Rattle.std.proofs.lemmas.List.{ext_get_or, take_all, take-append-le, drop_min, get_or_append_left, get_or-append_right, get_or-take, get_or-drop, get_or_past}
 use Rattle.std.proofs.lemmas.Bool.{cases_lt, leb-true, leb-false, and_parts, and_cases}
@@ -12,7 +12,7 @@ use Rattle.block_index.specs.Patches.{is_touching, joined}
 pub touching_meets : (a : ℕ) (v : List ℕ) (c : ℕ) (w : List ℕ) → is_touching a v c w ≡ true → (c ≤ a + length v) × (a ≤ c + length w)
 touching_meets a v c w h = let p : (leb c (a + length v) ≡ true) × (leb a (c + length w) ≡ true) = and_parts _ _ h in (leb-true c (a + length v) p.0, leb-true a (c + length w) p.1)
 
--- and what does not lies apart
+-- layers that do not touch are apart
 pub touching_not : (a : ℕ) (v : List ℕ) (c : ℕ) (w : List ℕ) → is_touching a v c w ≡ false → (a + length v < c) ⊎ (c + length w < a)
 touching_not a v c w h = ⊎_elim
     (λ (g : leb c (a + length v) ≡ false). inl (leb-false c (a + length v) g))
@@ -94,7 +94,7 @@ over_twice b a v c w h g =
     (cases_lt x c))
     (cases_lt x (min a c)))
 
--- a patch that covers an earlier one stands alone
+-- a patch that covers an earlier one replaces it
 pub over_covers : (b : List ℕ) (a : ℕ) (v : List ℕ) (c : ℕ) (w : List ℕ) → c ≤ a → a + length v ≤ c + length w → over b c w ≡ over (over b a v) c w
 over_covers b a v c w h g =
     let r : length (over b c w) ≡ max (length b) (c + length w) = length-over b c w in
@@ -108,7 +108,7 @@ over_covers b a v c w h g =
     (cases_lt x (c + length w)))
     (cases_lt x c))
 
--- bytes that were written in the place of others are laid over them
+-- bytes that were written in place of others overwrite them
 pub put_over : (xs b : List ℕ) (off : ℕ) (w : List ℕ) (k : ℕ) → k ≡ length w → off + length w ≤ length xs → length xs ≡ max (length b) (off + length w) → ((x : ℕ) → (x < off) ⊎ (off + length w ≤ x) → get_or xs x 0 ≡ get_or b x 0)
     → take off xs ++ (w ++ post_of off k xs) ≡ over b off w
 put_over xs b off w k e fits long was =

@@ -48,7 +48,7 @@ read_none b off n len end items e f g h =
     let d : length (drop off b) ≡ length b - off = length-drop off b in
     ext_get_or 0 items (take n (drop off b)) (omega arith) (λ x y. absurd (omega arith))
 
--- a byte of what was put behind the others
+-- a byte of what was appended to the others
 pub appended_at : (old v : List ℕ) (from to stop begin whole : ℕ) (ext new : List ℕ) → from ≤ to → stop ≡ min to (length v) → begin ≡ min from stop → whole ≡ length old + (to - from)
     → ext ≡ old ++ take (stop - begin) (drop begin v) → new ≡ sized ext whole → (x : ℕ) → length old ≤ x → x < length new → get_or new x 0 ≡ get_or v (from + (x - length old)) 0
 appended_at old v from to stop begin whole ext new h es eb ew ee en x g f =
@@ -70,6 +70,6 @@ appended_at old v from to stop begin whole ext new h es eb ew ee en x g f =
 pub counted_to : (off end stop index steps : ℕ) → off < end → end ≡ stop → index ≡ (end - 1) / 4096 + 1 → steps + off / 4096 ≡ index → steps ≡ block_count off stop
 counted_to off end stop index steps g e i s = (let here : steps ≡ ((end - 1) / 4096 + 1) - off / 4096 = omega (arith, s, i) in here ∙ sym (ap (λ b. cond b (((end - 1) / 4096 + 1) - off / 4096) 0) (lt-ltb off end g))) ∙ ap (block_count off) e
 
--- none where there are no bytes
+-- none if there are no bytes
 pub no_blocks : (off stop : ℕ) → stop ≤ off → block_count off stop ≡ 0
 no_blocks off stop h = ap (λ b. cond b (((stop - 1) / 4096 + 1) - off / 4096) 0) (le-ltb off stop h)

@@ -1,4 +1,4 @@
--- The bytes of a block, wherever they lie.
+-- The bytes of a block, wherever they are stored.
 use Rattle.std.specs.Prelude.{ℕ, List}
 use Rattle.std.specs.Arc.{arc_value}
 use Rattle.block_index.specs.declared.block_bytes.BlockBytes.{BlockBytes}

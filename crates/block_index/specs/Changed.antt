@@ -25,11 +25,11 @@ after msgs d k = effects means msgs k (d k)
 
 -- ---- a write
 
--- the patch of block i of p in a write of w at off: the slice of w that lies in the block
+-- the patch of block i of p in a write of w at off: the slice of w in the block
 abbrev pub patch_of : Path → ℕ → List ℕ → ℕ → Message
 patch_of p off w i = Edit (block_key p i) (Patch (record { off = off - 4096 * i; bytes = piece off w i }))
 
--- how many blocks a write of w at off touches, where w is not empty
+-- how many blocks a write of w at off touches, if w is not empty
 abbrev pub touched : ℕ → List ℕ → ℕ
 touched off w = (off + length w - 1) / 4096 + 1 - off / 4096
 
@@ -37,17 +37,17 @@ touched off w = (off + length w - 1) / 4096 + 1 - off / 4096
 abbrev pub patches : Path → ℕ → List ℕ → Messages
 patches p off w = map (patch_of p off w) (range_with_len (off / 4096) (touched off w))
 
--- whatever the blocks, the messages change block i of p by change i, and nothing else
+-- whatever the blocks are, the messages change block i of p by change i, and nothing else
 abbrev pub Changes : (ℕ → Option (List ℕ) → Option (List ℕ)) → Path → Messages → Type 0
 Changes apply_in_place p msgs = (d : Blocks) → BlocksChange apply_in_place p d (after msgs d)
 
 -- ---- a cut
 
--- the messages of a cut to n bytes: what is left of the block of the new end, if the end lies inside it, and a
--- range-delete of all later blocks
+-- the messages of a cut to n bytes: the cut of the block of the new end, if the end is inside it, and a range-delete of
+-- all later blocks
 abbrev pub cuts : Path → ℕ → Messages
 cuts p n = if nat_eq (n % 4096) 0 then DelRange (blocks_from p (n / 4096)) ∷ [] else Edit (block_key p (n / 4096)) (CutTo (n % 4096)) ∷ DelRange (blocks_from p (n / 4096 + 1)) ∷ []
 
--- where the blocks are those of a tree, the messages cut the blocks of p to n bytes, and change nothing else
+-- if the blocks are those of a tree, the messages cut the blocks of p to n bytes, and change nothing else
 abbrev pub CutsWhereMeant : ℕ → Path → Messages → Type 0
 CutsWhereMeant n p msgs = (t : Tree) (d : Blocks) → BlocksMean t d → BlocksChange (cut_block n) p d (after msgs d)

@@ -1,4 +1,4 @@
--- What layers are: a cut of a block, if there is one, and then bytes that are laid over it at several places.
+-- Layers: a cut of a block, if there is one, and then bytes that overwrite those of the block at several offsets.
 use Rattle.std.specs.Prelude.{◌≡◌, ℕ, ◌+◌, ◌-◌, ◌≤◌, ⊤, List, [], ◌∷◌, length, take, drop, min, Option, None, Some}
 use Rattle.block_index.specs.Patches.{Overlay}
 use Rattle.block_index.specs.declared.layer_data.Extent.{Extent}
@@ -9,12 +9,12 @@ pub record Layered : Type 0 where
   pub cut : Option ℕ
   pub layers : List Overlay
 
--- what layers make of a block, or of its absence: the newest is laid over all others
+-- the effect of layers on a block, or on its absence: the newest overwrites all others
 abbrev pub with_layers : List Overlay → Option (List ℕ) → Option (List ℕ)
 with_layers [] old = old
 with_layers (p ∷ ps) old = overlaid p.off p.bytes (with_layers ps old)
 
--- what is left of a block behind a cut, if there is one
+-- a block after a cut, if there is one
 abbrev pub cut_by : Option ℕ → Option (List ℕ) → Option (List ℕ)
 cut_by None old = old
 cut_by (Some n) old = shortened n old
@@ -27,17 +27,17 @@ layered l old = with_layers l.layers (cut_by l.cut old)
 abbrev pub Follows : (Option (List ℕ) → Option (List ℕ)) → Layered → Layered → Type 0
 Follows later l new = (old : Option (List ℕ)) → layered new old ≡ later (layered l old)
 
--- the same cut and layers, and bytes that are laid over the block after them
+-- the same cut and layers, and bytes that overwrite the block after them
 abbrev pub IsApplied : ℕ → List ℕ → Layered → Layered → Type 0
 IsApplied off new before after = (after.cut ≡ before.cut) × ((block : Option (List ℕ)) → with_layers after.layers block ≡ overlaid off new (with_layers before.layers block))
 
--- ---- where their bytes lie
+-- ---- where their bytes are
 
--- the layer that an extent tells, among the bytes of all
+-- the layer of an extent, among the bytes of all
 abbrev pub layer_in : List ℕ → Extent → Overlay
 layer_in bytes e = record { off = e.off; bytes = take e.len (drop e.start bytes) }
 
--- all bytes are there, and lie in the block
+-- all bytes exist, and are in the block
 abbrev pub AreInside : List ℕ → List Extent → Type 0
 AreInside bytes [] = ⊤
 AreInside bytes (e ∷ es) = (e.start + e.len ≤ length bytes) × (e.off + e.len ≤ 4096) × AreInside bytes es

@@ -1,4 +1,4 @@
--- The blocks that an index means.
+-- The blocks to which an index abstracts.
 use Rattle.node.specs.Meaning.{value}
 use Rattle.reference.specs.Indexes.{Blocks}
 use Rattle.block_index.specs.declared.index.BlockIndex.{BlockIndex}

@@ -1,7 +1,7 @@
--- What a patch is: bytes, and where in a block they begin.
+-- Patches: bytes, and their offset in a block.
 use Rattle.std.specs.Prelude.{ℕ, ◌+◌, ◌-◌, List, ◌++◌, length, take, drop, Bool, ◌&&◌, nat_le}
 
--- bytes to be laid over a block from the offset on
+-- bytes that overwrite those of a block from the offset on
 pub record Overlay : Type 0 where
   pub off : ℕ
   pub bytes : List ℕ
@@ -10,6 +10,6 @@ pub record Overlay : Type 0 where
 abbrev pub joined : ℕ → List ℕ → ℕ → List ℕ → List ℕ
 joined a v c w = take (c - a) v ++ w ++ drop (c + length w - a) v
 
--- v from a on and w from c on lie over one another or side by side
+-- v from a on and w from c on overlap or are adjacent
 abbrev pub is_touching : ℕ → List ℕ → ℕ → List ℕ → Bool
 is_touching a v c w = nat_le c (a + length v) && nat_le a (c + length w)

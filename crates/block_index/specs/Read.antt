@@ -1,4 +1,4 @@
--- How many blocks a read asks for.
+-- The number of blocks that a read needs.
 use Rattle.std.specs.Prelude.{ℕ, ◌+◌, ◌-◌, ◌/◌, if◌then◌else◌, nat_lt}
 
 -- how many blocks of 4,096 bytes hold bytes from `off` up to and without `end`

@@ -1,4 +1,4 @@
--- What updates of a block mean.
+-- The effects of updates of a block.
 use Rattle.std.specs.Prelude.{ℕ, List, Option}
 use Rattle.reference.specs.Indexes.{overlaid, shortened}
 use Rattle.block_index.specs.Layers.{layered}

@@ -1,4 +1,4 @@
-//! Blocks of a file.
+//! Blocks of a file. Invariant: a block has at most 4,096 bytes; the bytes after them, up to the file's end, are zeros.
 ghost use Rattle.std.specs.Prelude.{◌≡◌, ◌≤◌, length, take, Some, None, if◌then◌else◌, IfOk, IfSome, OnOk, OnErr};
 ghost use Rattle.std.specs.Option.{option_map};
 ghost use Rattle.block_index.specs.Layers.{layered};

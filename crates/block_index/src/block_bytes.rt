@@ -1,4 +1,4 @@
-//! Where the bytes of a block are stored.
+//! The storage of a block's bytes.
 ghost use Rattle.std.specs.Prelude.{◌≡◌, ◌+◌, ◌≤◌, length, take, if◌then◌else◌, IfOk, OnOk, OnErr};
 ghost use Rattle.block_index.specs.BlockBytes.{bytes_of};
 ghost use Rattle.reference.specs.Tree.{over};

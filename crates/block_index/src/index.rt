@@ -1,4 +1,5 @@
-//! The block index, its messages and its reads.
+//! The type `BlockIndex`: the messages of writes and truncations, and reads of a file's bytes. A block that is absent
+//! reads as zeros.
 ghost use Rattle.std.specs.Prelude.{◌≡◌, ◌≢◌, ◌+◌, ◌-◌, ◌*◌, ◌≤◌, ◌<◌, ◌^◌, [], IfOk, OnOk, IsTrue, Option, Some, None, List, ℕ, length, take, drop, min, slice_index};
 ghost use Rattle.block_index.specs.Changed.{Changes, CutsWhereMeant, cuts, patch_of, patches};
 ghost use Rattle.block_index.specs.Read.{block_count};

@@ -1,4 +1,7 @@
 //! Stacks of layers: several updates of one block in one.
+//!
+//! Invariant: the bytes of every layer are within the shared byte list and end within the block, and all of them
+//! together have at most 4,096 bytes.
 ghost use Rattle.std.specs.Prelude.{◌≡◌, ◌+◌, ◌-◌, ◌≤◌, ◌++◌, [], ◌∷◌, List, ℕ, Option, Some, None, true, false, length, map, drop, ◌<◌, if◌then◌else◌, IfOk, IfSome, OnErr, OnOk};
 ghost use Rattle.block_index.specs.Layers.{AreInside, Follows, IsApplied, Layered, clipped, cut_by, with_layers, layer_in, layered};
 ghost use Rattle.block_index.specs.Patches.{Overlay};
@@ -14,7 +17,7 @@ use std::marker::Model;
 /// The maximum number of layers.
 const MOST: usize = 128;
 
-/// Where the bytes of a layer begin in the block, where they begin among the bytes of all layers, and how many they are.
+/// The offset of a layer in the block, the position of its bytes among those of all layers, and their number.
 #[derive(Clone, Copy)]
 pub struct Extent {
     pub(crate) off: u16,
@@ -303,7 +306,7 @@ fn run_of(bytes: &[u8], extent: Extent) -> &[u8]
     &bytes[start..start + extent.len as usize]
 }
 
-/// A layer: where in the block it begins, and its bytes.
+/// A layer: its offset in the block, and its bytes.
 fn layer_at<'a>(extents: &[Extent], bytes: &'a [u8], i: usize) -> (usize, &'a [u8])
     requires inside { AreInside bytes.now extents.now }
     requires there { i < length extents.now }

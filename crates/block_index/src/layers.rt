@@ -1,4 +1,4 @@
-//! Layers: several updates of one block as one, shared.
+//! Layers: several updates of one block as one. They are shared, so a copy is another reference.
 ghost use Rattle.std.specs.Prelude.{◌≡◌, IfOk, OnErr, OnOk};
 ghost use Rattle.block_index.specs.Layers.{IsApplied};
 

@@ -1,7 +1,7 @@
 //! The bytes of files: a buffered tree that has, at the key of each block, at most 4,096 bytes of a file.
 //!
-//! A write is one patch for each block that it overlaps, whatever the file's size, and a cut is at most one shorter block and one
-//! range-delete. Contracts speak of the blocks that the index means: what messages make of them, block by block, and which bytes
+//! A write is one patch for each block that it overlaps, whatever the file's size, and a truncation is at most one shorter block
+//! and one range-delete. The index abstracts to blocks: contracts state the effect of messages on each of them, and which bytes
 //! of the file a read returns.
 #![tactic(auto)]
 

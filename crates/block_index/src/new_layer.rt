@@ -1,4 +1,4 @@
-//! A new layer, which absorbs those that it touches.
+//! A new layer, which absorbs those that it touches. Invariant: it ends within the 4,096 bytes of the block.
 ghost use Rattle.std.specs.Prelude.{◌≡◌, ◌+◌, ◌≤◌, List, ℕ, Option, true, false, length, IfOk};
 ghost use Rattle.reference.specs.Indexes.{overlaid};
 
@@ -36,7 +36,7 @@ impl NewLayer {
         Ok(NewLayer { off, bytes })
     }
 
-    /// Where in the block it begins.
+    /// Its offset in the block.
     pub fn off(&self) -> usize
         ensures value { result ≡ self.now.off }
         ensures fits { result + length self.now.bytes ≤ 4096 }

@@ -1,4 +1,4 @@
-//! Patches: bytes that overwrite those of a block.
+//! Patches: bytes that overwrite those of a block. Invariant: they end within the 4,096 bytes of the block.
 ghost use Rattle.std.specs.Prelude.{◌≡◌, ◌+◌, ◌≤◌, ◌-◌, length, min, IfOk, IfSome, Option, List, ℕ};
 ghost use Rattle.block_index.specs.Patches.{is_touching, joined};
 ghost use Rattle.reference.specs.Indexes.{overlaid};
@@ -42,7 +42,7 @@ impl Patch {
         Patch { off, bytes }
     }
 
-    /// Where in the block its bytes begin.
+    /// The offset of its bytes in the block.
     pub fn off(&self) -> usize
         ensures value { result ≡ self.now.off }
         ensures fits { result + length self.now.bytes ≤ 4096 }

@@ -1,4 +1,5 @@
-//! Updates of one block of a file.
+//! Updates of one block of a file: a patch, a cut, or layers of several. Applying joined updates is the same as
+//! applying them one after the other.
 ghost use Rattle.std.specs.Prelude.{◌≡◌, List, ℕ, Option, IfOk};
 ghost use Rattle.block_index.specs.Layers.{Follows, layered};
 ghost use Rattle.block_index.specs.Updates.{means as meant};

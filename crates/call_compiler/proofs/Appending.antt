@@ -1,4 +1,4 @@
--- What a batch is for: appended to the indexes, it makes them mean the tree after the call. And what indexes begin with.
+-- Appending a batch: the indexes then abstract to the tree after the call. Also the initial indexes.
 use Rattle.std.proofs.Common.{◌≡◌, ℕ, List, [], ◌∷◌, refl, ◌∙◌, sym, None}
 use Rattle.block_index.specs.Means.{blocks}
 use Rattle.block_index.specs.declared.index.BlockIndex.{BlockIndex}
@@ -17,14 +17,14 @@ use Rattle.call_compiler.specs.declared.indexes.Indexes.{Indexes}
 use Rattle.call_compiler.specs.Compiled.{Messages, touches, metadata_after, blocks_after, MeanTree}
 use Rattle.call_compiler.specs.Laws.{HaveTaken}
 
--- blocks that agree at each key mean the same
+-- blocks with the same value at each key are those of the same tree
 pub blocks_alike : (t : Tree) (d e : Blocks) → ((k : Key) → e k ≡ d k) → BlocksMean t d → BlocksMean t e
 blocks_alike t d e alike old = record {
   blocks = λ p b u f. hold_alike (λ i. d (block_key p i)) (λ i. e (block_key p i)) b (λ i li. sym (alike (block_key p i))) (old.blocks p b u f);
   only_blocks = λ k v f. old.only_blocks k v (sym (alike k) ∙ f);
 }
 
--- the indexes to which the messages were appended mean the tree after the call
+-- the indexes to which the messages were appended abstract to the tree after the call
 pub meant_after : (t : Tree) (old new : Indexes) (msgs : Messages) → IndexesMean t (metadata_after msgs (metadata old.meta)) (blocks_after msgs (blocks old.block)) → HaveTaken msgs old new → MeanTree new t
 meant_after t old new msgs means taken = record {
   tree = means.tree;
@@ -32,7 +32,7 @@ meant_after t old new msgs means taken = record {
   blocks = blocks_alike t (blocks_after msgs (blocks old.block)) (blocks new.block) taken.block.value_after means.blocks;
 }
 
--- an index without blocks beside that of the empty root directory
+-- an index without blocks, with the metadata of the empty root directory
 pub empty_meant : (m : MetaIndex) (d : BlockIndex) → IsMeantBy (Dir 0 nothing) m → ((k : Key) → blocks d k ≡ None) → MeanTree (record { meta = m; block = d }) (Dir 0 nothing)
 empty_meant m d means none = record {
   tree = means.tree;
@@ -40,7 +40,7 @@ empty_meant m d means none = record {
   blocks = blocks_alike (Dir 0 nothing) (λ k. None) (blocks d) none fresh_law.blocks;
 }
 
--- messages that set moments set them at each of the paths
+-- messages that set mtimes set them at each of the paths
 pub touches_set : (at : ℕ) (ps : List Path) (f : Metadata) (k : Key) → effects meta_means (touches at ps) k (f k) ≡ touch_at at ps f k
 touches_set at [] f k = refl
 touches_set at (p ∷ ps) f k = touches_set at ps (edit_at (enc p) (touch at) f) k

@@ -1,4 +1,4 @@
--- The keys of a path's blocks stand in the order of their numbers.
+-- The keys of a path's blocks are in the order of their numbers.
 use Rattle.std.proofs.Common.{◌≡◌, ℕ, ◌^◌, ◌<◌, ◌≤◌, ◌++◌, ◌∷◌, [], true, refl, sym, subst, arith, Some}
 use Rattle.std.proofs.lemmas.Bool.{and_from, and_parts, false_from_ne_true}
 use Rattle.message.specs.Ranges.{before, reaches}
@@ -16,11 +16,11 @@ module _ (p : Path) where
   in_range_from : (a i : ℕ) → a < 2 ^ 32 → i < 2 ^ 32 → a ≤ i → (reaches (block_key p a) (block_key p i) ≡ true) × (is_below (block_key p i) (Some (enc p ++ 1 ∷ [])) ≡ true)
   in_range_from a i ha hi h = and_parts _ _ (subst (λ (r : KeyRange). is_in r (block_key p i) ≡ true) (blocks_range p a) (block_in_blocks_from p p a i ha hi (refl, h)))
 
-  -- a block's key stands at that of no later block or behind it
+  -- a block's key is before those of all later blocks
   pub block_reaches : (a i : ℕ) → a < 2 ^ 32 → i < 2 ^ 32 → a ≤ i → reaches (block_key p a) (block_key p i) ≡ true
   block_reaches a i ha hi h = (in_range_from a i ha hi h).0
 
-  -- and before the end of all of the path's
+  -- and before the end of the path's range
   pub block_below : (i : ℕ) → i < 2 ^ 32 → is_below (block_key p i) (Some (enc p ++ 1 ∷ [])) ≡ true
   block_below i hi = (in_range_from i i hi hi (omega arith)).1
 

@@ -1,4 +1,4 @@
--- From the reply of the table of calls, and what the messages mean, to what a call is compiled to.
+-- From the reply of the table of calls, and the tree after the messages, to what a call is compiled to.
 use Rattle.std.proofs.Common.{◌≡◌, ℕ, List, refl, sym, ap, ◌∙◌, subst, arith, inl}
 use Rattle.std.specs.Prelude.{Result, Ok, Err, IfOk}
 use Rattle.block_index.specs.Means.{blocks}
@@ -24,7 +24,7 @@ pub if_ok_both : {X Y : Type 0} (r : Result X Y) (P Q R : X → Type 0) → ((x 
 if_ok_both (Ok x) P Q R f p q = f x p q
 if_ok_both (Err e) P Q R f p q = q
 
--- the metadata half of what both indexes mean
+-- the metadata of the indexes of a tree
 pub meta_meant : (i : Indexes) (t : Tree) → MeanTree i t → IsMeantBy t i.meta
 meta_meant i t means = record { tree = means.tree; meta = means.meta }
 
@@ -42,7 +42,7 @@ nothing_sent i (Read p off n) at = refl
 nothing_sent i (AskStat p) at = refl
 nothing_sent i (Readdir p) at = refl
 
--- the indexes mean the tree t after messages
+-- after the messages the indexes abstract to t
 abbrev pub After : Indexes → Messages → Tree → Type 0
 After i msgs t = IndexesMean t (metadata_after msgs (metadata i.meta)) (blocks_after msgs (blocks i.block))
 
@@ -56,11 +56,11 @@ module _ (i : Indexes) (call : Call) (at : ℕ) (reply : Reply) (msgs : Messages
     sends = subst (λ (x : Messages). Sends i call at x) (sym none) (nothing_sent i call at);
   }
 
-  -- a call that is refused
+  -- a call that fails
   pub compiled_refused : (e : Errno) → ((t : Tree) → MeanTree i t → (does at t call).1 ≡ Fault e) → reply ≡ Fault e → msgs ≡ no_messages → IsCompiled i call at reply msgs
   compiled_refused e refuses r none = compiled_kept (λ t means. r ∙ sym (refuses t means)) (λ t means. fault_law at t call e (refuses t means)) none
 
-  -- a call that is done
+  -- a call that succeeds
   pub compiled_done : (answer : Reply) (sent : Messages) → ((e : Errno) → answer ≡ Fault e → ⊥) → ((t : Tree) → MeanTree i t → (does at t call).1 ≡ answer) → ((t : Tree) → MeanTree i t → ◌≡◌ {A = Outcome} (does at t call) ((does at t call).0, answer) → After i sent (does at t call).0) → Sends i call at sent → reply ≡ answer → msgs ≡ sent → IsCompiled i call at reply msgs
   compiled_done answer sent other replies makes few r m = record {
     reply = λ t means. r ∙ sym (replies t means);

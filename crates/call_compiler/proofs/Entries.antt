@@ -1,4 +1,4 @@
--- The calls that make an entry or take one out: `mkdir`, `create`, `rmdir` and `rmtree`.
+-- The calls that create or remove an entry of a directory: `mkdir`, `create`, `rmdir` and `rmtree`.
 use Rattle.std.proofs.Common.{◌≡◌, ℕ, ◌≤◌, [], ◌∷◌, Bool, true, false, cond, refl, subst, sym, ◌∙◌, arith, Option, Some, None}
 use Rattle.std.specs.Prelude.{Ok, MatchOption}
 use Rattle.std.proofs.lemmas.Bool.{eq-eqb}
@@ -27,18 +27,18 @@ use Rattle.call_compiler.proofs.Compiling.{After, meta_meant, compiled_refused, 
 use Rattle.call_compiler.proofs.Idle.{after_alike, touched_alike}
 use Rattle.call_compiler.proofs.Faults.{mkdir_refused, mkdir_done, create_refused, create_done, rmdir_refused, rmdir_done, rmtree_refused, rmtree_done}
 
--- the directory that was found is the path's, and has the moment that is told
+-- the directory is the path's parent, and has the mtime that was found, if it was looked up
 abbrev pub IsParent : Indexes → Path → ParentDir → Type 0
 IsParent i p d = (d.path ≡ parent p) × ((t : Tree) → IsMeantBy t i.meta → IsDated (entry_at t (parent p)) d)
 
 module _ (i : Indexes) (p : Path) (at : ℕ) (reply : Reply) (msgs : Messages) where
-  -- a new entry and the touches that are needed do what the entry and a touch do
+  -- a new entry and the needed touches have the effect of the entry and a touch
   made_alike : (v : Meta) (d : ParentDir) → IsParent i p d → IsPath p → touch at (Some v) ≡ Some v → (t t' : Tree) → MeanTree i t → After i (record { meta = Put (enc p) v ∷ touches at (parent p ∷ []); block = [] }) t' → After i (record { meta = Put (enc p) v ∷ needed_touches at d; block = [] }) t'
   made_alike v d of is_path dated t t' means = after_alike i (record { meta = Put (enc p) v ∷ touches at (parent p ∷ []); block = [] }) (record { meta = Put (enc p) v ∷ needed_touches at d; block = [] }) t'
       (touched_alike at (enc p) p v d i t is_path means of.0 (of.1 t (meta_meant i t means)) dated)
       (λ k. refl)
 
-  -- and are no more
+  -- and they are no more messages
   some_made : (v : Meta) (d : ParentDir) → count (record { meta = Put (enc p) v ∷ needed_touches at d; block = [] }) ≤ 2
   some_made v d = elim (has_moment at d) as (λ b. count (record { meta = Put (enc p) v ∷ cond b [] (touches at (d.path ∷ [])); block = [] }) ≤ 2) [
     | true ↦ omega arith
@@ -54,7 +54,7 @@ module _ (i : Indexes) (p : Path) (at : ℕ) (reply : Reply) (msgs : Messages) w
   few_made : (v : Meta) (d : ParentDir) → IsParent i p d → (count (record { meta = Put (enc p) v ∷ needed_touches at d; block = [] }) ≤ 2) × SendsNew i p at (record { meta = Put (enc p) v ∷ needed_touches at d; block = [] })
   few_made v d of = (some_made v d, λ t means dated. one_made v d.path d.modified (entry_at t (parent p)) (of.1 t (meta_meant i t means)) dated)
 
-  -- the first fault is the same in every tree that the indexes mean
+  -- the first fault is the same in every tree to which the indexes abstract
   module _ (fault : Option Errno) (first : (t : Tree) → IsMeantBy t i.meta → fault ≡ first_fault (faults_of_new t p)) where
     pub mkdir_is_refused : (e : Errno) → fault ≡ Some e → reply ≡ Fault e → msgs ≡ no_messages → IsCompiled i (Mkdir p) at reply msgs
     mkdir_is_refused e is = compiled_refused i (Mkdir p) at reply msgs e (λ t means. mkdir_refused at t p e (sym (first t (meta_meant i t means)) ∙ is))

@@ -13,7 +13,7 @@ use Rattle.reference.proofs.Touching.{reply_is}
 
 -- ---- lists of faults
 
--- the first fault is answered
+-- the reply is the first fault
 refused : (t : Tree) (faults : List (Option Errno)) (o : Outcome) (e : Errno) → first_fault faults ≡ Some e → (unless t faults o).1 ≡ Fault e
 refused t faults o e h = ap (λ (x : Outcome). x.1) (unless_fault t faults o e h)
 
@@ -23,17 +23,17 @@ first_of [] more e h = absurd (cc)
 first_of (None ∷ faults) more e h = first_of faults more e h
 first_of (Some d ∷ faults) more e h = h
 
--- where a file stands the others count
+-- if there is a file, the other faults count
 of_file : (here : At) (date : ℕ) (b : List ℕ) (e : Errno) (more : List (Option Errno)) → here ≡ Found (File date b) → first_fault (faults_of_file here e ++ more) ≡ first_fault more
 of_file here date b e more is = ap (λ (a : At). first_fault (faults_of_file a e ++ more)) is
 
--- and where none of the list comes, those behind it
+-- and if there is none in the list, those after it
 first_behind : (faults more : List (Option Errno)) → first_fault faults ≡ None → first_fault (faults ++ more) ≡ first_fault more
 first_behind [] more h = refl
 first_behind (None ∷ faults) more h = first_behind faults more h
 first_behind (Some d ∷ faults) more h = absurd (cc)
 
--- one fault more, that comes or does not
+-- a last fault, if it applies
 last_comes : (b : Bool) (e : Errno) → b ≡ true → first_fault (when b e ∷ []) ≡ Some e
 last_comes b e h = ap (λ (x : Bool). first_fault (when x e ∷ [])) h
 
@@ -42,7 +42,7 @@ last_stays_away b e h = ap (λ (x : Bool). first_fault (when x e ∷ [])) h
 
 -- ---- `mkdir`, `create`, `rmdir`, `rmtree`
 
--- the fault of the parent comes first, since the root has none
+-- the fault of the parent is first, since the root has none
 pub new_refused : (t : Tree) (p : Path) (e : Errno) → parent_fault t p ≡ Some e → Some e ≡ first_fault (faults_of_new t p)
 new_refused t [] e h = absurd (cc)
 new_refused t (n ∷ p) e h = sym (ap (λ (x : Option Errno). first_fault (x ∷ when (is_found (entry_at t (n ∷ p))) EEXIST ∷ [])) h)
@@ -166,15 +166,15 @@ module _ (at : ℕ) (t : Tree) (p : Path) (off n : ℕ) (date : ℕ) (b : List �
 -- ---- `rename`
 
 module _ (at : ℕ) (t : Tree) (o n : Path) where
-  -- a text gets too long
+  -- a text becomes too long
   abbrev pub too_long : Bool
   too_long = nat_lt 1023 (text_len n + deepest_at (entry_at t o))
 
-  -- what comes of a rename between two paths
+  -- the outcome of a rename between two paths
   abbrev to_new : Outcome
   to_new = unless t (faults_of_rename t o n) (placed (without t o) n (entry_at t o), Done)
 
-  -- the reply is that of the table but for moments
+  -- the reply is that of the table, which does not depend on mtimes
   replied : (does at t (Rename o n)).1 ≡ (renamed t o n).1
   unfolding changed
   replied = reply_is at t (Rename o n)

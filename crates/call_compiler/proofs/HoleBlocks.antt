@@ -1,4 +1,4 @@
--- What the messages of a hole make of the blocks: those of a write of zeros, as far as bytes can tell.
+-- The effect of the messages of a hole on the blocks: that of a write of zeros, except for which blocks are stored.
 use Rattle.std.proofs.Common.{◌≡◌, ℕ, ◌+◌, ◌-◌, ◌*◌, ◌/◌, ◌^◌, ◌<◌, ◌≤◌, max, List, [], ◌∷◌, ◌++◌, length, true, false, Bool, cond, refl, sym, ap, ◌∙◌, subst, ◌⊎◌, inl, inr, ⊎_elim, Option, Some, None, arith}
 use Rattle.std.specs.Prelude.{nat_le, nat_lt, ◌&&◌}
 use Rattle.std.proofs.lemmas.Bool.{and_from, and_left, and_right, and_parts, cases_lt, false_from_ne_true, le-ltb, lt-ltb, lt-leb, le-leb}
@@ -25,21 +25,21 @@ use Rattle.call_compiler.proofs.Zeroing.{zeros, length-zeroed, zeros_joined, zer
 abbrev Change : Type 0
 Change = ℕ → Option (List ℕ) → Option (List ℕ)
 
--- messages over these blocks make zeros of bytes a up to b of the file at p, and change nothing else
+-- after these messages bytes a up to b of the file at p are zeros, and nothing else changed
 pub record Zeroes (p : Path) (a b : ℕ) (d : Blocks) (ms : Messages) : Type 0 where
   pub change : ℕ → Option (List ℕ) → Option (List ℕ)
   pub changes : BlocksChange change p d (after ms d)
   pub holds : (bytes : List ℕ) → Hold (λ i. d (block_key p i)) bytes → b ≤ length bytes → Hold (λ i. change i (d (block_key p i))) (over bytes a (zeros (b - a)))
-  -- what is not stored before or behind those bytes stays so
+  -- a block outside those bytes that is not stored remains so
   pub stays : (i : ℕ) → i < most_blocks → (b ≤ 4096 * i) ⊎ (4096 * i + 4096 ≤ a) → d (block_key p i) ≡ None → after ms d (block_key p i) ≡ None
-  -- and what lies whole among them is stored no more
+  -- and a block that is entirely among them is no longer stored
   pub gone : (i : ℕ) → i < most_blocks → a ≤ 4096 * i → 4096 * i + 4096 ≤ b → after ms d (block_key p i) ≡ None
 
--- messages behind messages
+-- messages after messages
 joined : (ms ns : Messages) (d : Blocks) (k : Key) → after (ms ++ ns) d k ≡ after ns (after ms d) k
 joined ms ns d k = effects-append means ms ns k (d k)
 
--- zeros, and more behind them
+-- zeros, and more zeros after them
 module _ (p : Path) (a x b : ℕ) (d : Blocks) (ms ns : Messages) (low : a ≤ x) (high : x ≤ b) (first : Zeroes p a x d ms) (second : Zeroes p x b (after ms d) ns) where
   abbrev both_change : Change
   both_change i o = second.change i (first.change i o)
@@ -80,7 +80,7 @@ module _ (p : Path) (a x b : ℕ) (d : Blocks) (ms ns : Messages) (low : a ≤ x
 
 -- ---- no message
 
--- where no byte is meant, or the block in which all lie is not stored
+-- if there is no byte, or the block with all of them is not stored
 pub zeroes_nothing : (p : Path) (a b : ℕ) (d : Blocks) → a ≤ b → b < a + 4096 → b ≤ 4096 * (a / 4096) + 4096 → (b ≤ a) ⊎ (d (block_key p (a / 4096)) ≡ None) → Zeroes p a b d []
 zeroes_nothing p a b d order short block none = record {
   change = λ i o. o;
@@ -97,7 +97,7 @@ zeroes_nothing p a b d order short block none = record {
 
 -- ---- a patch
 
--- a write leaves a block that it does not reach
+-- a write does not change a block that it does not reach
 left : (off : ℕ) (w : List ℕ) (i : ℕ) (o : Option (List ℕ)) → (off + length w ≤ 4096 * i) ⊎ (4096 * i + 4096 ≤ off) → patched off w i o ≡ o
 left off w i o out = ap (λ (t : Bool). cond t (Some (over (held o) (off - 4096 * i) (piece off w i))) o) (away out)
   where
@@ -128,7 +128,7 @@ abbrev between : Path → ℕ → ℕ → KeyRange
 between p f l = record { lo = block_key p f; hi = Some (block_key p l) }
 
 module _ (p : Path) (is_path : IsPath p) where
-  -- the range holds the keys of those blocks, and of no others of the path
+  -- the range contains the keys of those blocks, and of no others of the path
   between_holds : (f l i : ℕ) → f < 2 ^ 32 → l < 2 ^ 32 → i < 2 ^ 32 → f ≤ i → i < l → is_in (between p f l) (block_key p i) ≡ true
   between_holds f l i hf hl hi u v = and_from _ _ (block_reaches p f i hf hi u) (block_before p is_path i l hi hl v)
 
@@ -247,7 +247,7 @@ module _ (p : Path) (is_path : IsPath p) (d : Blocks) (own : (k : Key) (v : List
           (λ (g : (i : ℕ) × (i < most_blocks) × (k ≡ block_key p i)). g)
           (head.changes.only k v e)))))
 
--- its messages are few
+-- the number of its messages
 one_applies : (d : Blocks) (p : Path) (a b : ℕ) (ms : Messages) → AppliesZeros d p a b ms → length ms ≤ 1
 one_applies d p a b ms (inl (none, what)) = let l : length ms ≡ 0 = ap length none in omega (arith, l)
 one_applies d p a b ms (inr (less, is)) = let l : length ms ≡ 1 = ap length is in omega (arith, l)

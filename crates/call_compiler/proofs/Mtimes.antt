@@ -1,4 +1,4 @@
--- What the setting of an mtime is compiled to, and the moment of the root after it.
+-- What setting an mtime is compiled to, and the mtime of the root after it.
 use Rattle.std.proofs.Common.{◌≡◌, ◌≤◌, ℕ, length, [], ◌∷◌, cond, refl, sym, ap, subst, ◌∙◌, arith, Option, None, Some}
 use Rattle.std.specs.Prelude.{◌&&◌}
 use Rattle.block_index.specs.Means.{blocks}
@@ -21,7 +21,7 @@ use Rattle.call_compiler.proofs.RootMoment.{touched_moment}
 abbrev outcome_of : Option Errno → ℕ → Tree → Path → Outcome
 outcome_of fault at t p = unless t (fault ∷ []) (touched at t p, Done)
 
--- only an mtime that is set at the root itself becomes the root's
+-- the root's mtime changes only if it is set at the root itself
 pub mtime_moment : (at : ℕ) (t : Tree) (p : Path) → moment (mtime_set at t p).0 ≡ cond (is_done (mtime_set at t p).1 && is_root p) at (moment t)
 mtime_moment at t p = by_fault (path_fault (entry_at t p))
   where

@@ -43,16 +43,16 @@ root_fault : (t : Tree) (e : Errno) → IsDirectory t → first_fault (faults_of
 root_fault (Dir date es) e is = refl
 root_fault (File date b) e is = absurd is
 
--- so no file stands there
+-- so it is not a file
 pub root_reported : (t : Tree) (p : Path) (e : Errno) (file : Result FoundFile Errno) → IsTree t → p ≡ [] → file ≡ Err e → TellsFile (entry_at t p) e file
 root_reported t p e file is root h =
     subst (λ (f : Result FoundFile Errno). TellsFile (entry_at t p) e f) (sym h) (ap (λ (q : Path). first_fault (faults_of_file (entry_at t q) e)) root ∙ root_fault t e is.root)
 
--- a file of a tree is short
+-- a file of a tree has at most 2^40 bytes
 pub short_there : (t : Tree) (p : Path) → IsTree t → IsShort (entry_at t p)
 short_there t p is date b e = (is.files p date b e).few
 
--- what `find_file` has told of every tree that the indexes mean
+-- what `find_file` returns, in every tree to which the indexes abstract
 abbrev pub Finds : Indexes → Path → Errno → Result FoundFile Errno → Type 0
 Finds i p e file = (t : Tree) → IsMeantBy t i.meta → TellsFile (entry_at t p) e file
 
@@ -60,7 +60,7 @@ Finds i p e file = (t : Tree) → IsMeantBy t i.meta → TellsFile (entry_at t p
 why : (i : Indexes) (p : Path) (e fault : Errno) (file : Result FoundFile Errno) → Finds i p e file → file ≡ Err fault → (t : Tree) → MeanTree i t → first_fault (faults_of_file (entry_at t p) e) ≡ Some fault
 why i p e fault file finds is t means = subst (λ (f : Result FoundFile Errno). TellsFile (entry_at t p) e f) is (finds t (meta_meant i t means))
 
--- a file of that length and moment
+-- a file with that length and mtime
 unfoldable FileOf : Tree → Path → FoundFile → Type 0
 FileOf t p f = (b : List ℕ) × (entry_at t p ≡ Found (File f.modified b)) × (length b ≡ f.len)
 
@@ -73,14 +73,14 @@ file_meta : (i : Indexes) (t : Tree) (p : Path) (f : FoundFile) → IsPath p →
 unfolding FileOf
 file_meta i t p f is_path means there = means.meta.paths p is_path ∙ ap (λ (a : At). meta_of (sighted a)) there.1 ∙ ap (λ (n : ℕ). Some (FileMeta n f.modified)) there.2
 
--- whether what stands there has a length and a moment
+-- whether the entry there has a length and an mtime
 has_there : (n at : ℕ) (here : At) → meta_has_grown n at (meta_of (sighted here)) ≡ has_grown_at n at here
 has_there n at (Found (Dir date es)) = refl
 has_there n at (Found (File date b)) = refl
 has_there n at Missing = refl
 has_there n at Blocked = refl
 
--- the metadata tell it
+-- its metadata say so
 pub growth_reported : (i : Indexes) (t : Tree) (p : Path) (n at : ℕ) → IsPath p → MeanTree i t → meta_has_grown n at (metadata i.meta (enc p)) ≡ has_grown_at n at (entry_at t p)
 growth_reported i t p n at is_path means = ap (meta_has_grown n at) (means.meta.paths p is_path) ∙ has_there n at (entry_at t p)
 
@@ -93,7 +93,7 @@ found_look t p date b is = ap seen is
 pub are_bytes : (w : List ℕ) → ((i : ℕ) → Fits w8 (get_or w i 0)) → AreBytes w
 are_bytes w fits = All-from_get_or (λ b. b < 256) w 0 (λ i h. let at : Fits w8 (get_or w i 0) = fits i in omega arith)
 
--- a list is empty where its length is 0
+-- a list is empty if its length is 0
 pub empty_is : (w : List ℕ) (empty : Bool) → empty ≡ (length w == 0) → is_empty w ≡ empty
 empty_is [] empty h = sym h
 empty_is (b ∷ w) empty h = sym (h ∙ ne_eqb (suc (length w)) 0 (λ e. cc))
@@ -115,7 +115,7 @@ module _ (i : Indexes) (p : Path) (off : ℕ) (w : List ℕ) (at : ℕ) (reply :
         (λ t means. let f : FileOf t p found = which i p EISDIR found file finds is t means in r ∙ sym (ap (λ (o : Outcome). o.1) (write_nothing at t p off w found.modified f.0 f.1 empty)))
         (λ t means. let f : FileOf t p found = which i p EISDIR found file finds is t means in ap (λ (o : Outcome). o.0) (write_nothing at t p off w found.modified f.0 f.1 empty))
 
-    -- the file has the length and the moment already
+    -- the file already has the length and the mtime
     abbrev pub has : Bool
     has = has_grown (off + length w) at found.len found.modified
 
@@ -151,7 +151,7 @@ module _ (i : Indexes) (p : Path) (n : ℕ) (at : ℕ) (reply : Reply) (msgs : M
     truncate_is_too_large large = compiled_refused i (Truncate p n) at reply msgs EFBIG
         (λ t means. let f : FileOf t p found = which i p EISDIR found file finds is t means in truncate_too_large at t p n found.modified f.0 f.1 (lt-ltb greatest_file n large))
 
-    -- the file has the length and the moment already
+    -- the file already has the length and the mtime
     pub truncate_is_idle : IsMoment at → IsPath p → n ≤ greatest_file → (found.len == n && (found.modified == at)) ≡ true → reply ≡ Done → msgs ≡ no_messages → IsCompiled i (Truncate p n) at reply msgs
     unfolding FileOf
     truncate_is_idle early is_path short idle = compiled_done i (Truncate p n) at reply msgs Done no_messages (λ e. (λ f. cc))

@@ -1,4 +1,4 @@
--- Holes: what a file's part that becomes zeros is compiled to.
+-- Holes: what setting a part of a file to zero is compiled to.
 use Rattle.std.proofs.Common.{◌≡◌, ◌≢◌, ℕ, zero, suc, ◌+◌, ◌-◌, ◌/◌, ◌^◌, ◌<◌, ◌≤◌, max, List, [], length, true, false, Bool, cond, refl, sym, ap, ◌∙◌, subst, ◌⊎◌, inl, inr, ⊎_elim, Option, Some, arith}
 use Rattle.std.specs.Prelude.{Result, Ok, Err}
 use Rattle.std.proofs.lemmas.Bool.{le-ltb}
@@ -40,9 +40,9 @@ use Rattle.call_compiler.proofs.OnFiles.{Finds, write_is_refused, write_is_empty
 use Rattle.call_compiler.proofs.HoleBlocks.{Zeroes, hole_few, hole_zeroes}
 use Rattle.call_compiler.proofs.Zeroing.{zeros, length-zeroed, hold_as}
 
--- ---- a write that is never sent
+-- ---- a write that is not sent
 
--- the patches of a write of any length change the blocks as it does
+-- the patches of a write of any length have its effect on the blocks
 module _ (p : Path) (is_path : IsPath p) (off : ℕ) (w : List ℕ) (some : 0 < length w) (short : off + length w ≤ 2 ^ 40) where
   first_patches : (n : ℕ) → off / 4096 + n ≤ (off + length w - 1) / 4096 + 1 → Changes (up_to (off / 4096 + n) (patched off w)) p (patches_between p off w (off / 4096) (off / 4096 + n))
   first_patches zero fits =
@@ -68,14 +68,14 @@ module _ (p : Path) (is_path : IsPath p) (off : ℕ) (w : List ℕ) (some : 0 < 
 
 -- ---- the blocks of a file with other bytes
 
--- two paths are one or not
+-- two paths are equal or not
 one_path : (p q : Path) → EachName p → EachName q → (p ≡ q) ⊎ (p ≢ q)
 one_path p q u v = elim (same (enc p) (enc q)) as (λ b. same (enc p) (enc q) ≡ b → (p ≡ q) ⊎ (p ≢ q)) [
   | true ↦ λ e. inl (enc_law p q u v (same_true (enc p) (enc q) e))
   | false ↦ λ e. inr (λ is. apart (enc p) (enc q) e (ap enc is))
 ] refl
 
--- where the blocks e mean a tree, so do d', which differ from those of a file and hold the same bytes
+-- if the blocks e are those of a tree, so are d', which differ in those of one file and have the same bytes
 module _ (t u : Tree) (p : Path) (is_path : IsPath p) (b : List ℕ) (d d' e : Blocks) (change other : ℕ → Option (List ℕ) → Option (List ℕ))
     (old : BlocksMean t d) (means : BlocksMean u e) (there : look u p ≡ Some (Bytes b)) (new : BlocksChange change p d d') (written : BlocksChange other p d e) (hold : Hold (λ i. change i (d (block_key p i))) b) where
   own_block : (q : Path) (i : ℕ) → IsPath q → i < most_blocks → p ≢ q → d' (block_key q i) ≡ e (block_key q i)
@@ -114,12 +114,12 @@ file_there (Found (File other b)) n date e = (b, refl, cc)
 file_there Missing n date e = absurd (cc)
 file_there Blocked n date e = absurd (cc)
 
--- no byte lies in an empty list
+-- an empty list has no byte
 some_bytes : (n : ℕ) → 0 < n → is_empty (zeros n) ≡ false
 some_bytes zero h = absurd (omega (arith, h))
 some_bytes (suc n) h = refl
 
--- where the blocks are those of a tree, what lies in a range of those of p is one
+-- in the blocks of a tree, each key with a value in a range of p's is that of a block of p
 own_blocks : (t : Tree) (d : Blocks) (p : Path) → IsPath p → BlocksMean t d → (k : Key) (v : List ℕ) (a : ℕ) → a < 2 ^ 32 → d k ≡ Some v → is_in (blocks_from p a) k ≡ true → (i : ℕ) × (i < most_blocks) × (k ≡ block_key p i)
 own_blocks t d p is_path means k v a ha e inside =
     let o : BlockOf t k = means.only_blocks k v e in
@@ -130,7 +130,7 @@ own_blocks t d p is_path means k v a ha e inside =
 -- ---- what is compiled
 
 module _ (i : Indexes) (p : Path) (off n at : ℕ) (reply : Reply) (msgs : Messages) (file : Result FoundFile Errno) (finds : Finds i p EISDIR file) where
-  -- no messages are few
+  -- no messages are within the limit
   none_few : msgs ≡ no_messages → (length msgs.meta ≤ 1) × (length msgs.block ≤ 3)
   none_few none = subst (λ (x : Messages). (length x.meta ≤ 1) × (length x.block ≤ 3)) (sym none) (omega arith, omega arith)
 
@@ -147,11 +147,11 @@ module _ (i : Indexes) (p : Path) (off n at : ℕ) (reply : Reply) (msgs : Messa
       }
 
   module _ (found : FoundFile) (is : file ≡ Ok found) where
-    -- the file in a tree that is meant
+    -- the file in a tree of the indexes
     file_in : (t : Tree) → MeanTree i t → (b : List ℕ) × (entry_at t p ≡ Found (File found.modified b)) × (length b ≡ found.len)
     file_in t means = subst (λ (r : Result FoundFile Errno). TellsFile (entry_at t p) EISDIR r) is (finds t (meta_meant i t means))
 
-    -- how many of its bytes lie in the hole
+    -- the number of its bytes in the hole
     reached_is : (t : Tree) → MeanTree i t → reached (entry_at t p) off n ≡ reached_of found.len off n
     reached_is t means =
         let f : (b : List ℕ) × (entry_at t p ≡ Found (File found.modified b)) × (length b ≡ found.len) = file_in t means in

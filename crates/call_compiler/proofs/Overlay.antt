@@ -1,4 +1,4 @@
--- Puts of all pairs below a path under their new keys, and what they make of the values: those of the path moved.
+-- Puts of all pairs below a path under their new keys, and their effect on the values: the path is moved.
 use Rattle.std.proofs.Common.{◌≡◌, ℕ, zero, suc, ◌<◌, List, [], ◌∷◌, ◌++◌, length, drop, get_or, map, true, false, Bool, cond, refl, sym, ap, ◌∙◌, subst, arith, Option, Some, None}
 use Rattle.std.specs.Prelude.{All, Contains}
 use Rattle.std.proofs.lemmas.List.{drop_at}
@@ -15,7 +15,7 @@ use Rattle.reference.specs.Indexes.{moved}
 use Rattle.call_compiler.specs.Moves.{AreBelow, put_under}
 
 module _ {V : Type 0} (o n : Path) (f : Key → Option V) where
-  -- what is moved to the key: the value below o that stands there below n
+  -- what is moved to the key: for a key below n, the value at the corresponding key below o
   abbrev pub source : Key → Option V
   source k = cond (is_in (subtree n) k) (f (enc o ++ drop (length (enc n)) k)) None
 
@@ -27,7 +27,7 @@ module _ {V : Type 0} (o n : Path) (f : Key → Option V) where
   abbrev Belongs : Key × V → Type 0
   Belongs p = (k : Key) → same (under p.0) k ≡ true → source k ≡ Some p.1
 
-  -- at a key below n stands what stood below o
+  -- a key below n gets the value that was at the corresponding key below o
   pub source_at : (z : Key) → source (enc n ++ z) ≡ f (enc o ++ z)
   source_at z =
       ap (λ (b : Bool). cond b (f (enc o ++ drop (length (enc n)) (enc n ++ z))) None) (in_subtree_from n z)
@@ -45,7 +45,7 @@ module _ {V : Type 0} (o n : Path) (f : Key → Option V) where
       ap source (sym key) ∙ source_at z.0 ∙ ap f (sym z.1) ∙ is
 
 module _ {U V : Type 0} (means : U → Option V → Option V) (o n : Path) (f : Key → Option V) where
-  -- once the value is there it stays
+  -- a value that was put stays
   put_stays : (ps : List (Key × V)) (k : Key) (v : V) → source o n f k ≡ Some v → All (Belongs o n f) ps → effects means (map (put_under o n) ps) k (Some v) ≡ Some v
   put_stays [] k v is all = refl
   put_stays (p ∷ ps) k v is all =
@@ -54,7 +54,7 @@ module _ {U V : Type 0} (means : U → Option V → Option V) (o n : Path) (f : 
         | false ↦ λ e. put_stays ps k v is (All-tail (Belongs o n f) p ps all)
       ] refl
 
-  -- the puts bring each value that is moved
+  -- the puts set each value that is moved
   put_comes : (ps : List (Key × V)) (k : Key) (v : V) (x : Option V) (i : ℕ) (d : Key × V) → source o n f k ≡ Some v → All (Belongs o n f) ps → i < length ps → same (under o n f (get_or ps i d).0) k ≡ true → effects means (map (put_under o n) ps) k x ≡ Some v
   put_comes [] k v x i d is all l e = absurd (omega arith)
   put_comes (p ∷ ps) k v x zero d is all l e =
@@ -62,7 +62,7 @@ module _ {U V : Type 0} (means : U → Option V → Option V) (o n : Path) (f : 
       (subst (λ (y : Option V). effects means (map (put_under o n) ps) k y ≡ Some v) (sym is ∙ All-head (Belongs o n f) p ps all k e) (put_stays ps k v is (All-tail (Belongs o n f) p ps all)))
   put_comes (p ∷ ps) k v x (suc i) d is all l e = put_comes ps k v (effect means (put_under o n p) k x) i d is (All-tail (Belongs o n f) p ps all) (omega arith) e
 
-  -- and change nothing else
+  -- and change no other
   put_elsewhere : (ps : List (Key × V)) (k : Key) (x : Option V) → source o n f k ≡ None → All (Belongs o n f) ps → effects means (map (put_under o n) ps) k x ≡ x
   put_elsewhere [] k x is all = refl
   put_elsewhere (p ∷ ps) k x is all =
@@ -75,7 +75,7 @@ module _ {U V : Type 0} (means : U → Option V → Option V) (o n : Path) (f : 
     all_belong : All (Belongs o n f) ps
     all_belong = All-weaker (λ p. (is_in (subtree o) p.0 ≡ true) × (f p.0 ≡ Some p.1)) (Belongs o n f) (λ p h. belongs o n f p h.0 h.1) ps below.scan.sound
 
-    -- below n the puts make each value the moved one, where none was before
+    -- below n the puts set each value to the moved one, if there was none before
     inside_new : (k : Key) (x : Option V) → is_in (subtree n) k ≡ true → (source o n f k ≡ None → x ≡ None) → effects means (map (put_under o n) ps) k x ≡ source o n f k
     inside_new k x inside none = elim (source o n f k) as (λ s. source o n f k ≡ s → effects means (map (put_under o n) ps) k x ≡ s) [
       | None ↦ λ e. put_elsewhere ps k x e all_belong ∙ none e
@@ -90,8 +90,8 @@ module _ {U V : Type 0} (means : U → Option V → Option V) (o n : Path) (f : 
     outside_new : (k : Key) (x : Option V) → is_in (subtree n) k ≡ false → effects means (map (put_under o n) ps) k x ≡ x
     outside_new k x outside = put_elsewhere ps k x (ap (λ (b : Bool). cond b (f (enc o ++ drop (length (enc n)) k)) None) outside) all_belong
 
-    -- the puts, and then the range-delete of o, move the values, where n does not overlap with o and has no value of its own
-    -- but those that are replaced
+    -- the puts, and then the range-delete of o, move the values, if n does not overlap with o and has no value except those
+    -- that are replaced
     pub puts_move : (x : Key → Option V) → ((k : Key) → is_in (subtree n) k ≡ true → is_in (subtree o) k ≡ false) → ((k : Key) → is_in (subtree n) k ≡ true → source o n f k ≡ None → x k ≡ None) → ((k : Key) → is_in (subtree n) k ≡ false → x k ≡ f k)
         → (k : Key) → effects means (map (put_under o n) ps ++ DelRange (subtree o) ∷ []) k (x k) ≡ moved o n f k
     puts_move x apart inside outside k =

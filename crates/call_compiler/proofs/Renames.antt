@@ -1,4 +1,4 @@
--- `rename`: its refusals, and what its messages make of the indexes.
+-- `rename`: its failures, and the effect of its messages on the indexes.
 use Rattle.std.proofs.Common.{◌≡◌, ℕ, ◌+◌, ◌<◌, ◌≤◌, List, [], ◌∷◌, ◌++◌, length, length-append, drop, map, true, false, Bool, cond, refl, sym, ap, ◌∙◌, subst, arith, Option, Some, None, ◌⊎◌, inl, inr, zero, suc, get_or, ◌||◌}
 use Rattle.std.specs.Prelude.{fold, Contains}
 use Rattle.std.specs.List.{list_any}
@@ -50,14 +50,14 @@ use Rattle.call_compiler.proofs.Compiling.{After, meta_meant, compiled_kept, com
 use Rattle.call_compiler.proofs.Faults.{too_long, rename_of_nothing, rename_to_itself, rename_no_place, rename_too_long, rename_done}
 use Rattle.call_compiler.proofs.Overlay.{source, source_at, puts_move}
 
--- as many messages as moments
+-- as many messages as directories
 length-touches : (at : ℕ) (ps : List Path) → length (touches at ps) ≡ length ps
 length-touches at [] = refl
 length-touches at (p ∷ ps) = ap suc (length-touches at ps)
 
--- ---- what is known of keys
+-- ---- facts about keys
 
--- of two beginnings of one list one is a beginning of the other
+-- of two prefixes of one list one is a prefix of the other
 beginnings : (xs ys z w : List ℕ) → xs ++ z ≡ ys ++ w → ((u : List ℕ) × (xs ≡ ys ++ u)) ⊎ ((u : List ℕ) × (ys ≡ xs ++ u))
 beginnings [] ys z w e = inr (ys, refl)
 beginnings (x ∷ xs) [] z w e = inl (x ∷ xs, refl)
@@ -69,7 +69,7 @@ beginnings (x ∷ xs) (y ∷ ys) z w e =
       | inr f ↦ inr (f.0, (let g : ys ≡ xs ++ f.0 = f.1 in cc))
     ]
 
--- the subtrees of two paths have a key in common only where one path is at or below the other
+-- the subtrees of two paths have a key in common only if one path is at or below the other
 subtrees_apart : (o n : Path) → IsPath o → IsPath n → ((r : Path) → o ≡ n ++ r → ⊥) → ((r : Path) → n ≡ o ++ r → ⊥) → (k : Key) → is_in (subtree n) k ≡ true → is_in (subtree o) k ≡ false
 subtrees_apart o n old new above below k inside = false_from_ne_true (is_in (subtree o) k) (λ also.
     let z : (z : Key) × (k ≡ enc n ++ z) = in_subtree n k inside in
@@ -79,19 +79,19 @@ subtrees_apart o n old new above below k inside = false_from_ne_true (is_in (sub
       | inr f ↦ let r = under_from_key n o f.0 new.names old.names (sym f.1) in above r.0 r.1
     ])
 
--- what is seen has metadata
+-- an entry has metadata
 metadata_seen : (s : Sight) → (v : Meta) × (meta_of (Some s) ≡ Some v)
 metadata_seen (Seen Directory date) = (_, refl)
 metadata_seen (Seen (Bytes b) date) = (_, refl)
 
--- what is seen has a moment
+-- an entry has an mtime
 sight_from : (a : At) (l : Look) → seen a ≡ Some l → (s : Sight) × (sighted a ≡ Some s)
 sight_from (Found (Dir date es)) l h = (_, refl)
 sight_from (Found (File date b)) l h = (_, refl)
 sight_from Missing l h = absurd (cc)
 sight_from Blocked l h = absurd (cc)
 
--- a fault that comes second
+-- a fault that is the second
 second_none : (a b : Option Errno) → first_fault (a ∷ b ∷ []) ≡ None → b ≡ None
 second_none None None h = refl
 second_none None (Some e) h = absurd (cc)
@@ -106,14 +106,14 @@ any_at test f (x ∷ xs) (suc i) d l h = elim (test (f x)) as (λ b. (b || list_
   | false ↦ any_at test f xs i d (omega arith) h
 ]
 
--- ---- a text that gets too long
+-- ---- a text that becomes too long
 
 module _ (date : ℕ) (t : Tree) (i : Indexes) (o n : Path) (means : IsMeantBy t i.meta) (old : IsPath o) (x : Tree) (at : entry_at t o ≡ Found x) (es : List (Key × Meta)) (below : AreBelow (metadata i.meta) o es) where
   -- the message that puts an entry has a key that is too long
   abbrev Long : Key × Meta → Bool
   Long p = is_key_too_long (put_under {U = MetaUpdate} o n p)
 
-  -- what is seen below o is seen in what stands there
+  -- the entries below o are those of the subtree there
   below_old : (r : Path) → sight t (o ++ r) ≡ sight x r
   below_old r = ap sighted (along t o r ∙ ap (λ (a : At). fold onward a r) at)
 
@@ -150,7 +150,7 @@ module _ (date : ℕ) (t : Tree) (i : Indexes) (o n : Path) (means : IsMeantBy t
       any_at is_key_too_long (put_under {U = MetaUpdate} o n) es c.0 (enc (o ++ d.path), v.0) c.1
       (ap Long c.2 ∙ lt-ltb 1023 (length (enc n ++ drop (length (enc o)) (enc (o ++ d.path)))) (omega arith))
 
-  -- a message has too long a key exactly where a text gets too long
+  -- a message has a key that is too long exactly if a text becomes too long
   pub long_key : list_any is_key_too_long (map (put_under {U = MetaUpdate} o n) es) ≡ too_long date t o n
   long_key =
       let deep : deepest_at (entry_at t o) ≡ deepest x = ap deepest_at at in
@@ -162,10 +162,10 @@ module _ (date : ℕ) (t : Tree) (i : Indexes) (o n : Path) (means : IsMeantBy t
             (λ p h. entry_fits (let l : text_len n + deepest_at (entry_at t o) ≤ 1023 = ltb-false 1023 (text_len n + deepest_at (entry_at t o)) e in omega arith) p h.0 h.1) es below.scan.sound))
       ] refl
 
--- ---- what the messages make of the values
+-- ---- the effect of the messages on the values
 
 module _ (t : Tree) (i : Indexes) (o n : Path) (means : MeanTree i t) (old : IsPath o) (new : IsPath n) (may : MayMove t o n) where
-  -- below n nothing is seen but what stands there
+  -- below n there is only the entry at n
   alone : (r : Path) (l : Look) → look t (n ++ r) ≡ Some l → r ≡ []
   alone [] l h = refl
   alone (k ∷ r) l h =
@@ -193,7 +193,7 @@ module _ (t : Tree) (i : Indexes) (o n : Path) (means : MeanTree i t) (old : IsP
       found_metadata (Dir date es) h = (_, means.meta.paths o old ∙ ap (λ (a : At). meta_of (sighted a)) h)
       found_metadata (File date b) h = (_, means.meta.paths o old ∙ ap (λ (a : At). meta_of (sighted a)) h)
 
-  -- the blocks below n are those of the file that stands there
+  -- the blocks below n are those of the file at n
   block_alone : (k : Key) (v : List ℕ) → is_in (subtree n) k ≡ true → blocks i.block k ≡ Some v → (is_file (entry_at t n) ≡ true) × (j : ℕ) × (j < most_blocks) × (k ≡ block_key n j)
   block_alone k v inside e =
       let c : BlockOf t k = means.blocks.only_blocks k v e in
@@ -202,7 +202,7 @@ module _ (t : Tree) (i : Indexes) (o n : Path) (means : MeanTree i t) (old : IsP
       let path : c.path ≡ n = r.1 ∙ ap (λ (p : Path). n ++ p) only ∙ path_nil n in
       (ap is_file (file_seen (entry_at t n) c.bytes (ap (look t) (sym path) ∙ c.file)).1, c.index, c.few, c.key ∙ ap (λ (p : Path). block_key p c.index) path)
 
-  -- the blocks when those of a file that is replaced are gone
+  -- the blocks after those of a replaced file are deleted
   abbrev kept : Blocks
   kept k = effects block_means (replaced (entry_at t n) n) k (blocks i.block k)
 
@@ -221,7 +221,7 @@ module _ (t : Tree) (i : Indexes) (o n : Path) (means : MeanTree i t) (old : IsP
         ∙ ap (λ (b : Bool). cond {A = Option (List ℕ)} b None (Some v)) there
   ] refl
 
-  -- and elsewhere all are as they were
+  -- and elsewhere all are unchanged
   other_blocks : (k : Key) → is_in (subtree n) k ≡ false → kept k ≡ blocks i.block k
   other_blocks k outside = elim (is_file (entry_at t n)) as (λ b. effects block_means (cond {A = List (Msg BlockUpdate (List ℕ))} b (DelRange (blocks_from n 0) ∷ []) []) k (blocks i.block k) ≡ blocks i.block k) [
     | true ↦ ap (λ (b : Bool). cond {A = Option (List ℕ)} b None (blocks i.block k)) (false_from_ne_true (is_in (blocks_from n 0) k) (λ h.
@@ -237,7 +237,7 @@ module _ (t : Tree) (i : Indexes) (o n : Path) (means : MeanTree i t) (old : IsP
     apart : (k : Key) → is_in (subtree n) k ≡ true → is_in (subtree o) k ≡ false
     apart = subtrees_apart o n old new is.not_above is.not_below
 
-    -- the messages make the indexes mean the tree after the move
+    -- after the messages the indexes abstract to the tree after the move
     pub messages_move : After i msgs t'
     messages_move = record {
       tree = moves.tree;
@@ -254,7 +254,7 @@ module _ (t : Tree) (i : Indexes) (o n : Path) (means : MeanTree i t) (old : IsP
           moves.blocks;
     }
 
--- where the table does a rename between two paths, it lets it
+-- if the rename between two paths succeeds in the table, its move does
 lets_move : (at : ℕ) (t : Tree) (o n : Path) → same_path o n ≡ false → (changed at t (Rename o n)).1 ≡ Done → MayMove t o n
 unfolding changed
 lets_move at t o n apart = renamed_cases (λ (z : Outcome). z.1 ≡ Done → MayMove t o n) t o n (λ e h. absurd (cc)) (λ same h. absurd (let both : true ≡ false = sym same ∙ apart in cc)) (λ may h. may)
@@ -269,7 +269,7 @@ module _ (i : Indexes) (o n : Path) (at : ℕ) (reply : Reply) (msgs : Messages)
   rename_is_of_nothing e is = compiled_refused i (Rename o n) at reply msgs e (λ t means. rename_of_nothing at t o n e (sym (first t (meta_meant i t means)) ∙ is))
 
   module _ (here : from ≡ None) where
-    -- what is to be moved is there
+    -- the entry to be moved exists
     there : (t : Tree) → IsMeantBy t i.meta → first_fault (faults_of_rename_from t o) ≡ None
     there t means = sym (first t means) ∙ here
 
@@ -287,7 +287,7 @@ module _ (i : Indexes) (o n : Path) (at : ℕ) (reply : Reply) (msgs : Messages)
           (λ t means. let m : IsMeantBy t i.meta = meta_meant i t means in rename_no_place at t o n (there t m) apart e (sym (fits t m (found t m)) ∙ is))
 
       module _ (free : place ≡ None) (is_old : IsPath o) (es : List (Key × Meta)) (entries : AreBelow (metadata i.meta) o es) where
-        -- the keys tell whether a text gets too long
+        -- the keys show whether a text becomes too long
         longs : (t : Tree) → IsMeantBy t i.meta → list_any is_key_too_long (map (put_under {U = MetaUpdate} o n) es) ≡ too_long at t o n
         longs t m = let f : (x : Tree) × (entry_at t o ≡ Found x) = found_from (entry_at t o) (found t m) in long_key at t i o n m is_old f.0 f.1 es entries
 

@@ -1,4 +1,4 @@
--- The replies of the table of calls, from what stands at a path.
+-- The replies of the table of calls, from the entry at a path.
 use Rattle.std.proofs.Common.{◌≡◌, ℕ, [], ◌∷◌, refl, ap, Some, None}
 use Rattle.pathkey.specs.Names.{Path}
 use Rattle.pathkey.specs.declared.errno.Errno.{Errno}
@@ -17,7 +17,7 @@ asked_of t (Found x) = refl
 asked_of t Missing = refl
 asked_of t Blocked = refl
 
--- what stands at the path is told
+-- the entry at the path is reported
 pub stat_replies : (at : ℕ) (t : Tree) (p : Path) → stat_at (entry_at t p) ≡ (does at t (AskStat p)).1
 unfolding does changed
 stat_replies at t p = asked_of t (entry_at t p)
@@ -41,12 +41,12 @@ listed_of t (Found (File date b)) h = absurd (cc)
 listed_of t Missing h = absurd (cc)
 listed_of t Blocked h = absurd (cc)
 
--- what is no directory is refused
+-- an entry that is not a directory fails
 pub readdir_refused : (at : ℕ) (t : Tree) (p : Path) (e : Errno) → Some e ≡ no_directory_fault (entry_at t p) → Fault e ≡ (does at t (Readdir p)).1
 unfolding does changed
 readdir_refused at t p e h = listed_fault t (entry_at t p) e h
 
--- of a directory the entries are told
+-- the entries of a directory are reported
 pub readdir_replies : (at : ℕ) (t : Tree) (p : Path) → None ≡ no_directory_fault (entry_at t p) → Names (names_of (entry_at t p)) ≡ (does at t (Readdir p)).1
 unfolding does changed
 readdir_replies at t p h = listed_of t (entry_at t p) h

@@ -1,4 +1,4 @@
--- The moment of the root after a call.
+-- The mtime of the root after a call.
 use Rattle.std.proofs.Common.{◌≡◌, ℕ, List, [], ◌∷◌, length, Bool, true, false, cond, Option, Some, None, refl, sym, ap, ◌∙◌}
 use Rattle.std.specs.Prelude.{◌&&◌, ◌||◌}
 use Rattle.std.specs.List.{list_any}
@@ -15,7 +15,7 @@ use Rattle.call_compiler.specs.Compiled.{touches_root}
 
 -- ---- what a call changes itself
 
--- an entry below the root leaves its moment
+-- changing an entry below the root does not change its mtime
 pub edited_keeps : (t : Tree) (p : Path) (o : Option Tree) → moment (edited t p o) ≡ moment t
 edited_keeps t [] o = refl
 edited_keeps (File date b) (n ∷ p) o = refl
@@ -60,7 +60,7 @@ changed_keeps at t (Read p off n) = ap moment (read_keeps t p off n)
 changed_keeps at t (AskStat p) = ap moment (asked_keeps t p)
 changed_keeps at t (Readdir p) = ap moment (listed_keeps t p)
 
--- ---- the moments of its directories
+-- ---- the mtimes of its directories
 
 pub dated_moment : (at : ℕ) (t : Tree) → moment (dated at t) ≡ at
 dated_moment at (Dir date es) = refl
@@ -109,7 +109,7 @@ root_moment at t c =
 
 -- ---- two directories
 
--- of two paths, or one where they are one, one is the root
+-- if the root is one of two paths, it is in the list without duplicates
 pub once_root : (p q : Path) → list_any is_root (once p q) ≡ (is_root p || is_root q)
 once_root [] [] = refl
 once_root [] (m ∷ q) = refl

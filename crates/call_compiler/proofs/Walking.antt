@@ -17,7 +17,7 @@ use Rattle.scan.proofs.ReadaheadFacts.{short_law}
 use Rattle.call_compiler.specs.Moves.{Moves, put_under}
 
 module _ {U V : Type 0} (f : Key → Option V) (o n : Path) (first : List (Msg U V)) where
-  -- the pairs below o that stand before the rest of the range have their messages
+  -- the pairs below o that are before the rest of the range have their messages
   pub record Walked (rest : KeyRange) (msgs : List (Msg U V)) : Type 0 where
     pub pairs : List (Key × V)
     pub end : rest.hi ≡ (subtree o).hi
@@ -60,7 +60,7 @@ module _ {U V : Type 0} (f : Key → Option V) (o n : Path) (first : List (Msg U
           let never : (z : Key) → p.0 ≢ enc o ++ z = subst (λ (x : Option Key). IsRekeyed p.0 o n x) none h in
           never z.0 z.1
 
-      -- one pair more
+      -- one more pair
       pub walk_goes_on : (moved : Option Key) (k : Key) → IsRekeyed p.0 o n moved → moved ≡ Some k → (next : Key) → next ≡ next_key p.0 → (new : List (Msg U V)) → new ≡ msgs ++ Put k p.1 ∷ [] → Walked (record { lo = next; hi = rest.hi }) new
       walk_goes_on moved k h some next after new list =
           let z : (z : Key) × (p.0 ≡ enc o ++ z) × (k ≡ enc n ++ z) = subst (λ (x : Option Key). IsRekeyed p.0 o n x) some h in

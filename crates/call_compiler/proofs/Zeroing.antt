@@ -1,4 +1,4 @@
--- Zeros laid over the bytes of a file, in one list and in blocks.
+-- Zeros written over the bytes of a file, in one list and in blocks.
 use Rattle.std.proofs.Common.{◌≡◌, ℕ, ◌+◌, ◌-◌, ◌*◌, ◌<◌, ◌≤◌, max, List, length, get_or, replicate, sym, ap, ◌∙◌, ◌⊎◌, inl, inr, ⊎_elim, arith, Option, None}
 use Rattle.std.proofs.lemmas.Bool.{cases_lt}
 use Rattle.std.proofs.lemmas.List.{ext_get_or, get_or-replicate, length-replicate}
@@ -25,7 +25,7 @@ zero_inside b a n x h g =
 kept_after : (b : List ℕ) (a n x : ℕ) → a + n ≤ x → get_or (over b a (zeros n)) x 0 ≡ get_or b x 0
 kept_after b a n x h = let l : length (zeros n) ≡ n = length-replicate n 0 in over_after b a (zeros n) x (omega arith)
 
--- zeros behind zeros are as many zeros at once
+-- zeros after zeros are as many zeros at once
 pub zeros_joined : (b : List ℕ) (a m n : ℕ) → over (over b a (zeros m)) (a + m) (zeros n) ≡ over b a (zeros (m + n))
 zeros_joined b a m n =
     let first : List ℕ = over b a (zeros m) in
@@ -45,8 +45,8 @@ zeros_joined b a m n =
 
 -- ---- in blocks
 
--- blocks hold a file with zeros over some of its bytes, where each is as it was or is gone and lies whole among those bytes,
--- and none with one of those bytes is left
+-- the blocks hold the file with zeros over some of its bytes, if every block with one of those bytes is deleted, only
+-- blocks entirely among them are deleted, and all others are unchanged
 pub zeros_hold : (a n : ℕ) (block new : ℕ → Option (List ℕ)) (b : List ℕ) → Hold block b → a + n ≤ length b
     → ((i : ℕ) → i < most_blocks → (new i ≡ block i) ⊎ ((new i ≡ None) × (a ≤ 4096 * i) × (4096 * i + 4096 ≤ a + n)))
     → ((i j : ℕ) → i < most_blocks → j < 4096 → a ≤ 4096 * i + j → 4096 * i + j < a + n → new i ≡ None)
@@ -77,7 +77,7 @@ zeros_hold a n block new b hold short kept gone = record {
         absurd (⊎_elim (λ (u : 4096 * i + j < a). omega arith) (λ (u : a + n ≤ 4096 * i + j). omega arith) out))
         (kept i li)
 
--- blocks that hold the bytes that others hold, and end where they may
+-- blocks that have the bytes of others, and end where they may
 pub hold_as : (f g : ℕ → Option (List ℕ)) (b c : List ℕ) → Hold f b → Hold g b → Hold g c → length b ≤ length c → Hold f c
 hold_as f g b c first both third short = record {
   byte = λ i j li lj. first.byte i j li lj ∙ sym (both.byte i j li lj) ∙ third.byte i j li lj;

@@ -1,4 +1,4 @@
--- What a file call is compiled to, by the directory tree that the indexes mean.
+-- What a file call is compiled to, in terms of the directory tree to which the indexes abstract.
 use Rattle.std.specs.Prelude.{◌≡◌, ◌≤◌, ◌+◌, ◌⊎◌, ◌==◌, ◌&&◌, ℕ, nat_le, Bool, true, false, cond, length, List, [], ◌∷◌, Option, None, Some, Ok}
 use Rattle.std.specs.List.{list_any}
 use Rattle.block_index.specs.Changed.{patches}
@@ -58,34 +58,34 @@ blocks_after msgs d k = effects block_means msgs.block k (d k)
 
 -- ---- calls
 
--- both indexes mean the directory tree t
+-- both indexes abstract to the directory tree t
 abbrev pub MeanTree : Indexes → Tree → Type 0
 MeanTree i t = IndexesMean t (metadata i.meta) (blocks i.block)
 
--- the messages that set the moment at the paths
+-- the messages that set the mtime of the paths
 abbrev pub touches : ℕ → List Path → List (Msg MetaUpdate Meta)
 touches at [] = []
 touches at (p ∷ ps) = Edit (enc p) (Touch at) ∷ touches at ps
 
--- whether the call, where it is done, gives the root its moment: an entry of the root is put or taken out
+-- whether the call, if it succeeds, sets the root's mtime: it adds or removes an entry of the root
 abbrev pub touches_root : Call → Bool
 touches_root c = list_any is_root (parents_of c)
 
--- a file of that length and moment has at least n bytes, and this moment
+-- a file with that length and mtime has at least n bytes, and this mtime
 abbrev pub has_grown : ℕ → ℕ → ℕ → ℕ → Bool
 has_grown n at len date = nat_le n len && (date == at)
 
--- the same of what stands at a path
+-- the same for the entry at a path
 abbrev pub has_grown_at : ℕ → ℕ → At → Bool
 has_grown_at n at (Found (File date b)) = has_grown n at (length b) date
 has_grown_at n at _ = false
 
--- the same of the metadata under a key
+-- the same for the metadata under a key
 abbrev pub meta_has_grown : ℕ → ℕ → Option Meta → Bool
 meta_has_grown n at (Some (FileMeta len date)) = has_grown n at len date
 meta_has_grown n at _ = false
 
--- the message that raises the length of the file at the key to n and sets its moment; none where it has both
+-- the message that raises the length of the file at the key to n and sets its mtime; none if it has both
 abbrev pub growth : Key → ℕ → ℕ → Bool → List (Msg MetaUpdate Meta)
 growth k n at has = cond has [] (Edit k (Grow n at) ∷ [])
 
@@ -97,23 +97,23 @@ write_messages p off w at has = record { meta = growth (enc p) (off + length w) 
 abbrev pub AreClear : Blocks → KeyRange → Type 0
 AreClear d r = (k : Key) → is_in r k ≡ true → d k ≡ None
 
--- where the directory in which an entry is made has the moment already, there is no message for it
+-- if the directory in which an entry is created already has the mtime, there is no message for it
 abbrev pub SendsNew : Indexes → Path → ℕ → Messages → Type 0
 SendsNew i p at msgs = (t : Tree) → MeanTree i t → moment_reported (entry_at t (parent p)) ≡ Ok at → count msgs ≤ 1
 
--- where the file that goes has neither bytes nor blocks, there is no message for blocks
+-- if the file that is removed has neither bytes nor blocks, there is no message for blocks
 abbrev pub SendsGone : Indexes → Path → Messages → Type 0
 SendsGone i p msgs = (t : Tree) → MeanTree i t → bytes_of (entry_at t p) ≡ [] → AreClear (blocks i.block) (blocks_from p 0) → msgs.block ≡ []
 
--- where a file has the length and the moment already, there is no message
+-- if a file already has the length and the mtime, there is no message
 abbrev pub SendsCut : Indexes → Path → ℕ → ℕ → Messages → Type 0
 SendsCut i p n at msgs = (t : Tree) → MeanTree i t → (b : List ℕ) → entry_at t p ≡ Found (File at b) → length b ≡ n → msgs ≡ no_messages
 
--- what a call may send over both indexes: one message where an entry comes or an empty directory goes, two where a
--- file goes, three where it is cut, one where it is lengthened, two where an entry goes with all below it, for a write
--- its patches and one, which it leaves out where the metadata under the path's key have the length and the moment already,
--- for each entry and block that is moved one and three besides, and nothing for a call that only reads; and one more for
--- each directory that gets the moment
+-- how many messages a call may send to both indexes: one if it creates an entry or removes an empty directory, two if it
+-- removes a file, three if it shortens one, one if it lengthens one, two if it removes an entry with everything below it;
+-- for a write its patches and one, unless the metadata under the path's key already have the length and the mtime; for a
+-- rename one for each entry and block that is moved, and three; none for a call that only reads; and one more for each
+-- directory whose mtime is set
 abbrev pub Sends : Indexes → Call → ℕ → Messages → Type 0
 Sends i (Mkdir p) at msgs = (count msgs ≤ 1 + length (parents_of (Mkdir p))) × SendsNew i p at msgs
 Sends i (Create p) at msgs = (count msgs ≤ 1 + length (parents_of (Create p))) × SendsNew i p at msgs
@@ -131,20 +131,20 @@ Sends i (Rename o n) at msgs =
     (msgs ≡ no_messages)
     ⊎ ((es : List (Key × Meta)) × (bs : List (Key × List ℕ)) × AreBelow (metadata i.meta) o es × AreBelow (blocks i.block) o bs × (count msgs ≤ length es + length bs + 3 + length (parents_of (Rename o n))))
 
--- what a call at a moment is compiled to
+-- what a call at a timestamp is compiled to
 pub record IsCompiled (i : Indexes) (call : Call) (at : ℕ) (answer : Reply) (msgs : Messages) : Type 0 where
-  -- the reply is the one that the table of calls makes of the tree that the indexes mean
+  -- the reply is that of the table of calls for the tree to which the indexes abstract
   pub reply : (t : Tree) → MeanTree i t → answer ≡ (does at t call).1
-  -- after the messages they mean the tree that the table makes of it
+  -- after the messages they abstract to the tree after the call
   pub tree : (t : Tree) → MeanTree i t → IndexesMean (does at t call).0 (metadata_after msgs (metadata i.meta)) (blocks_after msgs (blocks i.block))
-  -- a call that is refused has no message
+  -- a call that fails has no messages
   pub fault : (e : Errno) → answer ≡ Fault e → msgs ≡ no_messages
-  -- and one that is done no more than it needs
+  -- and one that succeeds has no more than it needs
   pub sends : Sends i call at msgs
 
--- ---- how the calls come to it
+-- ---- the replies of calls
 
--- what `stat` replies for what stands at a path
+-- the reply of `stat` for the entry at a path
 abbrev pub stat_at : At → Reply
 stat_at (Found x) = stat_of (Found x)
 stat_at Missing = Fault ENOENT

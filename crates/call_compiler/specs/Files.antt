@@ -7,14 +7,14 @@ use Rattle.reference.specs.Calls.{faults_of_file, first_fault}
 use Rattle.reference.specs.declared.reply.Meta.{Meta}
 use Rattle.call_compiler.specs.Compiled.{has_grown, meta_has_grown}
 
--- a file of that length and moment stands there; or this is why none does, e being the fault of a directory
+-- there is a file with that length and mtime; or this is why there is none, where e is the fault for a directory
 abbrev pub TellsFile : At → Errno → Result FoundFile Errno → Type 0
 TellsFile here e file = MatchResult file (λ f. (b : List ℕ) × (here ≡ Found (File f.modified b)) × (length b ≡ f.len)) (λ fault. first_fault (faults_of_file here e) ≡ Some fault)
 
--- it has grown, within the limit, just as far as the metadata say
+-- it has grown, within the limit, exactly as its metadata say
 abbrev pub TellsGrowth : Option Meta → FoundFile → Type 0
 TellsGrowth m f = (n at : ℕ) → n ≤ 2 ^ 40 → has_grown n at f.len f.modified ≡ meta_has_grown n at m
 
--- a file that stands there has at most 2^40 bytes
+-- a file has at most 2^40 bytes
 abbrev pub IsShort : At → Type 0
 IsShort here = (date : ℕ) (b : List ℕ) → here ≡ Found (File date b) → length b ≤ 2 ^ 40

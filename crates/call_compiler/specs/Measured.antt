@@ -5,6 +5,6 @@ use Rattle.pathkey.specs.declared.errno.Errno.TheVariants.{EISDIR}
 use Rattle.reference.specs.Calls.{faults_of_file, first_fault}
 use Rattle.reference.specs.Tree.{At, Found, File}
 
--- a file of that length stands there; or this is why none does
+-- there is a file with that length; or this is why there is none
 abbrev pub TellsLength : At → Result ℕ Errno → Type 0
 TellsLength here reported = MatchResult reported (λ n. (date : ℕ) × (b : List ℕ) × (here ≡ Found (File date b)) × (length b ≡ n)) (λ fault. first_fault (faults_of_file here EISDIR) ≡ Some fault)

@@ -18,7 +18,7 @@ pub record AreBelow {V : Type 0} (f : Key → Option V) (p : Path) (ps : List (K
 abbrev pub put_under : {U V : Type 0} → Path → Path → Key × V → Msg U V
 put_under o n p = Put (enc n ++ drop (length (enc o)) p.0) p.1
 
--- behind the messages `first`, each pair that f has at or below o is put under the key that it has when o is moved to n
+-- after the messages `first`, each pair that f has at or below o is put under the key that it has when o is moved to n
 abbrev pub Moves : {U V : Type 0} → (Key → Option V) → Path → Path → List (Msg U V) → List (Msg U V) → Type 0
 Moves {U} {V} f o n first msgs = (ps : List (Key × V)) × AreBelow f o ps × (msgs ≡ first ++ map (put_under o n) ps)
 
@@ -31,6 +31,6 @@ is_too_long (Some k) = nat_lt 1023 (length k)
 abbrev pub is_key_too_long : {U V : Type 0} → Msg U V → Bool
 is_key_too_long m = is_too_long (point_key m)
 
--- where a file stands at n, a range-delete of its blocks
+-- if there is a file at n, a range-delete of its blocks
 abbrev pub replaced : {U V : Type 0} → At → Path → List (Msg U V)
 replaced here n = cond (is_file here) (DelRange (blocks_from n 0) ∷ []) []

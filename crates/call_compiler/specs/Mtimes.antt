@@ -12,17 +12,17 @@ use Rattle.reference.specs.declared.reply.Reply.TheVariants.{Done, Fault}
 use Rattle.call_compiler.specs.Compiled.{Messages, no_messages, metadata_after, blocks_after, MeanTree}
 use Rattle.call_compiler.specs.declared.indexes.Indexes.{Indexes}
 
--- the tree in which what is at a path has this mtime, and all else is as it was; ENOENT or ENOTDIR where nothing is there
+-- the tree in which the entry at a path has this mtime, and all else is unchanged; ENOENT or ENOTDIR if there is none
 abbrev pub mtime_set : ℕ → Tree → Path → Outcome
 mtime_set at t p = unless t (path_fault (entry_at t p) ∷ []) (touched at t p, Done)
 
--- what the setting of an mtime is compiled to
+-- what setting an mtime is compiled to
 pub record SetsMtime (i : Indexes) (p : Path) (at : ℕ) (answer : Reply) (msgs : Messages) : Type 0 where
-  -- the reply is the one for the tree that the indexes mean
+  -- the reply is that for the tree to which the indexes abstract
   pub reply : (t : Tree) → MeanTree i t → answer ≡ (mtime_set at t p).1
-  -- after the messages they mean the tree with the mtime
+  -- after the messages they abstract to the tree with the mtime
   pub tree : (t : Tree) → MeanTree i t → IndexesMean (mtime_set at t p).0 (metadata_after msgs (metadata i.meta)) (blocks_after msgs (blocks i.block))
-  -- where it is refused, there is no message
+  -- if it fails, there is no message
   pub fault : (e : Errno) → answer ≡ Fault e → msgs ≡ no_messages
-  -- and else one, for the metadata
+  -- otherwise at most one, for the metadata
   pub one : (length msgs.meta ≤ 1) × (msgs.block ≡ [])

@@ -17,11 +17,11 @@ use Rattle.reference.specs.declared.reply.Reply.TheVariants.{Count, Fault}
 use Rattle.call_compiler.specs.Compiled.{Messages, no_messages, metadata_after, blocks_after, MeanTree}
 use Rattle.call_compiler.specs.declared.indexes.Indexes.{Indexes}
 
--- how many of n bytes from off on lie within a file of so many bytes
+-- how many of n bytes from off on are within a file of so many bytes
 abbrev pub reached_of : ℕ → ℕ → ℕ → ℕ
 reached_of len off n = min (len - off) n
 
--- the same of what stands at a path; none where that is no file
+-- the same for the entry at a path; none if that is not a file
 abbrev pub reached : At → ℕ → ℕ → ℕ
 reached here off n = reached_of (length (bytes_of here)) off n
 
@@ -29,47 +29,47 @@ reached here off n = reached_of (length (bytes_of here)) off n
 abbrev pub zeroing : Path → ℕ → ℕ → Tree → Call
 zeroing p off n t = Write p off (replicate (reached (entry_at t p) off n) 0)
 
--- what a hole at a moment is compiled to
+-- what a hole at a timestamp is compiled to
 pub record IsPunched (i : Indexes) (p : Path) (off n at : ℕ) (answer : Reply) (msgs : Messages) : Type 0 where
-  -- the reply is that of the write of zeros in the tree that the indexes mean
+  -- the reply is that of the write of zeros in the tree to which the indexes abstract
   pub reply : (t : Tree) → MeanTree i t → answer ≡ (does at t (zeroing p off n t)).1
-  -- after the messages they mean the tree that this write makes of it
+  -- after the messages they abstract to the tree after this write
   pub tree : (t : Tree) → MeanTree i t → IndexesMean (does at t (zeroing p off n t)).0 (metadata_after msgs (metadata i.meta)) (blocks_after msgs (blocks i.block))
-  -- where it is refused, or no byte lies within the file, there is no message
+  -- if it fails, or no byte is within the file, there is no message
   pub fault : (e : Errno) → answer ≡ Fault e → msgs ≡ no_messages
   pub nothing : answer ≡ Count 0 → msgs ≡ no_messages
-  -- and else few
+  -- otherwise there are few
   pub few : (length msgs.meta ≤ 1) × (length msgs.block ≤ 3)
-  -- the blocks that lie whole among the zeros are no longer stored
+  -- the blocks that are entirely among the zeros are no longer stored
   pub gone : (t : Tree) → MeanTree i t → (m : ℕ) → answer ≡ Count m → (j : ℕ) → j < most_blocks → off ≤ 4096 * j → 4096 * j + 4096 ≤ off + m → blocks_after msgs (blocks i.block) (block_key p j) ≡ None
 
 -- ---- its messages for blocks
 
--- those that lay zeros over bytes a up to b of p, which lie in one block: one patch, or none where there are no such bytes or the
--- block is not stored
+-- those that write zeros over bytes a up to b of p, all in one block: one patch, or none if there are no such bytes or the block
+-- is not stored
 abbrev pub AppliesZeros : Blocks → Path → ℕ → ℕ → BlockMessages → Type 0
 AppliesZeros d p a b ms =
     ((ms ≡ []) × ((b ≤ a) ⊎ (d (block_key p (a / 4096)) ≡ None)))
     ⊎ ((a < b) × (ms ≡ patch_of p a (replicate (b - a) 0) (a / 4096) ∷ []))
 
--- those that take out the blocks of p from number f up to l
+-- those that delete the blocks of p from number f up to l
 abbrev pub TakesOut : Path → ℕ → ℕ → BlockMessages → Type 0
 TakesOut p f l ms =
     ((l ≤ f) × (ms ≡ []))
     ⊎ ((f < l) × (ms ≡ DelRange (record { lo = block_key p f; hi = Some (block_key p l) }) ∷ []))
 
--- the first block that begins at off or behind it
+-- the first block that begins at or after off
 abbrev pub block_behind : ℕ → ℕ
 block_behind off = (off + 4095) / 4096
 
--- where the part of a hole before its whole blocks ends, and where that behind them begins
+-- the ends of the two parts of a hole around its whole blocks: where the first part ends, and where the second begins
 abbrev pub head_end : ℕ → ℕ → ℕ
 head_end off end = min end (4096 * block_behind off)
 
 abbrev pub tail_start : ℕ → ℕ → ℕ
 tail_start off end = max (head_end off end) (4096 * (end / 4096))
 
--- those that make zeros of bytes off up to end of p
+-- those that set bytes off up to end of p to zero
 pub record IsHole (d : Blocks) (p : Path) (off end : ℕ) (ms : BlockMessages) : Type 0 where
   pub head : BlockMessages
   pub whole : BlockMessages

@@ -1,4 +1,4 @@
-//! The messages that a call is compiled to.
+//! The messages that a call is compiled to, for each of the two indexes. A call that fails or only reads has none.
 ghost use Rattle.std.specs.Prelude.{◌≡◌, [], ◌∷◌, IfOk};
 ghost use Rattle.call_compiler.specs.Compiled.{messages, no_messages};
 ghost use Rattle.call_compiler.specs.Touches.{needed_touches};
@@ -38,7 +38,7 @@ pub(crate) fn refused(alloc: Global, fault: Errno) -> (Reply, Batch)
     without_messages(alloc, Reply::Fault(fault))
 }
 
-/// The result of a call that is done by a message for the metadata and messages for blocks.
+/// The result of a call that succeeds, with a message for the metadata and messages for blocks.
 pub(crate) fn done(
     alloc: Global,
     reply: Reply,
@@ -53,8 +53,8 @@ pub(crate) fn done(
     Ok((reply, Batch { meta, block }))
 }
 
-/// The result of a call that adds an entry to a directory, or removes one, by a message for the metadata and messages for blocks:
-/// it succeeds, and the directory gets the mtime `at`.
+/// The result of a call that adds an entry to a directory, or removes one, with a message for the metadata and messages for
+/// blocks: it succeeds, and the directory gets the mtime `at`.
 pub(crate) fn done_in(
     alloc: Global,
     directory: ParentDir,

@@ -1,4 +1,5 @@
-//! Calls that create an entry: `mkdir` and `create`.
+//! Calls that create an entry: `mkdir` and `create`. Each sends one message, and one for the mtime of the parent unless
+//! that is known to be the call's timestamp.
 ghost use Rattle.std.specs.Prelude.{◌≡◌, IfOk};
 ghost use Rattle.std.specs.Result.{result_err};
 ghost use Rattle.call_compiler.specs.Compiled.{IsCompiled, messages};

@@ -1,4 +1,7 @@
 //! The mtimes of directories: the messages that set them, and whether that of the root is set.
+//!
+//! A call that adds or removes an entry sets the mtime of its directory to its timestamp. The message is left out only
+//! if the directory is known to have that mtime.
 ghost use Rattle.std.specs.Prelude.{◌≡◌, ◌∷◌, [], ◌++◌, IfOk, None, OnOk};
 ghost use Rattle.std.specs.List.{list_any};
 ghost use Rattle.call_compiler.specs.Compiled.{touches, touches_root};

@@ -1,4 +1,4 @@
-//! The length of a file.
+//! Looks up the length of a file.
 ghost use Rattle.std.specs.Prelude.{◌≢◌, ◌≤◌, ◌^◌, [], IfOk};
 ghost use Rattle.call_compiler.specs.Compiled.{MeanTree};
 ghost use Rattle.call_compiler.specs.Measured.{TellsLength};

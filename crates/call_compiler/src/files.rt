@@ -1,4 +1,4 @@
-//! The file that a call names, and its blocks.
+//! Looks up the file that a call names, and deletes its blocks.
 ghost use Rattle.std.specs.Prelude.{◌≡◌, ◌≢◌, ◌≤◌, ◌^◌, ◌==◌, ◌&&◌, [], IfOk, false, length};
 ghost use Rattle.block_index.specs.Means.{blocks};
 ghost use Rattle.block_index.specs.Updates.{means as block_means};
@@ -71,7 +71,7 @@ fn file_of(at: At, directory: Errno) -> Result<FoundFile, Errno>
 {
     match at {
         At::Found(Meta::File { len, modified }) => Ok(FoundFile {
-            // The bound has no effect in a tree: it is for the checker.
+            // The bound has no effect, since no file of a tree is longer; it is for the proof.
             len: len.min(GREATEST_FILE),
             modified,
         }),
@@ -101,8 +101,8 @@ pub(crate) fn without_blocks(
     Ok(msgs)
 }
 
-/// Whether there may be a block in the range, which holds the blocks of a file. A file with bytes is not searched for one: the
-/// search would cost more than a range-delete.
+/// Whether there may be a block in the range, which contains the blocks of a file. A file with bytes is not searched for one:
+/// the search would cost more than a range-delete.
 fn may_have_blocks(
     alloc: Global,
     indexes: &Indexes,

@@ -1,4 +1,6 @@
-//! The indexes of a file system, which a call reads and to which its messages are appended.
+//! The two indexes of a file system, from which a call reads and to which its messages are appended.
+//!
+//! A batch is appended to both indexes or to neither, so they always abstract to the same directory tree.
 ghost use Rattle.std.specs.Prelude.{◌≡◌, [], IfOk, IsTrue, OnErr, OnOk};
 ghost use Rattle.call_compiler.specs.Compiled.{MeanTree, messages};
 ghost use Rattle.call_compiler.specs.Laws.{HaveTaken};

@@ -1,8 +1,8 @@
 //! File calls compiled to their replies and to messages.
 //!
-//! A call reads from the indexes what it needs, and returns a reply and a few messages, which do what the call does once they are
-//! appended. Contracts speak of the directory tree that the indexes mean: the reply is the one that the table of calls gives for
-//! this tree, and after the messages the indexes mean the tree that the table makes of it.
+//! A call reads from the indexes what it needs, and returns its reply and a few messages; appending these to the indexes executes
+//! the call. The indexes abstract to a directory tree: the reply is that of the table of calls for this tree, and after the
+//! messages the indexes abstract to the tree after the call. A call that fails has no messages.
 #![tactic(auto)]
 
 ghost use Rattle.std.specs.Prelude.{IfOk};
@@ -30,8 +30,8 @@ pub use batch::Batch;
 pub use indexes::Indexes;
 pub use reference::{Call, Reply};
 
-/// The reply to a file call at a timestamp, and the messages that do it. It changes nothing, and fails only if an allocation
-/// fails.
+/// The reply to a file call at a timestamp, and the messages that execute it. It changes nothing, and fails only if an
+/// allocation fails.
 pub fn compile(
     alloc: Global,
     indexes: &Indexes,

@@ -1,4 +1,5 @@
-//! Holes: bytes of a file that become zeros, and are not written.
+//! Holes: bytes of a file that become zeros and are not stored. A hole has the effect on the tree of a write of zeros,
+//! and no message of it has more than a block of zeros.
 ghost use Rattle.std.specs.Prelude.{◌≡◌, ◌≢◌, ◌<◌, ◌≤◌, ◌*◌, ◌+◌, ◌/◌, ◌^◌, ◌++◌, [], IfOk, OnOk, replicate};
 ghost use Rattle.block_index.specs.Changed.{Messages as BlockMessages};
 ghost use Rattle.block_index.specs.Means.{blocks};
@@ -20,8 +21,8 @@ use std::alloc::Global;
 /// Sets `count` bytes of a file from the offset on to zero, up to the end of the file: its effect on the tree and its reply are
 /// those of a write of as many zeros. If none is within the file, nothing changes.
 ///
-/// However many they are, it sends at most one range-delete, of the blocks that are entirely among them, two patches, for those
-/// at the ends if they are stored, and the message that sets the file's mtime.
+/// For any count it sends at most one range-delete, of the blocks that are entirely in the range, two patches, for the blocks
+/// at its ends if they are stored, and the message that sets the file's mtime.
 pub fn punch(
     alloc: Global,
     indexes: &Indexes,

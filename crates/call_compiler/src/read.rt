@@ -1,4 +1,4 @@
-//! Calls that only read: `read`, `stat` and `readdir`.
+//! Calls that only read: `read`, `stat` and `readdir`. They send no messages.
 ghost use Rattle.std.specs.Prelude.{◌≡◌, ℕ, IfOk};
 ghost use Rattle.call_compiler.specs.Compiled.{IsCompiled, messages, stat_at};
 ghost use Rattle.meta_index.specs.Means.{lookup_answer};

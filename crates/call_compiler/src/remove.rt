@@ -1,4 +1,5 @@
-//! Calls that remove an entry: `unlink`, `rmdir` and `rmtree`.
+//! Calls that remove an entry: `unlink`, `rmdir` and `rmtree`. A removal sends a constant number of messages: a subtree
+//! is removed by one range-delete in each index.
 ghost use Rattle.std.specs.Prelude.{◌≡◌, [], ◌∷◌, IfOk, not};
 ghost use Rattle.call_compiler.specs.Compiled.{IsCompiled, messages};
 ghost use Rattle.meta_index.specs.Means.{IsMeantBy, lookup_answer};
@@ -94,7 +95,7 @@ pub fn rmtree(
 ) -> Result<(Reply, Batch), NoMemory>
     ensures { IfOk result (λ c. IsCompiled indexes.now (Call.Rmtree path.now) at c.0 (messages c.1)) }
 {
-    // The contract of `key` says that the path is one.
+    // The postcondition of `key` states that the path is valid.
     let _key = path.key();
     let here = indexes.meta.find(alloc, path)?;
     if let Some(fault) = fault_of_taking(path, here) {
@@ -107,7 +108,7 @@ pub fn rmtree(
     done_in(alloc, directory, at, Msg::DelRange(range), block)
 }
 
-/// Why no entry can be removed with everything below it, or moved, where `here` was found; `None` if one can.
+/// Why the entry found at the path cannot be removed with everything below it, or renamed; `None` if it can.
 pub(crate) fn fault_of_taking(path: &Path, here: At) -> Option<Errno>
     ensures { (t : Tree) → here ≡ lookup_answer (entry_at t path.now) → result ≡ first_fault (faults_of_rmtree t path.now) }
 {

@@ -1,4 +1,4 @@
-//! `rename`.
+//! `rename`: re-keys the pairs of a subtree, and replaces what is at the new path.
 ghost use Rattle.std.specs.Prelude.{◌≡◌, ◌≤◌, [], ◌∷◌, ◌++◌, ◌≢◌, IfOk, None, length, not, true};
 ghost use Rattle.call_compiler.specs.Compiled.{IsCompiled, messages, touches};
 ghost use Rattle.call_compiler.specs.Moves.{replaced};
@@ -22,11 +22,11 @@ use reference::{Call, Reply};
 use std::alloc::Global;
 
 /// Moves the entry at `old`, with everything below it, to `new`, where it replaces a file or an empty directory (POSIX.1-2017,
-/// rename). The entry at `old` stays there if both paths are the same.
+/// rename). If both paths are the same, nothing changes.
 ///
 /// Each entry and each block at or below `old` is put under its new key, and then one range-delete in each index removes what was
-/// at or below `old`; the blocks of a file that is replaced are removed before all else, and the mtimes of both directories are
-/// set last. No byte of a file is copied.
+/// at or below `old`; the blocks of a file that is replaced are removed first, and the mtimes of both directories are set last.
+/// No byte of a file is copied.
 pub fn rename(
     alloc: Global,
     indexes: &Indexes,
@@ -36,7 +36,7 @@ pub fn rename(
 ) -> Result<(Reply, Batch), NoMemory>
     ensures { IfOk result (λ c. IsCompiled indexes.now (Call.Rename old.now new.now) at c.0 (messages c.1)) }
 {
-    // The contract of `key` says that both paths are paths.
+    // The postcondition of `key` states that both paths are valid.
     let _old_key = old.key();
     let _new_key = new.key();
     let from = indexes.meta.find(alloc, old)?;
@@ -60,8 +60,8 @@ pub fn rename(
     Ok((Reply::Done, batch))
 }
 
-/// Why `from`, which was found at `old`, cannot be put at `new`, another path, where `to` was found, whatever the length of its
-/// texts; `None` if it can.
+/// Why the entry `from`, found at `old`, cannot be moved to `new`, another path, where `to` was found, whatever the length of
+/// its texts; `None` if it can.
 fn fault_of_place(
     alloc: Global,
     indexes: &Indexes,

@@ -1,4 +1,4 @@
-//! Messages that move everything at or below a path.
+//! Messages that move everything at or below a path: each pair is put under the key that it has below the new path.
 ghost use Rattle.std.specs.Prelude.{◌≡◌, IfOk};
 ghost use Rattle.call_compiler.specs.Moves.{Moves, is_key_too_long};
 ghost use Rattle.node.specs.Meaning.{value as value_at};
@@ -13,7 +13,7 @@ use std::alloc::Global;
 /// The maximum length of a path's text, in bytes, and of its key.
 const LONGEST_TEXT: usize = 1_023;
 
-/// The messages, and after them one `Put` for each pair at or below `old`, in key order, under the key that it has when `old` is
+/// The messages, followed by one `Put` for each pair at or below `old`, in key order, under the key that it has when `old` is
 /// moved to `new`.
 ///
 /// It reads the pairs from the tree in batches, and has no list of all of them besides the messages. A value is shared if its
@@ -32,7 +32,7 @@ pub(crate) fn rekeyed_msgs<U: Update>(
     let mut pieces = Readahead::new(alloc);
     'pairs: while let Some((key, value)) = pieces.first(alloc, tree, &rest)? {
         let Some(moved) = rekey(alloc, &key, old, new)? else {
-            // Does not occur: each key of the range begins with the old path's.
+            // Unreachable, since each key of the range begins with the old path's.
             return Ok(msgs);
         };
         msgs.push(Msg::Put(moved, value))?;

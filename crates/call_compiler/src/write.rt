@@ -1,4 +1,5 @@
-//! Calls that change the bytes of a file: `write` and `truncate`.
+//! Calls that change the bytes of a file: `write` and `truncate`. A write sends one patch for each block that it
+//! overlaps, and at most one message for the metadata.
 ghost use Rattle.std.specs.Prelude.{◌≡◌, ◌≢◌, ◌<◌, ◌≤◌, ◌^◌, [], IfOk, length};
 ghost use Rattle.block_index.specs.Changed.{CutsWhereMeant};
 ghost use Rattle.call_compiler.specs.Compiled.{IsCompiled, growth, has_grown, messages};
@@ -94,7 +95,7 @@ pub fn truncate(
     done(alloc, Reply::Done, set, block)
 }
 
-/// The messages that cut the blocks of a file of `old` bytes to the first `len`; none if it has no more.
+/// The messages that truncate the blocks of a file from `old` bytes to `len`; none if it is not longer.
 fn cut_from(
     alloc: Global,
     index: &BlockIndex,

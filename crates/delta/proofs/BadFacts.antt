@@ -55,7 +55,7 @@ lacks_command text line behind cut whole none c after is e = none c is (same_lin
 
 -- ---- bad lines
 
--- what a delta has behind its first line holds a line feed
+-- the part of a delta after its first line contains a line feed
 reported_has_end : (cs : List Command) → IsLine (text_of (parsed cs)) → ⊥
 reported_has_end [] whole = not_lacking 10 (codes "end") [] whole
 reported_has_end (c ∷ cs) whole = not_lacking 10 (spelled c) (text_of (parsed cs)) whole
@@ -94,7 +94,7 @@ bad_heading text line behind cut whole none = record {
   bad = inl (line, behind, whole, cut, λ more h. let (d, cs, is) = h in none d is.sum (same_line line (heading d) more (text_of (parsed cs)) whole (heading_line d is.sum) is.is).0);
 }
 
--- what goes on behind the first line and commands of a delta
+-- the text after the first line and some commands of a delta
 goes_on : (digest : List ℕ) (cs : List Command) (rest : Text) → IsDigest digest → All IsCommand cs → IsSomeDelta (text_of (heading digest ∷ map spelled cs) ++ rest)
     → (ds : List Command) × All IsCommand ds × (rest ≡ text_of (parsed ds))
 goes_on digest cs rest sum are (d, es, is) =
@@ -143,7 +143,7 @@ bad_other digest cs text behind rest sum first p none no_end = record {
         inl (line, after, whole, cut, λ more h. let (ds, are, e) = goes_on digest cs (line ++ 10 ∷ more) sum p.commands h in no_line ds line after more whole cut are e)
     next (inr whole) = inr (whole, λ h. let (ds, are, e) = goes_on digest cs rest sum p.commands h in reported_has_end ds (subst IsLine e whole))
 
--- the end is next, and more stands behind it
+-- the end line follows, and more text after it
 bad_behind_end : (digest : List ℕ) (cs : List Command) (text behind rest after : Text) → IsDigest digest → text ≡ heading digest ++ 10 ∷ behind → Passes cs behind rest → rest ≡ end_text ++ after
     → after ≢ [] → IsBadAt (length cs + 3) text
 bad_behind_end digest cs text behind rest after sum first p end some = record {

@@ -26,7 +26,7 @@ use Rattle.delta.proofs.WalkFacts.{none_left, some_left}
 
 -- ---- commands that make any lines of any others
 
--- the old lines go, one by one, and the new ones come
+-- the old lines are deleted, one by one, and the new ones are inserted
 abbrev pub whole : List Line → List Line → List Command
 whole [] new = map Come new
 whole (l ∷ old) new = Go 1 ∷ whole old new
@@ -55,7 +55,7 @@ from_free t w = go w.there refl
     go true is = subst (All IsLine) (sym (some_left t w is)) (All-cons IsLine w.line.items (lines_of (left t w)) w.free (lines_free (left t w)))
     go false is = subst (All IsLine) (sym (none_left t w is)) (All-nil IsLine)
 
--- ---- commands of which a beginning was written
+-- ---- commands of which a prefix was written
 
 -- these commands were begun
 pub begun : (cs : List Command) (h i : Option (List ℕ)) (a b x y : LineCursor) → All IsCommand cs → Patches cs a b x y → AppendsPart h i (commands_text cs) → BeginsAll h i a b
@@ -72,7 +72,7 @@ begun cs h i a b x y commands f text = λ t u m k.
 pub begun_none : (h : Option (List ℕ)) (a b : LineCursor) → BeginsAll h h a b
 begun_none h a b = begun [] h h a b a b (All-nil IsCommand) (patches_none a b) (all_is_part h h [] (Appends-nil h))
 
--- the line at which the new walk stands was begun
+-- a prefix of the insertion of the new cursor's line was written
 pub begun_come : (h i : Option (List ℕ)) (a b : LineCursor) → b.there ≡ true → AppendsPart h i (commands_text (Come b.line.items ∷ [])) → BeginsAll h i a b
 begun_come h i a b there text = λ t u m k.
     let l : Line = b.line.items in
@@ -85,7 +85,7 @@ begun_come h i a b there text = λ t u m k.
       all = come_made (l ∷ []) (lines_from t a) new rest (whole_makes (lines_from t a) new) ∙ ap Some (sym (some_left u b there));
     }
 
--- commands were written, and behind them others were begun
+-- commands were written, and after them a prefix of others
 pub begun_then : (cs : List Command) (h i j : Option (List ℕ)) (a b x y : LineCursor) → Puts cs h i a b x y → BeginsAll i j x y → BeginsAll h j a b
 begun_then cs h i j a b x y f more = λ t u m k.
     let g = more t u (mean_at a x t f.patches.old_tree m) (mean_at b y u f.patches.new_tree k) in
@@ -96,7 +96,7 @@ begun_then cs h i j a b x y f more = λ t u m k.
       all = f.patches.patch t u g.list m k g.all;
     }
 
--- ---- commands of which the first were written, each whole
+-- ---- commands of which the first were written, each completely
 
 pub some_put : (cs : List Command) (h i : Option (List ℕ)) (a b x y : LineCursor) → Puts cs h i a b x y → PutsSome h i a b
 some_put cs h i a b x y f = λ t u m k.
@@ -113,7 +113,7 @@ some_put cs h i a b x y f = λ t u m k.
 pub some_none : (h : Option (List ℕ)) (a b : LineCursor) → PutsSome h h a b
 some_none h a b = some_put [] h h a b a b (puts_none h a b)
 
--- the line at which the new walk stands was written
+-- the insertion of the new cursor's line was written
 pub some_come : (h i : Option (List ℕ)) (a b : LineCursor) → b.there ≡ true → Appends h i (commands_text (Come b.line.items ∷ [])) → PutsSome h i a b
 some_come h i a b there text = λ t u m k.
     let l : Line = b.line.items in
@@ -145,7 +145,7 @@ lines_end : (ls : List Line) → EndsLine (text_of ls)
 lines_end [] = inl refl
 lines_end (l ∷ ls) = subst EndsLine (append_assoc l (10 ∷ []) (text_of ls)) (ends_after (l ++ 10 ∷ []) (text_of ls) (inr (l, refl)) (lines_end ls))
 
--- ---- a delta of which a beginning was written
+-- ---- a delta of which a prefix was written
 
 -- its first line was begun, or nothing was written
 pub delta_heading : (h i : Option (List ℕ)) (digest : List ℕ) (t u : Tree) → IsDigest digest → digest ≡ sha256 (image Second t) → AppendsPart h i (text_of (heading digest ∷ [])) → BeginsDelta h i t u
@@ -166,7 +166,7 @@ delta_none h digest t u sum is = delta_heading h h digest t u sum is (part_befor
 pub delta_no_line : (h : Option (List ℕ)) (digest : List ℕ) (t u : Tree) → IsDigest digest → digest ≡ sha256 (image Second t) → BeginsLines h h t u
 delta_no_line h digest t u sum is = let (text, difference, part) = delta_none h digest t u sum is in (text, difference, ([], text, refl, Appends-nil h, inl refl))
 
--- behind the first line
+-- after the first line
 module _ (h i j : Option (List ℕ)) (digest : List ℕ) (a b : LineCursor) (r s : FsRoot) (t u : Tree) (at_a : IsAtStart r a) (at_b : IsAtStart s b) (m : MeanRooted r t) (n : MeanRooted s u)
     (sum : IsDigest digest) (is : digest ≡ sha256 (image Second t)) (first : Appends h i (text_of (heading digest ∷ []))) where
   mean_a : MeanRooted a.printing.tree t

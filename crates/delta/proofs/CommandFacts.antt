@@ -1,4 +1,4 @@
--- What a line tells.
+-- The command on a line.
 use Rattle.std.proofs.Common.{◌≡◌, ◌≢◌, ℕ, ◌^◌, ◌<◌, ◌∷◌, ◌++◌, drop, codes, decimal, sym, ap, ◌∙◌, arith}
 use Rattle.std.proofs.lemmas.List.Elements.{All-drop}
 use Rattle.reference.specs.Image.{Text}

@@ -75,7 +75,7 @@ no_number word n none some small e =
 
 -- ---- digests
 
--- what decoding into room for 32 bytes answers, and what stands there then
+-- the result of decoding into a buffer of 32 bytes, and the contents of the buffer then
 abbrev pub Decodes : List ℕ → Result (Unit {0}) FromHexError → List ℕ → Type 0
 Decodes word r out = MatchResult (decode_sized word 32) (λ bytes. (r ≡ Ok tt) × (out ≡ bytes)) (λ e. r ≡ Err e)
 

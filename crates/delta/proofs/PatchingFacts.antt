@@ -32,7 +32,7 @@ does_go n gone x text size = record { front = []; added = sym (append-nil text);
 pub does_come : (l : Line) (x : List Line) (text : Text) → Does (Come l ∷ []) x text x (text ++ (l ++ 10 ∷ []))
 does_come l x text = record { front = l ∷ []; added = refl; rest = λ ds. refl }
 
--- ---- where no image comes of it
+-- ---- if the result is not an image
 
 pub spoilt_now : (ds : List Command) (x : List Line) (text : Text) → IsSpoilt text → MakesNoImage ds x text
 spoilt_now ds x text (n, bad) lines e = (n, bad (text_of lines))

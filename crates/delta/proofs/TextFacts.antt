@@ -114,9 +114,9 @@ same_digits d e a b same = decode_of-same (encode_lower d) d e (decode_of-encode
 pub same_heading : (d e : List ℕ) → IsDigest d → IsDigest e → heading d ≡ heading e → d ≡ e
 same_heading d e a b same = same_digits d e a b (append_cancel_left (codes "delta 1 ") (encode_lower d) (encode_lower e) same)
 
--- ---- what stands behind commands
+-- ---- the text after commands
 
--- a text that begins with commands, and is all that a delta has behind its first line, goes on with commands and the end
+-- a text that begins with commands, and is the part of a delta after its first line, continues with commands and the end
 pub behind_commands : (cs es : List Command) (rest : Text) → All IsCommand cs → All IsCommand es → text_of (parsed es) ≡ commands_text cs ++ rest
     → (ds : List Command) × All IsCommand ds × (rest ≡ text_of (parsed ds))
 behind_commands [] es rest a b e = (es, b, sym e)
@@ -141,7 +141,7 @@ same_commands (c ∷ cs) (d ∷ es) a b e =
     let more : cs ≡ es = same_commands cs es (All-tail IsCommand c cs a) (All-tail IsCommand d es b) both.1 in
     cc
 
--- a delta tells one digest and one list of commands
+-- a delta has one digest and one list of commands
 pub one_reading : (text : Text) (d e : List ℕ) (cs es : List Command) → IsDelta text d cs → IsDelta text e es → (d ≡ e) × (cs ≡ es)
 one_reading text d e cs es a b =
     let both = same_line (heading d) (heading e) (text_of (parsed cs)) (text_of (parsed es)) (heading_line d a.sum) (heading_line e b.sum) (sym a.is ∙ b.is) in

@@ -16,7 +16,7 @@ use Rattle.delta.proofs.PatchFacts.{lines_cut, lines_whole}
 
 -- ---- pieces
 
--- a piece, and what is left behind it, were left before it
+-- a piece, and what is left after it, were left before it
 pub handed_on : (text : Text) (done n : ℕ) (old new : List ℕ) → HandsOver text done n old new → length new ≡ length old → drop done text ≡ take n new ++ drop (done + n) text
 handed_on text done n old new h size =
     let from : drop done text ≡ take n new ++ h.back = ap (drop done) h.split ∙ subst (λ (k : ℕ). drop k (h.front ++ (take n new ++ h.back)) ≡ take n new ++ h.back) h.at (drop-append_seam h.front (take n new ++ h.back)) in
@@ -28,7 +28,7 @@ handed_on text done n old new h size =
     in
     from ∙ ap (λ b. take n new ++ b) (sym behind)
 
--- behind the last piece nothing is left
+-- after the last piece nothing is left
 pub handed_all : (text : Text) (done n : ℕ) (old new : List ℕ) → HandsOver text done n old new → n ≡ 0 → 0 < length old → drop done text ≡ []
 handed_all text done n old new h none some =
     let from : drop done text ≡ take n new ++ h.back = ap (drop done) h.split ∙ subst (λ (k : ℕ). drop k (h.front ++ (take n new ++ h.back)) ≡ take n new ++ h.back) h.at (drop-append_seam h.front (take n new ++ h.back)) in
@@ -47,7 +47,7 @@ no_items n [] r e size h = refl
 no_items n (x ∷ items) true e size h = absurd (let z : n ≡ 0 = eqb-true n 0 (sym e) in omega arith)
 no_items n (x ∷ items) false e size h = absurd (false≢true (sym h))
 
--- a piece was printed where all before was read
+-- a piece was printed after all before it was read
 pub refilled : (old w : LineCursor) (n k : ℕ) (had new : List ℕ) (more : Bool) → ((t : Tree) → MeanRooted old.printing.tree t → HandsOver (image Second t) old.printing.done n had new)
     → w.printing ≡ record old.printing { done = old.printing.done + n } → length new ≡ length had → w.piece.items ≡ new → w.used ≡ 0 → w.filled ≡ k → (n ≤ length new → k ≡ n)
     → w.line.items ≡ old.line.items → 0 < length had → (more ≡ false → n ≡ 0) → Refills more old w
@@ -68,13 +68,13 @@ refilled old w n k had new more hands on size items used filled whole line some 
         ∙ ap (λ p. take n new ++ drop p.done (image Second t)) on
         ∙ sym (handed_on (image Second t) old.printing.done n had new h size)
 
--- what stands between two places of a piece
+-- the text between two positions of a piece
 pub between : (items : List ℕ) (used filled : ℕ) → used ≤ filled → take (filled - used) (drop used items) ≡ drop used (take filled items)
 between items used filled h =
     let whole : used + (filled - used) ≡ filled = omega arith in
     sym (drop-take used (filled - used) items) ∙ ap (λ (k : ℕ). drop used (take k items)) whole
 
--- what is left of it behind a line
+-- what is left of it after a line
 pub behind_part : (items part behind : List ℕ) (used filled : ℕ) → used ≤ filled → take (filled - used) (drop used items) ≡ part ++ 10 ∷ behind → drop (used + length part + 1) (take filled items) ≡ behind
 behind_part items part behind used filled h cut =
     let here : drop used (take filled items) ≡ (part ++ 10 ∷ []) ++ behind = sym (between items used filled h) ∙ cut ∙ sym (append_assoc part (10 ∷ []) behind) in
@@ -179,7 +179,7 @@ walks_one a b there r = record {
   over = λ t m. ap (λ x. cond x (a.line.items ∷ lines_of (left t a)) []) there ∙ ap (λ ls. a.line.items ∷ ls) (r.next t m);
 }
 
--- behind the last line
+-- after the last line
 pub none_left : (t : Tree) (w : LineCursor) → w.there ≡ false → lines_from t w ≡ []
 none_left t w there = ap (λ x. cond x (w.line.items ∷ lines_of (left t w)) []) there
 
@@ -196,7 +196,7 @@ at_start tree start w same fresh used filled r = record {
       sym (r.next t (subst (λ (x : FsRoot). MeanRooted x t) (sym same) m)) ∙ ap lines_of all;
 }
 
--- a line that is read, where the entry's is noted behind it
+-- a line is read, and the line of its entry is recorded after it
 pub read_noted : (start cleared mid w : LineCursor) → cleared.printing ≡ start.printing → unread cleared ≡ unread start → ReadsLine cleared mid → ((t : Tree) → lines_from t w ≡ lines_from t mid) → SameTree mid w → ReadsLine start w
 read_noted start cleared mid w printing rest r lines same = record {
   same = same ∙ r.same ∙ ap (λ q. q.tree) printing;

@@ -33,8 +33,8 @@ BeginsDelta old new t u = (text : Text) × IsDifference text t u × AppendsPart 
 abbrev pub BeginsLines : Option (List ℕ) → Option (List ℕ) → Tree → Tree → Type 0
 BeginsLines old new t u = (text : Text) × IsDifference text t u × AppendsLines old new text
 
--- the volume means the one tree whose image has the lines that the delta makes of those of a tree's image, without snapshots and
--- marks, in trees of the shape
+-- the volume abstracts to the one tree whose image has the lines that result from applying the delta to those of a tree's image,
+-- without snapshots and marks, in trees of the shape
 pub record Applied (text : Text) (t : Tree) (shape : Shape) (v : PVolume) : Type 0 where
   pub lines : List Line
   pub makes : Makes text (image Second t) lines
@@ -64,7 +64,7 @@ LoadsPatched text t shape v = (cs : List Command) → TellsAll text cs
 abbrev pub PatchesNone : Text → Tree → Type 0
 PatchesNone text t = (cs : List Command) → TellsAll text cs → MakesNoImage cs (lines_of (image Second t)) []
 
--- a command was done, and the loader took what it makes
+-- a command was executed, and the loader accepted its lines
 abbrev pub DoesCommand : Command → List Line → Text → List Line → Shape → ImageLoader → Type 0
 DoesCommand c old text left s l = (has : Text) × Does (c ∷ []) old text left has × Took s has l
 
@@ -74,7 +74,8 @@ DoesAll cs old s l = (lines : List Line) × (patched cs old ≡ Some lines) × T
 
 -- ---- laws
 
--- what a delta of two trees makes of a volume that means the first is one that means the second, moments and all
+-- applying a delta of two trees to a volume that abstracts to the first gives one that abstracts to the second, mtimes
+-- included
 abbrev pub RoundTripLaw : Type 0
 RoundTripLaw = (text : Text) (t u : Tree) (shape : Shape) (v : PVolume) → IsTree t → IsTree u → IsDifference text t u → Applied text t shape v → Means v (alone u)
 

@@ -19,13 +19,14 @@ text_of (l ∷ ls) = l ++ 10 ∷ text_of ls
 
 -- ---- commands
 
--- what is said of the lines of the old image, from the first on: the next so many stay, or go, or this line comes
+-- a command for the lines of the old image, from the first on: the next n lines are copied, or deleted, or this line is
+-- inserted
 pub data Command : Type 0 where
   Stay : ℕ → Command
   Go : ℕ → Command
   Come : Line → Command
 
--- the lines that commands make of these; nothing where they ask for more lines than there are, or leave some
+-- the lines that result from applying commands to these; none if the commands use more lines than there are, or not all
 abbrev pub patched : List Command → List Line → Option (List Line)
 patched [] [] = Some []
 patched [] (l ∷ ls) = None
@@ -45,7 +46,7 @@ spelled (Stay n) = codes "= " ++ decimal n
 spelled (Go n) = codes "- " ++ decimal n
 spelled (Come l) = codes "+ " ++ l
 
--- so many lines stay, or go; where they are none there is no command
+-- n lines are copied, or deleted; for 0 lines there is no command
 abbrev pub run : (ℕ → Command) → ℕ → List Command
 run c n = if n == 0 then [] else c n ∷ []
 
@@ -55,11 +56,11 @@ run c n = if n == 0 then [] else c n ∷ []
 abbrev pub commands_text : List Command → Text
 commands_text cs = text_of (map spelled cs)
 
--- the first line, which tells the digest of the old image
+-- the first line, which has the digest of the old image
 abbrev pub heading : List ℕ → Line
 heading digest = codes "delta 1 " ++ encode_lower digest
 
--- the lines behind it: those of the commands, and the last
+-- the lines after it: those of the commands, and the last
 abbrev pub parsed : List Command → List Line
 parsed cs = map spelled cs ++ codes "end" ∷ []
 
@@ -68,7 +69,7 @@ pub record IsDigest (digest : List ℕ) : Type 0 where
   pub size : length digest ≡ 32
   pub bytes : IsBytes digest
 
--- the text tells this digest and these commands
+-- the text has this digest and these commands
 pub record IsDelta (text : Text) (digest : List ℕ) (cs : List Command) : Type 0 where
   pub sum : IsDigest digest
   pub commands : All IsCommand cs

@@ -23,6 +23,6 @@ pub record IsDoing (cs : List Command) (old : List Line) (rest : Text) (left : L
 abbrev pub IsSpoilt : Text → Type 0
 IsSpoilt text = (n : ℕ) × ((rest : Text) → IsBadImageAt n (text ++ rest))
 
--- what the commands make of the lines is no image behind a text, if they make something
+-- the result of the commands, if there is one, is not an image after the text
 abbrev pub MakesNoImage : List Command → List Line → Text → Type 0
 MakesNoImage cs old done = (lines : List Line) → patched cs old ≡ Some lines → (n : ℕ) × IsBadImageAt n (done ++ text_of lines)

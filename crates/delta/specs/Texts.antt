@@ -11,31 +11,31 @@ command_of (StayTold n) line = Stay n
 command_of (GoTold n) line = Go n
 command_of ComeTold line = Come (drop 2 line)
 
--- the line tells no command
+-- the line is not a command
 abbrev pub TellsNone : Line → Type 0
 TellsNone line = (c : Command) → IsCommand c → line ≢ spelled c
 
--- it tells this one
+-- it is this command
 pub record Tells (line : Line) (c : Command) : Type 0 where
   pub command : IsCommand c
   pub is : line ≡ spelled c
 
--- the text goes on with the line of a command, and with this text behind it
+-- the text continues with the line of a command, and this text after it
 pub record IsNext (text line : Text) (t : DeltaCommand) (behind : Text) : Type 0 where
   pub cut : text ≡ line ++ 10 ∷ behind
   pub whole : IsLine line
   pub tells : Tells line (command_of t line)
 
--- it does not go on with a command
+-- it does not continue with a command
 abbrev pub HasNoCommand : Text → Type 0
 HasNoCommand text = (c : Command) (behind : Text) → IsCommand c → text ≢ spelled c ++ 10 ∷ behind
 
--- it goes on with these commands, and with this text behind them
+-- it continues with these commands, and this text after them
 pub record Passes (cs : List Command) (text rest : Text) : Type 0 where
   pub commands : All IsCommand cs
   pub cut : text ≡ commands_text cs ++ rest
 
--- what stands behind the commands
+-- the text after the commands
 abbrev pub end_text : Text
 end_text = text_of (codes "end" ∷ [])
 
@@ -45,17 +45,18 @@ pub record NoEnd (text : Text) (number bad : ℕ) : Type 0 where
   pub first : bad ≢ number → (bad ≡ number + 1) × ((behind : Text) × (text ≡ end_text ++ behind))
   pub second : bad ≡ number → (behind : Text) → text ≢ end_text ++ behind
 
--- the text has these commands, and the end behind them
+-- the text has these commands, and the end after them
 pub record TellsAll (text : Text) (cs : List Command) : Type 0 where
   pub commands : All IsCommand cs
   pub is : text ≡ text_of (parsed cs)
 
--- the text is a delta that tells this digest and these commands, and this is all behind its first line
+-- the text is a delta with this digest and these commands, and this is the part after its first line
 pub record ReadsDelta (text digest behind : Text) (cs : List Command) : Type 0 where
   pub is : IsDelta text digest cs
   pub rest : behind ≡ text_of (parsed cs)
 
--- behind these lines of the text stands one with which no delta begins; or none stands there, and the text is no delta
+-- after these lines of the text there is one with which no delta continues; or there is no line, and the text is not a
+-- delta
 abbrev pub IsBadBehind : List Line → Text → Type 0
 IsBadBehind front rest =
     ((line after : Text) × IsLine line × (rest ≡ line ++ 10 ∷ after) × ((more : Text) → IsSomeDelta (text_of front ++ (line ++ 10 ∷ more)) → ⊥))

@@ -18,7 +18,7 @@ unread w = drop w.used (take w.filled w.piece.items)
 abbrev pub left : Tree → LineCursor → Text
 left t w = unread w ++ drop w.printing.done (image Second t)
 
--- the lines of the image from the one at which the walk stands
+-- the lines of the image from the cursor's line on
 abbrev pub lines_from : Tree → LineCursor → List Line
 lines_from t w = cond w.there (w.line.items ∷ lines_of (left t w)) []
 
@@ -26,19 +26,19 @@ lines_from t w = cond w.there (w.line.items ∷ lines_of (left t w)) []
 abbrev pub SameTree : LineCursor → LineCursor → Type 0
 SameTree old new = new.printing.tree ≡ old.printing.tree
 
--- it went over these lines
+-- it passed these lines
 pub record Walks (lines : List Line) (old new : LineCursor) : Type 0 where
   pub same : SameTree old new
   pub over : (t : Tree) → MeanRooted old.printing.tree t → lines_from t old ≡ lines ++ lines_from t new
 
--- it stands at the first line of the image
+-- it is at the first line of the image
 pub record IsAtStart (tree : FsRoot) (w : LineCursor) : Type 0 where
   pub same : w.printing.tree ≡ tree
   pub all : (t : Tree) → MeanRooted tree t → lines_from t w ≡ lines_of (image Second t)
 
 -- ---- within a line
 
--- the line went on up to its end, or to the end of what was printed
+-- the line was continued up to its end, or to the end of what was printed
 abbrev pub Cuts : Bool → Text → Text → Text → Type 0
 Cuts true had part has = had ≡ part ++ 10 ∷ has
 Cuts false had part has = (had ≡ part) × (has ≡ [])
@@ -56,7 +56,7 @@ pub record Refills (more : Bool) (old new : LineCursor) : Type 0 where
   pub next : (t : Tree) → MeanRooted old.printing.tree t → left t new ≡ drop old.printing.done (image Second t)
   pub end : (t : Tree) → MeanRooted old.printing.tree t → more ≡ false → left t new ≡ []
 
--- the line that comes next was read, and the walk stands at it
+-- the next line was read, and is the cursor's line
 pub record ReadsLine (old new : LineCursor) : Type 0 where
   pub same : SameTree old new
   pub next : (t : Tree) → MeanRooted old.printing.tree t → lines_of (left t old) ≡ lines_from t new
@@ -89,7 +89,7 @@ pub record Begins (had has : Option (List ℕ)) (old new : LineCursor) (t u : Tr
   pub text : AppendsPart had has (commands_text list)
   pub all : patched list (lines_from t old) ≡ Some (lines_from u new)
 
--- whichever trees the walks go through
+-- whichever trees the cursors read
 abbrev pub BeginsAll : Option (List ℕ) → Option (List ℕ) → LineCursor → LineCursor → Type 0
 BeginsAll had has old new = (t u : Tree) → MeanRooted old.printing.tree t → MeanRooted new.printing.tree u → Begins had has old new t u
 
@@ -101,6 +101,6 @@ pub record PutsFirst (had has : Option (List ℕ)) (old new : LineCursor) (t u :
   pub text : Appends had has (commands_text done)
   pub all : patched (done ++ more) (lines_from t old) ≡ Some (lines_from u new)
 
--- whichever trees the walks go through
+-- whichever trees the cursors read
 abbrev pub PutsSome : Option (List ℕ) → Option (List ℕ) → LineCursor → LineCursor → Type 0
 PutsSome had has old new = (t u : Tree) → MeanRooted old.printing.tree t → MeanRooted new.printing.tree u → PutsFirst had has old new t u

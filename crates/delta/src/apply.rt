@@ -1,4 +1,6 @@
 //! Applies a delta to a volume. The new image is made from the old one line by line, and loaded at the same time.
+//!
+//! If the delta is not valid, is one of another tree, or its result is not an image, the volume is unchanged.
 ghost use Rattle.std.specs.Prelude.{◌≡◌, ◌≢◌, ℕ, Err, IfOk, OnErr, OnOk};
 ghost use Rattle.reference.specs.Worlds.{World};
 ghost use Rattle.volume.specs.Volumes.{Means};

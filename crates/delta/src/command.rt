@@ -1,5 +1,7 @@
 //! The lines of a delta that are commands: the given number of lines of the old image are copied or deleted, or a line is
-//! inserted.
+//! inserted. `docs/FORMATS.md` has their format.
+//!
+//! A line is at most one command, and each command has one line.
 ghost use Rattle.std.specs.Prelude.{◌≡◌, ◌≢◌, ◌∷◌, [], ◌<◌, ◌^◌, ℕ, MatchOption, OnErr, OnOk, decimal};
 ghost use Rattle.std.specs.Io.KnownBytes.{Appends};
 ghost use Rattle.textio.specs.Parts.{AppendsPart};

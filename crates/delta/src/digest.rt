@@ -1,4 +1,5 @@
-//! The digest of an image, which is in the first line of a delta.
+//! The digest of an image, which is in the first line of a delta: a delta is applied only to the tree whose image has
+//! this digest.
 ghost use Rattle.std.specs.Prelude.{◌≡◌, ◌<◌, IfOk, length};
 ghost use Rattle.reference.specs.Image.{Second, image};
 ghost use Rattle.reference.specs.Tree.{Tree};
@@ -32,7 +33,7 @@ pub fn image_digest(alloc: Global, frozen: Frozen) -> Result<[u8; 32], NoMemory>
     digest
 }
 
-// Computes the digest of an image of which nothing was printed yet. The image is printed in pieces into the buffer.
+// Computes the digest of an image from its beginning. The image is printed in pieces into the buffer.
 fn digest_of(
     alloc: Global,
     printing: &mut ImagePrinter,

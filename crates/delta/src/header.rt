@@ -1,4 +1,5 @@
-//! The first line of a delta, which has the digest of the old image.
+//! The first line of a delta, which has the SHA-256 digest of the old image in hexadecimal (`docs/FORMATS.md`). Any
+//! other first line is not valid.
 ghost use Rattle.std.specs.Prelude.{◌≡◌, ◌≢◌, ◌∷◌, [], List, ℕ, MatchOption, OnErr, OnOk};
 ghost use Rattle.std.specs.Io.KnownBytes.{Appends};
 ghost use Rattle.textio.specs.Parts.{AppendsPart};

@@ -1,4 +1,8 @@
 //! The difference of two trees as text, and its application. A delta says how the lines of one image become those of another.
+//! `docs/FORMATS.md` has the format of deltas.
+//!
+//! A delta is valid for a tree if its first line has the digest of the tree's image, its commands use exactly the lines of
+//! that image, and its result is an image. Applying the delta of two trees to the first gives the second.
 #![tactic(auto)]
 
 pub mod apply;

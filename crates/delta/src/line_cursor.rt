@@ -1,4 +1,7 @@
 //! Reads the image of a tree line by line, as it is printed.
+//!
+//! The current line, the printed bytes that were not read yet, and the rest of the printer's image are together the
+//! lines from the cursor on.
 ghost use Rattle.std.specs.Prelude.{◌≡◌, ◌≢◌, ◌<◌, ◌≤◌, All, length};
 
 use images::ImagePrinter;
@@ -90,7 +93,7 @@ impl LineCursor {
         self.read(alloc)
     }
 
-    // Reads the next line, which may come in several pieces.
+    // Reads the next line, which may be printed in several pieces.
     fn read(&mut self, alloc: Global) -> Result<(), NoMemory>
         ensures { OnOk result (ReadsLine self.old self.new) }
     {

@@ -1,4 +1,5 @@
-//! Executes the commands of a delta on the lines of an image.
+//! Executes the commands of a delta on the lines of an image. Each line of the old image is copied or deleted exactly
+//! once, in order.
 ghost use Rattle.std.specs.Prelude.{◌≡◌, ◌≢◌, ◌⊎◌, ◌↔◌, ◌<◌, ◌++◌, ◌∷◌, [], ℕ, List, Err, IfErr, IfOk, OnOk, length};
 ghost use Rattle.images.specs.Taken.{IsFresh, Took};
 ghost use Rattle.node.specs.declared.shape.Shape.{Shape};

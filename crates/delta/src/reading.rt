@@ -1,4 +1,8 @@
 //! Parses a delta to its end before anything is changed: its digest and its commands, or the number of its first bad line.
+//! `docs/FORMATS.md` has the format.
+//!
+//! A line is bad if no delta continues the lines before it with that line. A text has at most one digest and one list of
+//! commands.
 ghost use Rattle.std.specs.Prelude.{◌≡◌, ◌+◌, ◌<◌, ◌^◌, List, MatchOption, MatchResult, length};
 ghost use Rattle.delta.specs.Deltas.{Command};
 ghost use Rattle.delta.specs.Texts.{HasNoCommand, IsBadAt, IsNext, NoEnd, Passes, ReadsDelta, end_text};

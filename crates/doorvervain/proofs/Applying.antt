@@ -1,4 +1,4 @@
--- What is told of a difference that was applied, or was not.
+-- The reported outcome of applying a difference.
 use Rattle.std.proofs.Common.{◌≡◌, ℕ, zero, suc, ◌+◌, List, length, Result, Ok, Err, IfOk, IfErr, OnOk, OnErr, refl, sym, ap, subst, subst₂, arith}
 use Rattle.delta.specs.Applies.{IsOfOther, SpoilsImage}
 use Rattle.delta.specs.Texts.{IsBadAt}
@@ -22,7 +22,7 @@ not_applied text t OtherTree e line bad other spoils reported = subst₂ (NotApp
 not_applied text t NoImage e line bad other spoils reported = subst₂ (NotApplied text t) (sym reported.0) (sym reported.1) (spoils refl)
 
 module _ (outcome : Result (Unit {0}) DeltaFault) (reported : Result (Unit {0}) Errno) (line : ℕ) (answer : DeltaReported outcome reported line) where
-  -- what was done is told
+  -- a success is reported
   pub reported_done : (P : Type 0) → OnOk outcome P → IfOk reported (λ _. P)
   reported_done P done = go outcome answer done
     where
@@ -38,7 +38,7 @@ module _ (outcome : Result (Unit {0}) DeltaFault) (reported : Result (Unit {0}) 
       go (Ok x) h = subst (λ (r : Result (Unit {0}) Errno). IfOk r (λ _. line ≡ 0)) (sym h.0) h.1
       go (Err f) (e, is, fault) = subst (λ (r : Result (Unit {0}) Errno). IfOk r (λ _. line ≡ 0)) (sym is) tt
 
-  -- what holds of a refusal
+  -- what is known of a failure
   pub reported_kept : (P : Type 0) → OnErr outcome P → IfErr reported (λ _. P)
   reported_kept P kept = go outcome answer kept
     where
@@ -46,7 +46,7 @@ module _ (outcome : Result (Unit {0}) DeltaFault) (reported : Result (Unit {0}) 
       go (Ok x) h p = subst (λ (r : Result (Unit {0}) Errno). IfErr r (λ _. P)) (sym h.0) tt
       go (Err f) (e, is, fault) p = subst (λ (r : Result (Unit {0}) Errno). IfErr r (λ _. P)) (sym is) p
 
-  -- why it was refused
+  -- why it failed
   pub reported_refused : (text : List ℕ) (t : Tree) → ((n : ℕ) → outcome ≡ Err (Bad n) → IsBadAt n text) → (outcome ≡ Err OtherTree → IsOfOther text t) → (outcome ≡ Err NoImage → SpoilsImage text t)
       → IfErr reported (λ e. NotApplied text t e line)
   reported_refused text t bad other spoils = go outcome answer bad other spoils

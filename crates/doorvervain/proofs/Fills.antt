@@ -1,4 +1,5 @@
--- A handle is put where C takes one: the pointer is written, and what lies there is owned by the place from then on.
+-- Filling an out-parameter with a handle: the pointer is written, and from then on the out-parameter owns the value at
+-- the pointer.
 use Rattle.doorvervain.proofs.Steps.{◌≡◌, List, [], ◌∷◌, ◌++◌, refl, sym, subst, full_share, SProp, ent, id⊢, never, fst∗, Fml, ftrue, fsep, flft, named, bare, Fn, ty_ptr, Val, vptr, vunit, vstruct, of_list, WpFn, fact, Logic, sem, ‵, ◌⊛◌, ◌$◌, ◌∵◌, !, qed, move, keep, drop, split, join, fsplit, fsplit3, fjoin, fjoin3, feq_i, feq_l, fpick, fpack, rewrite, suffices, use1, done, whole, sub, store_in, enter, stop, fld, of_opd, assigns, unit_lit, returns, alloc_all, pass_all, free_all, look_at, get, get_in, through, sets, tables, yes, shows, cell_at, lone, Valss, within, RattleType, Ptr, RawPtr, block_ptr, null_ptr, ptr_val, in_a_block, MutRef, Slot, plain, mut_ref_to, nothing, opens, closes, peeks, says, Ended, Stays, stay_ref, stay_dropped, walk_of, ends_at, Goes-ref, Goes-dropped, proved_at, Some, box_owns, Global, Ura}
 use mir.Syntax.{Local, Body, Callee, ty_unit, ty_ref, mut, local, value_local, place, deref, field, copy, rv_opd, opd_unit, assign, seq, return}
 use base.Logic.{emp}
@@ -74,14 +75,14 @@ module _ (S : Out) where
         peeks ! Heap _ (shows 𝓛 Heap) p.alloc vss.1.0 (λ is_heap. let eh = heap.lowers.val_is p.alloc vss.1.0 is_heap in move ! (2 ∷ []) $
         in_a_block ! p.ptr (λ at. box_owns (ghosts.dealloc_token p.alloc) X at p.value) (fst∗ 𝓤 (never 𝓤) (sem 𝓛 (ghosts.dealloc_token p.alloc (bare (lone X.mir)) null_ptr))) (λ b' o' e.
         keep ! (0 ∷ 4 ∷ 5 ∷ 6 ∷ []) $
-        -- [what lies at the pointer; the name's value; the borrow; the token]
+        -- [the value at the pointer; the name's value; the borrow; the token]
         let w : Val = vstruct (of_list (vptr b' o' ∷ heap.lowers.lowered p.alloc ∷ [])) in
         let spelled : vs ≡ w ∷ [] = subst (λ (at : Ptr). vs ≡ vstruct (of_list (ptr_val at ∷ heap.lowers.lowered p.alloc ∷ [])) ∷ []) e
         (subst (λ (ws : List Val). vs ≡ vstruct (of_list (ptr_val p.ptr ∷ (ws ++ []))) ∷ []) eh (subst (λ (ps : List Val). vs ≡ vstruct (of_list (ps ++ (vss.1.0 ++ []))) ∷ []) ep ev)) in
         suffices ! (Run (vptr b o ∷ w ∷ [])) (subst (λ (ws : List Val). ent 𝓤 (Run (vptr b o ∷ w ∷ [])) (Run ws)) (sym (λ i. at_place i ++ (spelled i ++ []))) (id⊢ 𝓤 (Run (vptr b o ∷ w ∷ [])))) $
         enter ! 𝓣.C 𝓣.Λ function (vptr b o ∷ w ∷ []) Post $ alloc_all ! (λ l. pass_all ! refl ((tt, tt), ((tt, (tt, (((tt, tt), tt), tt))), tt)) $
         move ! (1 ∷ 2 ∷ 3 ∷ []) $ opens ! tt R b o (λ ws.
-        -- [the place's cell; what it owned; the open borrow, in three entries; what lies at the pointer]
+        -- [the out-parameter's cell; what it owned; the open borrow, in three entries; the value at the pointer]
         move ! (1 ∷ []) $ peeks ! R _ (shows 𝓛 R) h ws (λ is. drop ! $ rewrite ! 0 (λ (zs : List Val). ‵ (cell_at full_share R.mir zs b o)) (word_is P (given_at X) h ws is) refl $
         sets ! (of_opd ! (get_in ! (fld ! refl (stop !)) (sub ! 0 refl (whole !)))) refl (tt, tt) $
         sets ! (of_opd ! (get ! refl)) refl (tt, tt) $

@@ -1,4 +1,4 @@
--- What is told of a value that was handed out, and of an image that was not loaded.
+-- The reported outcome of handing out a value, and of an image that was not loaded.
 use Rattle.std.proofs.Common.{◌≡◌, ◌≢◌, ◌↔◌, ℕ, zero, suc, false, List, Result, Ok, Err, Option, IfOk, IfErr, MatchResult, refl, sym, ap, subst, subst₂, ◌∙◌, inl, inr, arith}
 use Rattle.images.specs.declared.load.LoadFault.{LoadFault}
 use Rattle.images.specs.declared.load.LoadFault.TheVariants.{Shape as BadShape, Bad, Memory, Read}
@@ -32,7 +32,7 @@ both_of P Q (Err e) p q = tt
 -- ---- what was made, and is handed out
 
 module _ {X : Type 0} (made : Result X Errno) (outcome : Result (Unit {0}) Errno) (given : Option X) where
-  -- what is told is what was made of it
+  -- the reported outcome is that of making it
   pub reported_out : (e : Errno) → HandsOut made outcome given → made ≡ Err e → outcome ≡ Err e
   reported_out e h is = subst (λ (m : Result X Errno). HandsOut m outcome given) is h
 
@@ -42,21 +42,21 @@ given_out P (Ok x) (Ok u) given h p = record { value = x; is = h.done; holds = p
 given_out P (Ok x) (Err e) given h p = tt
 given_out P (Err e) outcome given h p = subst (λ (o : Result (Unit {0}) Errno). IfOk o (λ _. Given P given)) (sym h) tt
 
--- where it is done, something was made
+-- if it succeeds, something was made
 pub done_out : {X : Type 0} (Q : Type 0) (made : Result X Errno) (outcome : Result (Unit {0}) Errno) (given : Option X)
     → HandsOut made outcome given → IfOk made (λ _. Q) → IfOk outcome (λ _. Q)
 done_out Q (Ok x) (Ok u) given h q = q
 done_out Q (Ok x) (Err e) given h q = tt
 done_out Q (Err e) outcome given h q = subst (λ (o : Result (Unit {0}) Errno). IfOk o (λ _. Q)) (sym h) tt
 
--- a refusal is that of what was not made, or want of memory
+-- a failure is that of making it, or ENOMEM
 pub refused_out : {X : Type 0} (Q : Errno → Type 0) (made : Result X Errno) (outcome : Result (Unit {0}) Errno) (given : Option X)
     → HandsOut made outcome given → IfErr made Q → IfOk made (λ _. Q ENOMEM) → IfErr outcome Q
 refused_out Q (Ok x) (Ok u) given h q m = tt
 refused_out Q (Ok x) (Err e) given h q m = subst Q (sym h.refused) m
 refused_out Q (Err e) outcome given h q m = subst (λ (o : Result (Unit {0}) Errno). IfErr o Q) (sym h) q
 
--- EINVAL is told exactly where it was not made for it
+-- EINVAL is reported exactly if making it failed with EINVAL
 made_refused : {X : Type 0} (made : Result X Errno) (outcome : Result (Unit {0}) Errno) (given : Option X)
     → HandsOut made outcome given → outcome ≡ Err EINVAL → made ≡ Err EINVAL
 made_refused (Ok x) (Ok u) given h is = (cc)
@@ -84,14 +84,14 @@ not_loaded shape text Read e line bad unfit reported = subst₂ (NotLoaded shape
 pub shape_not_loaded : (fault : LoadFault) (e : Errno) (line : ℕ) → fault ≡ BadShape → FaultReported fault e line → (e ≡ EINVAL) × (line ≡ 0)
 shape_not_loaded fault e line is reported = subst (λ (f : LoadFault). FaultReported f e line) is reported
 
--- of a volume that was made, memory may be refused behind it
+-- after a volume was made, an allocation may fail
 pub memory_reported : {X : Type 0} (shape : Shape) (text : List ℕ) (made : Result X Errno) (line : ℕ) → IfOk made (λ _. line ≡ 0) → IfOk made (λ _. NotLoaded shape text ENOMEM line)
 memory_reported shape text (Ok x) line is = subst (NotLoaded shape text ENOMEM) (sym is) tt
 memory_reported shape text (Err e) line is = tt
 
--- ---- the answer of a load, as it is told
+-- ---- the reported result of a load
 
--- what was made is told
+-- the value that was made is reported
 pub answer_ok : {X : Type 0} (P : X → Type 0) (made : Result X LoadFault) (reported : Result X Errno) (line : ℕ) → AnswerReported made reported line → IfOk made P → IfOk reported P
 answer_ok P (Ok x) reported line h p = subst (λ (r : Result _ Errno). IfOk r P) (sym h.0) p
 answer_ok P (Err f) reported line (e, is, fault) p = subst (λ (r : Result _ Errno). IfOk r P) (sym is) tt
@@ -131,7 +131,7 @@ answer_no_image text (Err f) reported line (e, is, fault) bad fits =
     subst (λ (r : Result _ Errno). IfErr r (λ d. NoImage text d line)) (sym is)
     (no_image text f e line (λ n b. bad n (ap Err b)) (λ b. fits (ap Err b)) fault)
 
--- where it is handed out memory may be refused
+-- handing it out may fail with ENOMEM
 pub memory_no_image : {X : Type 0} (text : List ℕ) (made : Result X Errno) (line : ℕ) → IfOk made (λ _. line ≡ 0) → IfOk made (λ _. NoImage text ENOMEM line)
 memory_no_image text (Ok x) line is = subst (NoImage text ENOMEM) (sym is) tt
 memory_no_image text (Err e) line is = tt

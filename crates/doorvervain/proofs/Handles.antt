@@ -1,4 +1,4 @@
--- A struct of one pointer and one ghost field that says what lies there, as C has a handle or a place for one.
+-- A struct of one pointer and one ghost field for the value at the pointer: the C form of a handle or an out-parameter.
 use Rattle.doorvervain.proofs.Steps.{◌≡◌, List, [], ◌∷◌, ap, Ptr, Val, vstruct, of_list, ptr_val, RattleType, Fml, fsep, Struct}
 use Rattle.std.specs.Prelude.{Option}
 use base.Stored.{Coded}
@@ -10,7 +10,7 @@ use denote.Struct.Owning.{Owning, owning, row, shape}
 use denote.Struct.OwningLaws.{Tells-lowered}
 use denote.Struct.Record.{Record, Also, Done}
 
--- the struct, and its values by their two fields, of which the second is a G
+-- the struct, and its values by their two fields, the second of type G
 pub record Pointing (G : Type 0) : Type 2 where
   pub name : Sym
   pub D : Type 0
@@ -38,7 +38,7 @@ module _ {G : Type 0} (P : Pointing G) where
     beta = P.beta;
   }
 
-  -- the struct where it owns what `heap` says of its fields
+  -- the struct if it owns what `heap` says of its fields
   abbrev pub type_of : (Ptr → G → Fml) → Owning
   type_of heap = owning struct P.codes (λ d. heap (P.at d) (P.held d))
 

@@ -1,4 +1,4 @@
--- A handle is taken apart: the pointer is kept, and what lies there goes with it.
+-- Turning a handle into its raw parts: the pointer is kept, together with the value that it owns.
 use Rattle.doorvervain.proofs.Steps.{◌≡◌, List, [], ◌∷◌, refl, id⊢, ftrue, fsep, Fn, ty_ptr, Val, vstruct, of_list, has_ty, fact, tables, ‵, ◌⊛◌, ◌$◌, ◌∵◌, !, qed, move, keep, drop, join, split, fsplit, fjoin, fpick, fpack, feq_i, suffices, use1, done, whole, sub, agg, enter, stop, fld, of_opd, and_then, no_more, returns, alloc_all, pass_all, free_all, look_at, get, get_in, sets, yes, lone, Valss, RattleType, RawPtr, ptr_val, Slot, plain, nothing, within, says, Ended, Stays, stay_dropped, walk_of, ends_at, Goes-dropped, proved, Logic, Ura}
 use mir.Syntax.{Local, Body, Callee, local, value_local, place, field, copy, rv_opd, aggregate, assign, seq, return}
 use base.Logic.{emp}
@@ -69,14 +69,14 @@ module _ (S : Handle) where
         let last : Val = vstruct (of_list (ptr_val (P.at h) ∷ heap.lowers.lowered alloc ∷ [])) in
         qed 𝓛 ((‵ ftrue ⊛ ‵ (fsep (R.own_val h us) (fsep (Heap.own_val alloc vs) ftrue))) ∷ ‵ ftrue ∷ []) ∵
         split ! $ drop ! $ fsplit ! $ fsplit ! $ drop ! $ fpick ! (λ other.
-        -- [what lies at the pointer; the heap]
+        -- [the value at the pointer; the heap]
         move ! (1 ∷ []) $ fsplit ! $ keep ! (2 ∷ 0 ∷ []) $
         let good = ptr_good (P.at h) in let one = and_true (has_ty ty_ptr (ptr_val (P.at h))) good.0 in
         enter ! _ _ _ _ _ $ alloc_all ! (λ l. pass_all ! refl ((one, (good.1, tt)), ((tt, ((tt, tt), tt)), tt)) $
         sets ! (of_opd ! (get_in ! (fld ! refl (stop !)) (sub ! 0 refl (whole !)))) refl good $ sets ! (of_opd ! (get ! refl)) refl good $
         sets ! (agg ! (and_then ! (get ! refl) (and_then ! (get ! refl) (no_more !)))) refl (one, (good.1, (((tt, tt), tt), tt))) $
         returns ! (look_at ! 0 refl) $ free_all ! refl $
-        -- [what lies at the pointer; the heap]: the parts own both
+        -- [the value at the pointer; the heap]: the parts own both
         nothing ! $ move ! (2 ∷ 0 ∷ []) $ fjoin ! $ feq_i ! (List Val) (ptr_val (P.at h) ∷ []) (ptr_val (P.at h) ∷ []) refl $ fjoin ! $ feq_i ! (List Val) (last ∷ []) (last ∷ []) refl $ fjoin ! $
         fpack ! (Valss (RawPtr ∷ Heap ∷ [])) (within (shape (parts.the_type X Heap ghosts)) (P.at h, (alloc, tt)) (last ∷ [])) (ptr_val (P.at h) ∷ [], (vs, tt)) $ fjoin ! $
         use1 𝓛 (‵ (To.own_val made (last ∷ []))) (id⊢ 𝓤 _) $

@@ -1,4 +1,4 @@
--- A handle lends the value that lies at its pointer.
+-- A handle lends the value at its pointer.
 use Rattle.doorvervain.proofs.Steps.{◌≡◌, List, [], ◌∷◌, refl, sym, ap, ◌∙◌, full_share, never, fst∗, sep, GName, ftrue, flft, Fn, named, ty_ptr, bare, Val, vptr, fact, tables, Logic, sem, ‵, ◌⊛◌, some, later, at_ret, ◌$◌, ◌∵◌, !, qed, move, keep, drop, use1, split, split3, pick, fsplit, fsplit3, fjoin, join, fpick, await, rewrite, suffices, frame, group, done, whole, sub, look_in, enter, of_opd, addr, load, stop, fld, first, blocks, exec, returns, alloc_all, pass_all, free_all, look_at, get, through, sets, sets_last, env, no, shows, cell_at, lone, RattleType, Ptr, null_ptr, in_a_block, MutRef, mut_vals, mut_Tells, plain, nothing, opens, peeks, Ended, Stays, walk_of, says, stay_dropped, ends_at, Goes-spent_ref, proved, mut_ref_to, box_owns, Struct, Ura, follows, lends_Part, after}
 use mir.Syntax.{Local, Body, Callee, ty_ref, erased, mut, local, value_local, place, deref, field, copy, rv_opd, addr_of, assign, seq, block, return}
 use base.Logic.{emp}

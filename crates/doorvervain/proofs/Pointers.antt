@@ -1,4 +1,4 @@
--- What is known of the pointer of a handle, and of a handle whose value comes back from a borrow.
+-- Facts about the pointer of a handle, and about a handle whose borrow ends.
 use Rattle.doorvervain.proofs.Steps.{◌≡◌, ℕ, List, [], ◌∷◌, refl, sym, lit<, T, Bool, true, false, ◌&&◌, ty_ptr, Val, has_ty, WT, Ptr, block_ptr, null_ptr, ptr_val, Ura, Logic, RattleType, Fml, Global, fsep, full_share, cell_at, bare, lone, part_at, mem, box_owns, sem, sep, ent, ‵, ◌$◌, ◌∵◌, !, qed, move, fsplit, fjoin, fpack, rewrite, done}
 use denote.Memory.{part_of}
 use Rattle.std.specs.contracts.impls.GlobalAllocator.TheImpl.{ghosts}

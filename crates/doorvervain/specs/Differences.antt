@@ -1,4 +1,4 @@
--- What the exports of differences tell.
+-- What the exports of differences report.
 use Rattle.std.specs.Prelude.{◌≡◌, ℕ, zero, suc, ⊤, List, Result, Ok, Err}
 use Rattle.delta.specs.Applies.{IsOfOther, SpoilsImage}
 use Rattle.delta.specs.Texts.{IsBadAt}
@@ -8,14 +8,14 @@ use Rattle.pathkey.specs.declared.errno.Errno.{Errno}
 use Rattle.pathkey.specs.declared.errno.Errno.TheVariants.{EINVAL, ENOENT, ENOMEM}
 use Rattle.reference.specs.Tree.{Tree}
 
--- the refusal and the line that tell why a difference was not applied
+-- the error and the line that report why a difference was not applied
 abbrev pub DeltaFaultReported : DeltaFault → Errno → ℕ → Type 0
 DeltaFaultReported Memory e line = (e ≡ ENOMEM) × (line ≡ 0)
 DeltaFaultReported (Bad n) e line = (e ≡ EINVAL) × (line ≡ n)
 DeltaFaultReported OtherTree e line = (e ≡ ENOENT) × (line ≡ 0)
 DeltaFaultReported NoImage e line = (e ≡ EINVAL) × (line ≡ 0)
 
--- the answer to a difference, as it is told: done and line 0, or why not
+-- the reported result of applying a difference: success and line 0, or why not
 abbrev pub DeltaReported : Result (Unit {0}) DeltaFault → Result (Unit {0}) Errno → ℕ → Type 0
 DeltaReported (Ok x) reported line = (reported ≡ Ok x) × (line ≡ 0)
 DeltaReported (Err f) reported line = (e : Errno) × (reported ≡ Err e) × DeltaFaultReported f e line

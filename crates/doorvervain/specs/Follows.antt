@@ -23,7 +23,7 @@ use Rattle.doorvervain.specs.contracts.handle.LoaderHandle.{the_row as loading_h
 abbrev pub with_volume : VolumeHandle → PVolume → VolumeHandle
 with_volume h v = record h { volume = v }
 
--- once the borrow r ends, the handle behind b holds the last volume written through r
+-- once the borrow r ends, the handle behind b owns the last volume written through r
 abbrev pub handle_follows : MutBor VolumeHandle → MutBor PVolume → Fml
 handle_follows b r = follows handle_row volume_row b.ghost_name r.ghost_name (with_volume b.now)
 
@@ -31,7 +31,7 @@ handle_follows b r = follows handle_row volume_row b.ghost_name r.ghost_name (wi
 abbrev pub with_tree : FrozenHandle → FsRoot → FrozenHandle
 with_tree h i = record h { tree = i }
 
--- once the borrow r ends, the handle behind b holds the last tree written through r
+-- once the borrow r ends, the handle behind b owns the last tree written through r
 abbrev pub frozen_follows : MutBor FrozenHandle → MutBor FsRoot → Fml
 frozen_follows b r = follows frozen_handle_row frozen_row b.ghost_name r.ghost_name (with_tree b.now)
 
@@ -39,7 +39,7 @@ frozen_follows b r = follows frozen_handle_row frozen_row b.ghost_name r.ghost_n
 abbrev pub with_printing : PrinterHandle → PPrinting → PrinterHandle
 with_printing h p = record h { printing = p }
 
--- once the borrow r ends, the handle behind b holds the last printing written through r
+-- once the borrow r ends, the handle behind b owns the last printer written through r
 abbrev pub printing_follows : MutBor PrinterHandle → MutBor PPrinting → Fml
 printing_follows b r = follows printing_handle_row printing_row b.ghost_name r.ghost_name (with_printing b.now)
 
@@ -47,6 +47,6 @@ printing_follows b r = follows printing_handle_row printing_row b.ghost_name r.g
 abbrev pub with_loading : LoaderHandle → ImageLoader → LoaderHandle
 with_loading h l = record h { loading = l }
 
--- once the borrow r ends, the handle behind b holds the last loading written through r
+-- once the borrow r ends, the handle behind b owns the last loader written through r
 abbrev pub loading_follows : MutBor LoaderHandle → MutBor ImageLoader → Fml
 loading_follows b r = follows loading_handle_row loading_row b.ghost_name r.ghost_name (with_loading b.now)

@@ -1,4 +1,4 @@
--- What the exports that hand a volume or a tree out tell.
+-- What the exports that hand out a volume or a tree report.
 use Rattle.std.specs.Prelude.{◌≡◌, ℕ, zero, suc, ⊤, false, List, Result, Ok, Err, IfErr, IfOk, Option, Some, MatchResult}
 use Rattle.images.specs.declared.load.LoadFault.{LoadFault}
 use Rattle.images.specs.declared.load.LoadFault.TheVariants.{Shape as BadShape, Bad}
@@ -23,18 +23,18 @@ NoShape fanout pending leaf = is_shape (shape_of fanout pending leaf) ≡ false
 
 -- ---- what is handed out
 
--- a value was given of which this holds
+-- a value with this property was stored
 pub record Given {X : Type 0} (P : X → Type 0) (given : Option X) : Type 0 where
   pub value : X
   pub is : given ≡ Some value
   pub holds : P value
 
--- a value is handed out, or memory is refused
+-- a value is handed out, or ENOMEM is reported
 pub record Hands {X : Type 0} (x : X) (outcome : Result (Unit {0}) Errno) (given : Option X) : Type 0 where
   pub done : IfOk outcome (λ _. given ≡ Some x)
   pub refused : IfErr outcome (λ e. e ≡ ENOMEM)
 
--- what was made is handed out, or memory is refused; a refusal is told as it is
+-- the value that was made is handed out, or ENOMEM is reported; a failure is reported unchanged
 abbrev pub HandsOut : {X : Type 0} → Result X Errno → Result (Unit {0}) Errno → Option X → Type 0
 HandsOut made outcome given = MatchResult made (λ x. Hands x outcome given) (λ e. outcome ≡ Err e)
 
@@ -46,13 +46,13 @@ pub record FindsHanded (name : Result (List ℕ) Errno) (v : PVolume) (outcome :
 
 -- ---- images
 
--- the refusal and the line that tell why an image was not loaded
+-- the error and the line that report why an image was not loaded
 abbrev pub FaultReported : LoadFault → Errno → ℕ → Type 0
 FaultReported BadShape e line = (e ≡ EINVAL) × (line ≡ 0)
 FaultReported (Bad n) e line = (e ≡ EINVAL) × (line ≡ n)
 FaultReported _ e line = (e ≡ ENOMEM) × (line ≡ 0)
 
--- the answer of a load, as it is told: what was made and line 0, or why not
+-- the reported result of a load: the value and line 0, or why not
 abbrev pub AnswerReported : {X : Type 0} → Result X LoadFault → Result X Errno → ℕ → Type 0
 AnswerReported (Ok x) reported line = (reported ≡ Ok x) × (line ≡ 0)
 AnswerReported (Err f) reported line = (e : Errno) × (reported ≡ Err e) × FaultReported f e line

@@ -11,7 +11,7 @@ use Rattle.std.specs.contracts.impls.GlobalAllocator.TheImpl.{ghosts}
 abbrev pub held_at : (R : RattleType) → Ptr → R.Denot → Fml
 held_at R p x = fex Global (λ alloc. box_owns (ghosts.dealloc_token alloc) R p x)
 
--- the same where something was given, and else nothing
+-- the same if something was stored, and otherwise nothing
 abbrev pub given_at : (R : RattleType) → Ptr → Option R.Denot → Fml
 given_at R p None = ftrue
 given_at R p (Some x) = held_at R p x

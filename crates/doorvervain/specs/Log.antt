@@ -1,4 +1,4 @@
--- What the exports of logs tell.
+-- What the exports of logs report.
 use Rattle.std.specs.Prelude.{◌≡◌, ◌⊎◌, ◌++◌, ◌≤◌, ◌+◌, ◌^◌, ℕ, List, length, Option, Some, None, Result, Ok, Err}
 use Rattle.pathkey.specs.declared.errno.Errno.{Errno}
 use Rattle.pathkey.specs.declared.errno.Errno.TheVariants.{EINVAL, ENOENT}
@@ -8,12 +8,12 @@ use Rattle.wal.specs.declared.replay_error.ReplayError.{ReplayError}
 use Rattle.volume.specs.Volumes.{PVolume}
 use Rattle.doorvervain.specs.Numbers.{reported}
 
--- the log of a salt begins with the record of the number, whose body has so many bytes; or with none (ENOENT)
+-- the log of a salt begins with the record with this number, whose body has so many bytes; or with none (ENOENT)
 abbrev pub FindsRecord : List ℕ → ℕ → List ℕ → Result ℕ Errno → Type 0
 FindsRecord salt n log (Ok size) = (body : List ℕ) × (rest : List ℕ) × (log ≡ record_of salt n body ++ rest) × (size ≡ length body)
 FindsRecord salt n log (Err e) = (e ≡ ENOENT) × LacksRecord salt n log
 
--- where a run stopped, by what was told and by how many changes were done
+-- where a replay stopped, from the reported error and the number of changes that were applied
 abbrev pub stopped_of : Result (Unit {0}) Errno → ℕ → Option ReplayError
 stopped_of (Ok u) done = None
 stopped_of (Err e) done = Some (record { done = done; fault = e })

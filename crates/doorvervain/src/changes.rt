@@ -1,4 +1,4 @@
-//! Exports of the calls that change a volume, each with a timestamp.
+//! Exports of the calls that change a volume, each with a timestamp. A call that fails leaves the volume unchanged.
 ghost use Rattle.pathkey.specs.SnapNames.{snap_parsed};
 ghost use Rattle.pathkey.specs.Texts.{parsed};
 ghost use Rattle.reference.specs.declared.call.Call.TheVariants as ask;

@@ -13,9 +13,9 @@ use delta::{DeltaFault, apply_delta};
 use pathkey::Errno;
 use std::alloc::Global;
 
-/// Prints the difference of two trees of the volume. Each is named as its snapshot, and the live tree by an empty text.
+/// Prints the difference of two trees of the volume. Each is named by its snapshot, and the live tree by an empty text.
 /// Stores its length in bytes in `size`, and writes it only if the buffer is large enough for all of it. The result is that
-/// of a short buffer if the capacity is smaller but not 0. Capacity 0 only asks for the size.
+/// of a short buffer if the capacity is smaller but not 0. Capacity 0 only requests the size.
 #[unsafe(no_mangle)]
 pub extern "C" fn doorvervain_raw_delta(
     alloc: Global,

@@ -58,7 +58,7 @@ pub extern "C" fn doorvervain_raw_stat(
 
 /// Lists a directory of the live tree: for each entry the letter `d` or `f`, its name and a zero byte. Stores the length of
 /// the listing in bytes in `size`, and writes it only if the buffer is large enough for all of it. The result is that of a
-/// short buffer if the capacity is smaller but not 0. Capacity 0 only asks for the size.
+/// short buffer if the capacity is smaller but not 0. Capacity 0 only requests the size.
 #[unsafe(no_mangle)]
 pub extern "C" fn doorvervain_raw_readdir(
     alloc: Global,
@@ -126,7 +126,7 @@ pub extern "C" fn doorvervain_raw_frozen_stat(
 
 /// Lists a directory of a frozen tree: for each entry the letter `d` or `f`, its name and a zero byte. Stores the length of
 /// the listing in bytes in `size`, and writes it only if the buffer is large enough for all of it. The result is that of a
-/// short buffer if the capacity is smaller but not 0. Capacity 0 only asks for the size.
+/// short buffer if the capacity is smaller but not 0. Capacity 0 only requests the size.
 #[unsafe(no_mangle)]
 pub extern "C" fn doorvervain_raw_frozen_readdir(
     alloc: Global,
@@ -147,7 +147,7 @@ pub extern "C" fn doorvervain_raw_frozen_readdir(
 }
 
 /// Prints the image of a frozen tree. Stores its length in bytes in `size`, and writes it only if the buffer is large enough
-/// for all of it. The result is that of a short buffer if the capacity is smaller but not 0. Capacity 0 only asks for the
+/// for all of it. The result is that of a short buffer if the capacity is smaller but not 0. Capacity 0 only requests the
 /// size.
 #[unsafe(no_mangle)]
 pub extern "C" fn doorvervain_raw_image(
@@ -168,7 +168,7 @@ pub extern "C" fn doorvervain_raw_image(
 
 /// Returns the name of the snapshot with this index, counted from 0 in ascending order of names. Stores its length in bytes
 /// in `size`, and writes it only if the buffer is large enough for all of it. The result is that of a short buffer if the
-/// capacity is smaller but not 0. Capacity 0 only asks for the size.
+/// capacity is smaller but not 0. Capacity 0 only requests the size.
 #[unsafe(no_mangle)]
 pub extern "C" fn doorvervain_raw_snapshot_name(
     fs: &mut VolumeHandle,

@@ -1,4 +1,4 @@
-//! Outcomes as numbers that C understands.
+//! Outcomes as numbers for C: 0 is success, and each errno has one number of its own.
 ghost use Rattle.std.specs.Prelude.{◌≡◌, ◌↔◌, ◌<◌, ℕ, IfErr};
 ghost use Rattle.doorvervain.specs.Holes.{run_reported};
 ghost use Rattle.doorvervain.specs.Numbers.{Gives, IsNumber, IsSizeNumber, short, sized_by, stat_reported, reported, reported_by};

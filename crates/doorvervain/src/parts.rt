@@ -1,4 +1,4 @@
-//! The parts of a `Box`, with fields that this crate can name.
+//! The parts of a `Box`, with fields that this crate can name. The parts own what the box owned.
 ghost use Rattle.std.specs.Prelude.{◌≡◌};
 ghost use Rattle.std.specs.Box.Ownership.{box_owns};
 

@@ -1,4 +1,5 @@
-//! Exports that create and close handles, and tree steps.
+//! Exports that create and close handles, and tree steps. Each handle is closed once, and its pointer is not valid
+//! afterwards.
 ghost use Rattle.pathkey.specs.SnapNames.{snap_parsed};
 ghost use Rattle.pathkey.specs.declared.errno.Errno.TheVariants.{EINVAL, ENOMEM};
 ghost use Rattle.std.specs.Prelude.{◌≡◌, ◌≤◌, ◌<◌, ◌↔◌, ◌⊎◌, false, Err, IfErr, IfOk, Some};

@@ -1,4 +1,4 @@
--- A volume may go to another thread, since its nodes may with all that they hold; and so may clients and flushers.
+-- Volumes are `Send`, since their nodes and all that they own are; and so are clients and flushers.
 use denote.Param.Send.{IsSend, IsSync, sendable, recorded_send, recorded_sync, struct_send, struct_sync, view_send, AllSend, AllSync}
 use denote.Struct.Declared.{shape}
 use Rattle.std.proofs.Crossing.{crosses}

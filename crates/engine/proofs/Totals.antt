@@ -1,4 +1,5 @@
--- The calls of all clients are all calls, and a list of no more clients than the engine has, in which each is there, has each once.
+-- The calls of all clients are all calls, and a list of no more clients than the engine has, which contains each, contains each
+-- once.
 use Rattle.std.proofs.Common.{◌≡◌, ◌≢◌, ◌⊎◌, ℕ, ◌+◌, ◌<◌, ◌≤◌, List, [], ◌∷◌, ◌++◌, length, length-append, zero, suc, Bool, ◌==◌, if◌then◌else◌, slice_index_or, refl, sym, ap, ◌∙◌, subst, arith, inl, inr, ⊎_elim, eq-eqb, ne_eqb}
 use Rattle.std.proofs.lemmas.List.{get_or_append_left, get_or_push}
 use Rattle.std.proofs.lemmas.Bool.{cases_eq}
@@ -127,7 +128,7 @@ fresh-at (suc n) i d lt =
 pub has-more : (n : ℕ) (ks : List Known) → HasEach n ks → 1 ≤ times_in n ks → HasEach (n + 1) ks
 has-more n ks has top c lt = ⊎_elim (λ (same : c ≡ n). subst (λ x. 1 ≤ times_in x ks) (sym same) top) (λ (less : c < n). has c less) (top-or n c (omega (arith, lt)))
 
--- no more than there are numbers, each of which stands there: each stands there once
+-- a list no longer than there are numbers, which contains each number, contains each once
 all_there : (n : ℕ) (ks : List Known) → HasEach n ks → total n ks ≤ n → EachOnce n ks
 all_there zero ks has few c lt = absurd (omega (arith, lt))
 all_there (suc n) ks has few c lt =
@@ -155,7 +156,7 @@ none-snoc c ks k none other =
     let here : (if c == k.client then 1 else 0) ≡ 0 = ap weight (ne_eqb c k.client other) in
     omega (arith, times-append c ks (k ∷ []), none, here)
 
--- one behind a beginning
+-- one after a prefix
 pub some-there : (c : ℕ) (all ks js : List Known) (k : Known) → all ≡ (ks ++ k ∷ []) ++ js → c ≡ k.client → 1 ≤ times_in c all
 some-there c all ks js k is same =
     let here : (if c == k.client then 1 else 0) ≡ 1 = ap weight (eq-eqb c k.client same) in

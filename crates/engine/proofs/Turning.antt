@@ -39,7 +39,7 @@ install_or_cancel-in done old new h root s = record {
 pub install_or_cancel-stale : (done : Done) (old new : PVolume) → AnswersInstalling done WasStale (live_of old) (live_of new) → new.live.modified ≡ old.live.modified → new.snapshots ≡ old.snapshots → Puts done Stale old new
 install_or_cancel-stale done old new h root s = (h.stale.0 refl, whole old new h.unchanged root s)
 
--- a job whose install is refused memory leaves no mark
+-- a job whose install fails with ENOMEM leaves no mark
 pub install_or_cancel-refused : (done back : Done) (t : ℕ) (old mid new : PVolume) → AnswersInstalling done (NoMemoryFor back) (live_of old) (live_of mid) → mid.live.modified ≡ old.live.modified → mid.snapshots ≡ old.snapshots → t ≡ done_ticket back → Cancels t mid new
     → Cancels (done_ticket done) old new
 install_or_cancel-refused done back t old mid new h root s mine cancels =

@@ -41,7 +41,7 @@ abbrev pub Within : ℕ → List Known → Type 0
 Within n [] = Unit {0}
 Within n (k ∷ ks) = (k.client < n) × Within n ks
 
--- why an engine with so many clients did not end: one of its clients is not in the list, or all are; both come back
+-- why an engine with so many clients did not end: one of its clients is not in the list, or all are; both are returned
 abbrev pub GivesBack : {J : Type 0} → ℕ → List Known → CloseFault J → Type 0
 GivesBack n clients (Missing engine back) = LacksOne n clients × (engine ≡ n) × (back ≡ clients)
 GivesBack n clients (NoMemory engine back) = EachOnce n clients × (engine ≡ n) × (back ≡ clients)
@@ -74,7 +74,7 @@ pub record Served (does : Known → Known → Type 0) (o : PVolume) (n : ℕ) (c
   pub once : EachOnce n clients
   pub ends : Ends o clients count tree
 
--- why there is no report: no client worked, and the volume comes back; or all have worked, and it is lost
+-- why there is no report: no client ran, and the volume is returned; or all ran, and it is lost
 abbrev pub GivesVolume : (Known → Known → Type 0) → PVolume → ℕ → ServeFault → Type 0
 GivesVolume does o n (NotOpened volume) = volume ≡ o
 GivesVolume does o n NotClosed = (clients : List Known) × Worked does n clients

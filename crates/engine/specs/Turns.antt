@@ -24,7 +24,7 @@ use Rattle.engine.specs.declared.flusher.TurnReply.TheVariants.{Idle, Stepped, I
 abbrev pub Untouched : PVolume → PVolume → Type 0
 Untouched old new = new ≡ old
 
--- the job was taken of some slot: its mark was added, and nothing else has changed
+-- the job was taken of some slot: its mark was added, and nothing else changed
 pub record TakesJob (job : Job) (old new : PVolume) : Type 0 where
   pub index : Index
   pub slot : ℕ
@@ -32,8 +32,8 @@ pub record TakesJob (job : Job) (old new : PVolume) : Type 0 where
   pub root : new.live.modified ≡ old.live.modified
   pub snapshots : new.snapshots ≡ old.snapshots
 
--- what was built of a job took its place: its mark stood and is gone, each key has the value that it had, and neither the other
--- index nor a snapshot has changed
+-- a built job was installed: its mark existed and was removed, each key has the same value, and neither the other index nor a
+-- snapshot changed
 pub record PutIn (done : Done) (old new : PVolume) : Type 0 where
   pub stood : mark_for done old.marks ≢ None
   pub placed : Installs done (live_of old) (live_of new)
@@ -41,7 +41,7 @@ pub record PutIn (done : Done) (old new : PVolume) : Type 0 where
   pub root : new.live.modified ≡ old.live.modified
   pub snapshots : new.snapshots ≡ old.snapshots
 
--- the mark with the ticket is gone, and nothing else has changed
+-- the mark with the ticket was removed, and nothing else changed
 abbrev pub Cancels : ℕ → PVolume → PVolume → Type 0
 Cancels ticket old new = new ≡ record old { marks = without_mark ticket old.marks }
 
@@ -56,7 +56,8 @@ Puts done (Stepped r) old new = ⊥
 abbrev pub NothingWaits : PVolume → Type 0
 NothingWaits v = (pending_in Meta v.live.indexes ≡ 0) × (pending_in Block v.live.indexes ≡ 0)
 
--- what is done where no job is taken: nothing where nothing waits, and else one tree step, in the index with more pending pieces
+-- what is done if no job is taken: nothing if no message is pending, and otherwise one tree step, in the index with more pending
+-- pieces
 abbrev pub Relieves : TurnReply → PVolume → PVolume → Type 0
 Relieves Idle old new = NothingWaits old × Untouched old new
 Relieves (Stepped r) old new = (NothingWaits old → ⊥) × ((step : Step) × (step.index ≡ busier old.live.indexes) × IsStepped step r old new)
@@ -66,8 +67,8 @@ Relieves NoMemory old new = ⊥
 
 -- ---- holds of the lock
 
--- a hold, in which a flusher that had seen v has come to see w: it found a volume and left one, both mean what the history which it
--- has seen leaves, and the marks that it left are of takings which it has seen
+-- a critical section in which a flusher that had seen v came to see w: it found one volume and left another, both abstract to the
+-- world after the history that it has seen, and the marks that it left are of takings that it has seen
 pub record Hold (o : PVolume) (v w : Watched) : Type 0 where
   pub found : PVolume
   pub left : PVolume
@@ -82,7 +83,7 @@ pub record Hold (o : PVolume) (v w : Watched) : Type 0 where
 abbrev pub Found : PVolume → Watched → Watched → (PVolume → PVolume → Type 0) → Type 0
 Found o v w P = (h : Hold o v w) × P h.found h.left
 
--- the same or, where the engine has ended, no volume; then the flusher has seen nothing more
+-- the same or, if the engine has ended, no volume; then the flusher has seen nothing more
 abbrev pub Held : PVolume → Watched → Watched → (PVolume → PVolume → Type 0) → Type 0
 Held o v w P = (w ≡ v) ⊎ Found o v w P
 
@@ -103,7 +104,7 @@ PutsIn o done NoMemory v w = Found o v w (Cancels (done_ticket done))
 PutsIn o done Idle v w = ⊥
 PutsIn o done (Stepped r) v w = ⊥
 
--- the second hold, where no job was taken
+-- the second critical section, if no job was taken
 abbrev pub RelievesIn : PVolume → TurnReply → Watched → Watched → Type 0
 RelievesIn o Idle v w = Held o v w (Relieves Idle)
 RelievesIn o (Stepped r) v w = Found o v w (Relieves (Stepped r))
@@ -111,8 +112,8 @@ RelievesIn o Installed v w = ⊥
 RelievesIn o Stale v w = ⊥
 RelievesIn o NoMemory v w = ⊥
 
--- the rest of a turn that has taken the job: what was built of it is put in, or its mark was gone; or memory was refused, and then
--- the mark goes
+-- the rest of a turn that has taken the job: what was built of it is installed, or its mark had been removed; or an allocation
+-- failed, and then the mark is removed
 abbrev pub Finishes : PVolume → Job → TurnReply → Watched → Watched → Type 0
 Finishes o job Installed v w = (done : Done) × Builds job done × Found o v w (PutIn done)
 Finishes o job Stale v w = (done : Done) × Builds job done × Held o v w (Puts done Stale)

@@ -22,7 +22,7 @@ fn pick_at(volume: &mut Volume, alloc: Global, index: Index, slot: u8) -> TakeRe
     volume.take_job(alloc, index, slot)
 }
 
-/// Takes a job of the root slot of the index of which it would move the most messages, if these are enough.
+/// Takes the job of the index's root slot that moves the most messages, if these are enough.
 fn choose_in_index(volume: &mut Volume, alloc: Global, index: Index) -> TakeReply
     ensures { Picks result volume.old volume.new }
 {
@@ -51,7 +51,7 @@ pub fn choose_job(volume: &mut Volume, alloc: Global) -> TakeReply
     }
 }
 
-/// Installs what was built, or cancels its job if an allocation fails. Returns `Stale` if and only if the job's mark is gone.
+/// Installs a built job, or cancels it if an allocation fails. Returns `Stale` if and only if the job's mark was removed.
 pub fn install_or_cancel(volume: &mut Volume, done: Done) -> TurnReply
     requires { DoneFits done (live_of volume.old) }
     ensures puts { Puts done result volume.old volume.new }

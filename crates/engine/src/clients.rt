@@ -1,4 +1,6 @@
 //! The clients of an engine: `Engine::open` returns them, and `Engine::close` takes them back.
+//!
+//! Invariant: there are at most as many as the engine was opened with, and the list has capacity for all of them.
 ghost use Rattle.std.specs.Prelude.{◌≡◌, ◌++◌, ◌∷◌, [], take, drop, IfOk, IfErr, MatchOption, length, ◌≤◌, vec_capacity};
 ghost use Rattle.std.specs.Borrow.{Array, Lends, sem};
 ghost use Rattle.engine.specs.contracts.client.Client.{the_row as client_row};

@@ -1,4 +1,5 @@
-//! The table of an engine: its rule, the four kinds of step on its words, and how views are split and joined.
+//! The table of an engine: its rule (`Sits`), the four kinds of step on its words, and how views are split and joined.
+//! Every step and every split or join of seats preserves the rule.
 ghost use Rattle.std.specs.Prelude.{◌≡◌};
 ghost use Rattle.atomic_table.specs.Seated.{TableId};
 

@@ -1,4 +1,7 @@
-//! What the lock protects: the volume, and the engine's seat, which has the history.
+//! The state under the lock: the volume, and the engine's seat, which has the history.
+//!
+//! Invariant (`Holds`, `KnowsMarks`): the volume abstracts to the world after the history, the history is legal, the
+//! count is its length, and each mark of the volume belongs to one of the takings.
 ghost use Rattle.std.specs.Prelude.{◌≡◌, [], ◌∷◌, ◌++◌, ◌<◌, length, ◌%◌, ◌^◌, IfOk};
 ghost use Rattle.engine.specs.Histories.{entry, LegalFrom, AllBelow, StartsWith, own};
 ghost use Rattle.engine.specs.Seats.{IsEngineSeat, IsClientSeat, IsFlusherSeat, Shows, Makes, Looks};

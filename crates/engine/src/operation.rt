@@ -1,4 +1,5 @@
-//! The operations that a client does on the volume under the lock, and that are recorded.
+//! The operations that a client does on the volume under the lock. Each is recorded in the history exactly once, with
+//! its answer.
 ghost use Rattle.engine.specs.Takings.{Spares};
 ghost use Rattle.volume.specs.Changes.{Leads};
 ghost use Rattle.volume.specs.Volumes.{live_of};

@@ -1,4 +1,5 @@
-//! The steps on the table's words, and the synchronisation of seats between them.
+//! The steps on the table's words, and the synchronisation of seats between them. What a seat has seen is always a
+//! prefix of the engine's history.
 ghost use Rattle.std.specs.Prelude.{◌≡◌, [], ◌∷◌, ◌++◌, ◌+◌, ◌%◌, ◌^◌, ◌<◌, ◌≤◌, length, true};
 ghost use Rattle.engine.specs.Histories.{entry, LegalFrom, FitsAfter, StartsWith, own};
 ghost use Rattle.engine.specs.Clients.{Watches, watched};

@@ -1,4 +1,5 @@
-//! An engine from its opening to its end, with each client in a thread of its own, and with flushers in further threads.
+//! Runs an engine from its opening to its end, with each client in a thread of its own, and with flushers in further
+//! threads. All threads have ended when it returns.
 ghost use Rattle.std.specs.Prelude.{◌≡◌, ◌≤◌, IfOk, IfErr};
 ghost use Rattle.engine.specs.Clients.{newcomer, fresh};
 ghost use Rattle.engine.specs.Ends.{Worked, Served, GivesVolume};
@@ -153,7 +154,7 @@ fn work_beside<J: EngineId + Send + Sync, W: ClientTask + Sync, R: Threads + Wai
     )
 }
 
-/// Starts the flushers, runs the clients, and then tells the flushers to stop.
+/// Starts the flushers, runs the clients, and then signals the flushers to stop.
 fn work_in<'s, E, J: EngineId + Send + Sync + 's, W: ClientTask + Sync, R: Threads + Wait + Sync>(
     scope: &Scope<'s, E>,
     rt: &'s R,

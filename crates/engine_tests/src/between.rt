@@ -1,9 +1,9 @@
-//! A turn that takes a job, and what a client does between the taking and the installing.
+//! Tests of a turn that takes a job, while a client does something between taking and installing.
 ghost use Rattle.std.specs.Prelude.{◌≡◌};
 
-use crate::asked::answers;
 use crate::depth::{makes_all, turns_until_idle};
 use crate::ends::{Snap, fault_of};
+use crate::requests::answers;
 use engine::{Between, Client, EngineId, Flusher, TurnReply};
 use pathkey::Errno;
 use std::alloc::Global;
@@ -11,17 +11,17 @@ use std::sync::Wait;
 use test_support::{ExpectedReply, SampleCall};
 use volume::{Done, Job};
 
-/// What a client does between the taking and the installing.
+/// What a client does between taking and installing.
 #[derive(Clone, Copy)]
 pub enum Interference {
-    /// It restores the snapshot, in which the later file is not.
+    /// It restores the snapshot, which does not have the later file.
     Restore,
     /// It writes to the later file.
     Write,
 }
 
 impl Interference {
-    /// What the turn has to answer.
+    /// The expected reply of the turn.
     fn wanted(self) -> TurnReply {
         match self {
             Interference::Restore => TurnReply::Stale,
@@ -30,7 +30,7 @@ impl Interference {
     }
 }
 
-/// Whether it is done.
+/// Whether it succeeds.
 fn does<J: EngineId, R: Wait>(
     rt: &R,
     alloc: Global,
@@ -49,7 +49,7 @@ fn does<J: EngineId, R: Wait>(
     }
 }
 
-/// Whether the client then finds of the later file what it has to.
+/// Whether the client then finds the later file as expected.
 fn finds<J: EngineId, R: Wait>(
     rt: &R,
     alloc: Global,
@@ -82,7 +82,7 @@ fn finds<J: EngineId, R: Wait>(
     }
 }
 
-/// A client that does something between the taking and the installing.
+/// A client that does something between taking and installing.
 #[derive(Drop)]
 struct Meanwhile<'a, J: EngineId, R: Wait> {
     rt: &'a R,
@@ -98,7 +98,7 @@ impl<'a, J: EngineId, R: Wait> Between for Meanwhile<'a, J, R> {
     }
 }
 
-/// Gives the job back, as where memory is refused.
+/// Returns the job unbuilt, as if an allocation failed.
 #[derive(Drop)]
 struct Refuses;
 
@@ -118,8 +118,8 @@ impl Between for Nothing {
     fn between(&mut self) {}
 }
 
-/// Many files, nothing waits; then a snapshot, and one file more. It alone waits in the metadata, since its directory has its moment
-/// already.
+/// Creates many files and flushes everything; then takes a snapshot and creates one more file. Only that file is pending in the
+/// metadata, since its directory already has its mtime.
 pub fn prepares<J: EngineId, R: Wait>(
     rt: &R,
     alloc: Global,
@@ -138,8 +138,9 @@ pub fn prepares<J: EngineId, R: Wait>(
         )
 }
 
-/// A turn between whose taking and installing the client does this: whether turn and client are answered as they have to be.
-pub fn goes_on<J: EngineId, R: Wait>(
+/// A turn during which the client does this between taking and installing: whether turn and client have the expected
+/// replies.
+pub fn interferes<J: EngineId, R: Wait>(
     rt: &R,
     alloc: Global,
     mut client: Client<J>,
@@ -159,7 +160,7 @@ pub fn goes_on<J: EngineId, R: Wait>(
     is_ready && reply == interference.wanted() && between.is_done && is_found
 }
 
-/// Whether a turn whose job is given back says so, and the next one takes the slot again.
+/// Whether a turn whose job is returned unbuilt reports that, and the next turn takes the slot again.
 pub fn gives_back<J: EngineId, R: Wait>(
     rt: &R,
     alloc: Global,

@@ -1,14 +1,14 @@
-//! An engine that ends between the two holds of a turn.
+//! Tests of an engine that ends between the two critical sections of a turn.
 ghost use Rattle.std.specs.Prelude.{◌≡◌};
 
-use crate::asked::{SMALL, new_room};
 use crate::between::prepares;
+use crate::requests::{SMALL, new_room};
 use engine::{Between, Clients, Engine, EngineBuilder, EngineId, Flusher, TurnReply};
 use std::alloc::Global;
 use std::marker::Brand;
 use std::sync::Wait;
 
-/// Closes the engine between the taking and the installing.
+/// Closes the engine between taking and installing.
 #[derive(Drop)]
 struct Closes<'a, J: EngineId, R: Wait> {
     rt: &'a R,
@@ -24,7 +24,7 @@ impl<'a, J: EngineId, R: Wait> Between for Closes<'a, J, R> {
     }
 }
 
-/// Whether a job can be taken, once the one client has made its calls.
+/// Whether a job can be taken after the one client has made its calls.
 fn is_ready<J: EngineId, R: Wait>(
     rt: &R,
     alloc: Global,
@@ -40,7 +40,7 @@ fn is_ready<J: EngineId, R: Wait>(
     }
 }
 
-/// What the turn answers in whose middle the engine ends, and what the next one.
+/// The reply of the turn during which the engine ends, and that of the next one.
 fn last_turns<J: EngineId, R: Wait>(
     rt: &R,
     alloc: Global,
@@ -58,7 +58,7 @@ fn last_turns<J: EngineId, R: Wait>(
     between.is_ended.then_some((first, second))
 }
 
-/// What the turn answers in whose middle an engine with one client in this room ends, and what the next one.
+/// The reply of the turn during which an engine with one client and this builder ends, and that of the next one.
 fn ends_in<J: EngineId, R: Wait>(
     rt: &R,
     alloc: Global,
@@ -74,7 +74,7 @@ fn ends_in<J: EngineId, R: Wait>(
     last_turns(rt, alloc, engine, clients, &mut flusher)
 }
 
-/// An engine in this room.
+/// An engine of this builder.
 fn run<R: Wait>(rt: &R, alloc: Global, room: EngineBuilder) -> Option<(TurnReply, TurnReply)> {
     ends_in::<Brand, R>(rt, alloc, room)
 }

@@ -16,7 +16,7 @@ pub fn two_flushers<J: EngineId>(engine: &mut Engine<J>) -> Option<(Flusher<J>, 
     Some((one, other))
 }
 
-/// Whether a client is put back.
+/// Whether a client is accepted back.
 fn takes_back<J: EngineId>(clients: &mut Clients<J>, client: Client<J>) -> bool {
     clients.push(client).is_ok()
 }

@@ -1,8 +1,8 @@
-//! What the turns of a flusher do to the trees: each turn does something while a message waits, all that waits sinks, the tree
-//! gets as deep as it must, and then there is nothing to do.
+//! Tests of the effect of a flusher's turns on the trees: each turn does something while a message is pending, everything
+//! pending is flushed, the tree becomes as deep as it must, and then there is nothing to do.
 ghost use Rattle.std.specs.Prelude.{◌≡◌};
 
-use crate::asked::answers;
+use crate::requests::answers;
 use engine::{Between, Client, EngineId, Flusher, TurnReply};
 use node::{ShapeReport, StepReply};
 use std::alloc::Global;
@@ -10,13 +10,13 @@ use std::sync::Wait;
 use test_support::{ExpectedReply, SampleCall, file_name};
 use volume::Frozen;
 
-/// How many files there are.
+/// The number of files.
 pub const FILES: u32 = 300;
 
-/// How many turns are made at most.
+/// The maximal number of turns.
 const TURNS: u32 = 10_000;
 
-/// How many turns there were.
+/// The number of turns.
 #[derive(Drop)]
 struct Count {
     turns: u32,
@@ -28,7 +28,7 @@ impl Between for Count {
     }
 }
 
-/// Whether a file is made.
+/// Whether a file is created.
 fn makes<J: EngineId, R: Wait>(rt: &R, alloc: Global, client: &mut Client<J>, number: u32) -> bool {
     match file_name(alloc, number) {
         Some(text) => answers(
@@ -42,7 +42,7 @@ fn makes<J: EngineId, R: Wait>(rt: &R, alloc: Global, client: &mut Client<J>, nu
     }
 }
 
-/// Whether all files are made.
+/// Whether all files are created.
 pub fn makes_all<J: EngineId, R: Wait>(rt: &R, alloc: Global, client: &mut Client<J>) -> bool {
     let mut is_right = true;
     for number in 0..FILES {
@@ -59,7 +59,7 @@ fn did(reply: TurnReply) -> bool {
     )
 }
 
-/// What one turn answers; none where it does not call `between` once.
+/// The reply of one turn; `None` if it does not call `between` exactly once.
 fn turn<J: EngineId, R: Wait>(
     rt: &R,
     alloc: Global,
@@ -78,8 +78,8 @@ fn turn_does<J: EngineId, R: Wait>(rt: &R, alloc: Global, flusher: &mut Flusher<
     }
 }
 
-/// Turns until one is idle: how many did a step or installed a job. None where one of them did neither, or there are more than
-/// there may be.
+/// Runs turns until one is idle; returns how many did a step or installed a job. `None` if one of them did neither, or there
+/// are more than the maximum.
 pub fn turns_until_idle<J: EngineId, R: Wait>(
     rt: &R,
     alloc: Global,
@@ -95,7 +95,7 @@ pub fn turns_until_idle<J: EngineId, R: Wait>(
     None
 }
 
-/// Makes files with a turn after each: how many of the turns did a step or installed a job.
+/// Creates files with a turn after each; returns how many of the turns did a step or installed a job.
 fn turns_beside<J: EngineId, R: Wait>(
     rt: &R,
     alloc: Global,
@@ -121,7 +121,7 @@ fn shapes_of(tree: &Frozen) -> (ShapeReport, ShapeReport) {
     )
 }
 
-/// The shapes of the live trees; none where memory is refused.
+/// The shapes of the live trees; `None` if an allocation fails.
 pub fn shapes<J: EngineId, R: Wait>(
     rt: &R,
     client: &mut Client<J>,
@@ -132,7 +132,7 @@ pub fn shapes<J: EngineId, R: Wait>(
     }
 }
 
-/// Whether the metadata has all files, nothing waits there, and it is as deep as it must be.
+/// Whether the metadata has all files, nothing is pending there, and it is as deep as it must be.
 fn is_deep<J: EngineId, R: Wait>(rt: &R, client: &mut Client<J>) -> bool {
     match shapes(rt, client) {
         Some((meta, _)) => meta.levels >= 4 && meta.entries == 301 && meta.pending == 0,
@@ -140,8 +140,8 @@ fn is_deep<J: EngineId, R: Wait>(rt: &R, client: &mut Client<J>) -> bool {
     }
 }
 
-/// Makes many files, and then turns. Each does something until one is idle, and no turn takes more than four messages out of the
-/// root: so there are as many as a quarter of the files.
+/// Creates many files, and then runs turns. Each does something until one is idle, and no turn moves more than four messages out
+/// of the root, so there are at least a quarter as many as files.
 pub fn sinks<J: EngineId, R: Wait>(
     rt: &R,
     alloc: Global,
@@ -155,8 +155,8 @@ pub fn sinks<J: EngineId, R: Wait>(
     made && are_enough && is_idle && is_deep(rt, &mut client)
 }
 
-/// Turns until nothing waits in a new volume, then files with a turn after each, of which each does something; and then turns
-/// until one is idle, each of which does something.
+/// Runs turns until nothing is pending in a new volume, then creates files with a turn after each, of which each does
+/// something, and then runs turns until one is idle, each of which does something.
 pub fn sinks_beside<J: EngineId, R: Wait>(
     rt: &R,
     alloc: Global,
@@ -171,7 +171,7 @@ pub fn sinks_beside<J: EngineId, R: Wait>(
     before == Some(1) && beside == files && after.is_some() && is_deep
 }
 
-/// Whether these blocks of a file get a byte each.
+/// Whether a byte is written to each of these blocks of a file.
 fn writes_blocks<J: EngineId, R: Wait>(
     rt: &R,
     alloc: Global,
@@ -191,7 +191,7 @@ fn writes_blocks<J: EngineId, R: Wait>(
     is_right
 }
 
-/// Whether the tree of the metadata has leaves below its root, and that of the blocks has more levels.
+/// Whether the root of the metadata has leaves as children, and the tree of the blocks has more levels.
 fn are_unequal<J: EngineId, R: Wait>(rt: &R, client: &mut Client<J>) -> bool {
     match shapes(rt, client) {
         Some((meta, block)) => meta.levels <= 2 && block.levels >= 3,
@@ -199,8 +199,8 @@ fn are_unequal<J: EngineId, R: Wait>(rt: &R, client: &mut Client<J>) -> bool {
     }
 }
 
-/// Makes one file of many blocks, flushes all, and then makes many files and writes a few blocks. No job can be taken of the
-/// metadata, where more messages are pending: the next turn takes one of the blocks.
+/// Creates one file of many blocks, flushes everything, and then creates many files and writes a few blocks. No job can be
+/// taken of the metadata, where more messages are pending: the next turn takes one of the blocks.
 pub fn takes_of_the_other<J: EngineId, R: Wait>(
     rt: &R,
     alloc: Global,

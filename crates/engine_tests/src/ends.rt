@@ -1,8 +1,8 @@
-//! How an engine ends: with all its clients, or not at all; and each call of a client once.
+//! Tests of the end of an engine: it ends only with all its clients. Also makes each call of a client once.
 ghost use Rattle.std.specs.Prelude.{◌≡◌};
 
-use crate::asked::{SMALL, answers, is, name_of, new_room};
 use crate::crew::{end, two_of};
+use crate::requests::{SMALL, answers, is, name_of, new_room};
 use engine::{Client, CloseFault, Engine, EngineBuilder, EngineId};
 use pathkey::{Errno, Path};
 use std::alloc::Global;
@@ -11,7 +11,7 @@ use std::sync::Wait;
 use std::test::Fail;
 use test_support::{ExpectedReply, SampleCall};
 
-/// Keeps the live tree, or drops or restores a snapshot; why not, if it does not.
+/// Takes, drops or restores a snapshot; the error, if it fails.
 #[derive(Clone, Copy)]
 pub enum Snap {
     Keep,
@@ -19,7 +19,7 @@ pub enum Snap {
     Restore,
 }
 
-/// Why a call on the snapshot of a name is refused; none where it is done.
+/// The error of a snapshot call; `None` if it succeeds.
 pub fn fault_of<J: EngineId, R: Wait>(
     rt: &R,
     alloc: Global,
@@ -37,25 +37,25 @@ pub fn fault_of<J: EngineId, R: Wait>(
     }
 }
 
-/// What the snapshot of a name answers to a stat; the fault where there is none.
+/// The reply of the snapshot of a name to a stat; the error if there is none.
 fn stat_in<J: EngineId, R: Wait>(
     rt: &R,
     alloc: Global,
     client: &mut Client<J>,
     text: &str,
     path: &Path,
-    told: ExpectedReply<'_>,
+    wanted: ExpectedReply<'_>,
 ) -> Result<bool, Errno> {
     let Some(name) = name_of(alloc, text) else {
         return Err(Errno::ENOMEM);
     };
     match client.frozen(rt, &name) {
-        Ok(tree) => Ok(is(told, &tree.stat(alloc, path))),
+        Ok(tree) => Ok(is(wanted, &tree.stat(alloc, path))),
         Err(fault) => Err(fault),
     }
 }
 
-/// Each call of a client once; how many of them were recorded.
+/// Makes each call of a client once; returns how many of them were recorded.
 fn each_call<J: EngineId, R: Wait>(rt: &R, alloc: Global, client: &mut Client<J>) -> Option<u64> {
     let path = Path::parse(alloc, b"/a".as_slice()).ok()?;
     let made = answers(
@@ -67,7 +67,7 @@ fn each_call<J: EngineId, R: Wait>(rt: &R, alloc: Global, client: &mut Client<J>
     );
     let kept = fault_of(rt, alloc, client, Snap::Keep, "s");
     let again = fault_of(rt, alloc, client, Snap::Keep, "s");
-    let gone = answers(
+    let removed = answers(
         rt,
         alloc,
         client,
@@ -89,7 +89,7 @@ fn each_call<J: EngineId, R: Wait>(rt: &R, alloc: Global, client: &mut Client<J>
     let is_right = made
         && kept.is_none()
         && again == Some(Errno::EEXIST)
-        && gone
+        && removed
         && past == Ok(true)
         && none == Err(Errno::ENOENT)
         && back.is_none()
@@ -99,7 +99,7 @@ fn each_call<J: EngineId, R: Wait>(rt: &R, alloc: Global, client: &mut Client<J>
     is_right.then_some(client.made())
 }
 
-/// Each call of one of two clients, once; then the engine ends.
+/// Makes each call of one of two clients once; then the engine ends.
 fn in_room<J: EngineId, R: Wait>(rt: &R, alloc: Global, room: EngineBuilder) -> Option<u64>
     requires { (room.0 ≡ J.table) × (room.1 ≡ J.opening) × (J.clients ≡ 2) }
 {

@@ -1,6 +1,6 @@
 //! Volumes of many files, from whose roots jobs can be taken.
-use crate::asked::{SMALL, call_of, name_of};
 use crate::own::{OWNED, PLACE, mark_of};
+use crate::requests::{SMALL, call_of, name_of};
 use engine::EngineBuilder;
 use pathkey::Errno;
 use reference::{Call, Reply};
@@ -8,31 +8,32 @@ use std::alloc::Global;
 use test_support::{ExpectedReply, SampleCall, file_name};
 use volume::{Index, TakeReply, Volume};
 
-/// How many files there are.
+/// The number of files.
 const FILES: u32 = 300;
 
-/// How many steps are made at most.
+/// The maximal number of steps.
 const STEPS: u32 = 10_000;
 
-/// The reply to a call. It ensures nothing, so that no proof of a test reads what a call means; nor do `new_volume` and `take`.
+/// The reply to a call. It has no postcondition, so that the proofs of the tests do not unfold what a call does; nor do
+/// `new_volume` and `take`.
 fn reply_to(alloc: Global, volume: &mut Volume, call: &Call) -> Reply {
     volume.call(alloc, call, 0)
 }
 
-/// Whether a call of the volume is answered so.
+/// Whether a call of the volume has this reply.
 pub fn answers(
     alloc: Global,
     volume: &mut Volume,
     ask: SampleCall<'_>,
-    told: ExpectedReply<'_>,
+    wanted: ExpectedReply<'_>,
 ) -> bool {
     match call_of(alloc, ask) {
-        Some(call) => told.is(&reply_to(alloc, volume, &call)),
+        Some(call) => wanted.is(&reply_to(alloc, volume, &call)),
         None => false,
     }
 }
 
-/// Makes a file with a byte.
+/// Creates a file with a byte.
 fn makes(alloc: Global, volume: &mut Volume, text: &str) -> bool {
     answers(alloc, volume, SampleCall::Create(text), ExpectedReply::Done)
         && answers(
@@ -43,7 +44,7 @@ fn makes(alloc: Global, volume: &mut Volume, text: &str) -> bool {
         )
 }
 
-/// Makes the file of a number.
+/// Creates the file with a number.
 fn makes_one(alloc: Global, volume: &mut Volume, number: u32) -> bool {
     match file_name(alloc, number) {
         Some(text) => makes(alloc, volume, text.as_str()),
@@ -51,7 +52,7 @@ fn makes_one(alloc: Global, volume: &mut Volume, number: u32) -> bool {
     }
 }
 
-/// Makes all files, and then steps until nothing waits.
+/// Creates all files, and then does steps until nothing is pending.
 fn fills(alloc: Global, volume: &mut Volume) -> bool {
     let mut is_right = true;
     for number in 0..FILES {
@@ -70,7 +71,7 @@ fn new_volume(alloc: Global) -> Result<Volume, Errno> {
     Volume::new(alloc, SMALL)
 }
 
-/// This volume, once it has many files.
+/// This volume, with many files.
 fn filled(alloc: Global, mut volume: Volume) -> Option<Volume> {
     if fills(alloc, &mut volume) {
         Some(volume)
@@ -79,7 +80,7 @@ fn filled(alloc: Global, mut volume: Volume) -> Option<Volume> {
     }
 }
 
-/// A volume of many files with a byte each, in which nothing waits.
+/// A volume of many files with a byte each, in which nothing is pending.
 pub fn filled_volume(alloc: Global) -> Option<Volume> {
     match new_volume(alloc) {
         Ok(volume) => filled(alloc, volume),
@@ -87,10 +88,10 @@ pub fn filled_volume(alloc: Global) -> Option<Volume> {
     }
 }
 
-/// The name of the snapshot that keeps the first marks.
+/// The name of the snapshot that has the first marks.
 pub const FIRST: &str = "s";
 
-/// Writes the first mark to the file of a number.
+/// Writes the first mark to the file with a number.
 fn writes_first(alloc: Global, volume: &mut Volume, number: u32) -> bool {
     let bytes = mark_of(u64::from(number), 0);
     match file_name(alloc, number) {
@@ -106,7 +107,7 @@ fn writes_first(alloc: Global, volume: &mut Volume, number: u32) -> bool {
     }
 }
 
-/// Keeps the snapshot.
+/// Takes the snapshot.
 fn keeps(alloc: Global, volume: &mut Volume) -> bool {
     match name_of(alloc, FIRST) {
         Some(name) => volume.snapshot(alloc, &name).is_ok(),
@@ -114,7 +115,7 @@ fn keeps(alloc: Global, volume: &mut Volume) -> bool {
     }
 }
 
-/// Writes the first mark to each file that one client alone writes, and keeps the snapshot.
+/// Writes the first mark to each file that only one client writes, and takes the snapshot.
 fn writes_and_keeps(alloc: Global, volume: &mut Volume) -> bool {
     let mut is_right = true;
     for number in 0..OWNED {
@@ -123,7 +124,7 @@ fn writes_and_keeps(alloc: Global, volume: &mut Volume) -> bool {
     is_right && keeps(alloc, volume)
 }
 
-/// This volume, once it has the first marks and a snapshot of them.
+/// This volume, with the first marks and a snapshot of them.
 fn kept(alloc: Global, mut volume: Volume) -> Option<Volume> {
     if writes_and_keeps(alloc, &mut volume) {
         Some(volume)
@@ -132,7 +133,7 @@ fn kept(alloc: Global, mut volume: Volume) -> Option<Volume> {
     }
 }
 
-/// A volume of many files with the first marks, which all wait in the roots, and a snapshot of that.
+/// A volume of many files with the first marks, which are all pending in the roots, and a snapshot of that.
 fn kept_volume(alloc: Global) -> Option<Volume> {
     match filled_volume(alloc) {
         Some(volume) => kept(alloc, volume),
@@ -140,12 +141,12 @@ fn kept_volume(alloc: Global) -> Option<Volume> {
     }
 }
 
-/// A room with such a volume.
+/// An engine builder with such a volume.
 pub fn kept_room(alloc: Global) -> Option<EngineBuilder> {
     room_of(alloc, kept_volume(alloc))
 }
 
-/// A room with a volume, if there is one.
+/// An engine builder with a volume, if there is one.
 fn room_of(alloc: Global, volume: Option<Volume>) -> Option<EngineBuilder> {
     match volume {
         Some(volume) => EngineBuilder::new(alloc, volume).ok(),
@@ -153,12 +154,12 @@ fn room_of(alloc: Global, volume: Option<Volume>) -> Option<EngineBuilder> {
     }
 }
 
-/// A taking at this slot of an index's root.
+/// Takes a job at this slot of an index's root.
 pub fn take(alloc: Global, volume: &mut Volume, index: Index, slot: u8) -> TakeReply {
     volume.take_job(alloc, index, slot)
 }
 
-/// Whether a job was taken of the slot of the metadata's root in which the most messages wait.
+/// Whether a job was taken of the slot of the metadata's root with the most pending messages.
 fn takes(alloc: Global, volume: &mut Volume) -> bool {
     match volume.backlog(Index::Meta) {
         Some(load) => matches!(
@@ -169,14 +170,15 @@ fn takes(alloc: Global, volume: &mut Volume) -> bool {
     }
 }
 
-/// Whether a job was taken of the one slot of the metadata's root in which a message waits: a new file, whose directory has its moment.
+/// Whether a job was taken of the only slot of the metadata's root with a pending message: a new file, whose directory already has its
+/// mtime.
 fn marks(alloc: Global, volume: &mut Volume) -> bool {
     answers(alloc, volume, SampleCall::Create("/z"), ExpectedReply::Done)
         && takes(alloc, volume)
         && volume.backlog(Index::Meta).is_none()
 }
 
-/// This volume, once one file more waits behind marks.
+/// This volume, with one more file pending in a marked slot.
 fn marked(alloc: Global, mut volume: Volume) -> Option<Volume> {
     if marks(alloc, &mut volume) {
         Some(volume)
@@ -185,7 +187,7 @@ fn marked(alloc: Global, mut volume: Volume) -> Option<Volume> {
     }
 }
 
-/// A volume of many files, and one more that waits behind marks.
+/// A volume of many files, with one more pending in a marked slot.
 fn marked_volume(alloc: Global) -> Option<Volume> {
     match filled_volume(alloc) {
         Some(volume) => marked(alloc, volume),
@@ -193,7 +195,7 @@ fn marked_volume(alloc: Global) -> Option<Volume> {
     }
 }
 
-/// A room with such a volume.
+/// An engine builder with such a volume.
 pub fn marked_room(alloc: Global) -> Option<EngineBuilder> {
     room_of(alloc, marked_volume(alloc))
 }

@@ -1,6 +1,7 @@
-//! What waits in a slot once the mark of a job that was taken there is gone: one message a key, however many came meanwhile.
-use crate::asked::call_of;
+//! Tests of what is pending in a slot after the mark of a job that was taken there is removed: one message for each key,
+//! however many were appended meanwhile.
 use crate::filled::{answers, filled_volume, take};
+use crate::requests::call_of;
 use pathkey::NoMemory;
 use std::alloc::Global;
 use test_support::{ExpectedReply, SampleCall};
@@ -9,7 +10,7 @@ use volume::{Answer, Event, FinishAnswer, Index, Job, TakeReply, Volume};
 /// The file that is written.
 const FILE: &str = "/f150";
 
-/// How many bytes are written one by one while the marks stand, from offset 2 on.
+/// How many bytes are written one by one while the marks exist, from offset 2 on.
 const WRITES: u64 = 1_000;
 
 /// Whether a byte is written.
@@ -31,12 +32,13 @@ fn writes_all(alloc: Global, volume: &mut Volume) -> bool {
     is_right
 }
 
-/// Whether one piece and one message wait in an index. It ensures nothing, so that no proof of a test reads what a report says.
+/// Whether one piece and one message are pending in an index. It has no postcondition, so that the proofs of the tests do not
+/// unfold what a report is.
 fn waits_alone(volume: &Volume, index: Index) -> bool {
     volume.pending(index) == 1 && volume.shape_report(index).pending == 1
 }
 
-/// Whether the file has all bytes, and one message of it waits in each index.
+/// Whether the file has all bytes, and one message of it is pending in each index.
 fn is_folded(alloc: Global, volume: &mut Volume) -> bool {
     waits_alone(volume, Index::Meta)
         && waits_alone(volume, Index::Block)
@@ -48,7 +50,7 @@ fn is_folded(alloc: Global, volume: &mut Volume) -> bool {
         )
 }
 
-/// The job of a taking.
+/// The job of a reply.
 fn taken(reply: TakeReply) -> Option<Job> {
     match reply {
         TakeReply::Taken(job) => Some(job),
@@ -56,7 +58,7 @@ fn taken(reply: TakeReply) -> Option<Job> {
     }
 }
 
-/// The job of the slot in which something waits.
+/// The job of the slot in which something is pending.
 fn job_of(alloc: Global, volume: &mut Volume, index: Index) -> Option<Job> {
     match volume.backlog(index) {
         Some(load) => taken(take(alloc, volume, index, load.slot)),
@@ -75,7 +77,7 @@ fn cancels(volume: &mut Volume, job: &Option<Job>) -> bool {
     }
 }
 
-/// Many bytes, the jobs are cancelled, and one byte more: whether the lists fold.
+/// Writes many bytes, cancels the jobs, and writes one more byte: whether the lists are condensed.
 fn folds_where_cancelled(
     alloc: Global,
     volume: &mut Volume,
@@ -83,11 +85,11 @@ fn folds_where_cancelled(
     block: &Option<Job>,
 ) -> bool {
     let all = writes_all(alloc, volume);
-    let gone = cancels(volume, meta) && cancels(volume, block);
-    all && gone && writes(alloc, volume, WRITES + 2) && is_folded(alloc, volume)
+    let cancelled = cancels(volume, meta) && cancels(volume, block);
+    all && cancelled && writes(alloc, volume, WRITES + 2) && is_folded(alloc, volume)
 }
 
-/// The event that takes a job of the slot in which something waits.
+/// The event that takes a job of the slot in which something is pending.
 fn taking(volume: &Volume, index: Index) -> Option<Event> {
     match volume.backlog(index) {
         Some(load) => Some(Event::Take(index, load.slot)),
@@ -119,7 +121,7 @@ fn adds(events: &mut Vec<Event>, event: Option<Event>) -> bool {
     }
 }
 
-/// Adds the takings of a job in each index, and the many bytes.
+/// Adds events that take a job in each index, and write the many bytes.
 fn adds_writes(alloc: Global, volume: &Volume, events: &mut Vec<Event>) -> bool {
     let mut is_right = adds(events, taking(volume, Index::Meta));
     is_right &= adds(events, taking(volume, Index::Block));
@@ -129,7 +131,7 @@ fn adds_writes(alloc: Global, volume: &Volume, events: &mut Vec<Event>) -> bool 
     is_right
 }
 
-/// How many jobs were installed.
+/// The number of jobs that were installed.
 fn installed(answers: &[Answer]) -> u32 {
     let mut count: u32 = 0;
     for answer in answers {
@@ -140,7 +142,8 @@ fn installed(answers: &[Answer]) -> u32 {
     count
 }
 
-/// What a volume answers to events. It ensures nothing, so that no proof of a test reads what a run means.
+/// The answers of a volume to events. It has no postcondition, so that the proofs of the tests do not unfold what a run
+/// is.
 fn run(alloc: Global, volume: &mut Volume, events: &[Event]) -> Result<Vec<Answer>, NoMemory> {
     volume.run(alloc, events)
 }
@@ -167,7 +170,7 @@ fn installs_both(
         && installs(alloc, volume, events.as_slice())
 }
 
-/// Whether the lists fold once both jobs are installed and one byte more is written.
+/// Whether the lists are condensed after both jobs are installed and one more byte is written.
 fn folds_where_installed(
     alloc: Global,
     volume: &mut Volume,
@@ -179,7 +182,7 @@ fn folds_where_installed(
         && is_folded(alloc, volume)
 }
 
-/// Whether the lists of two equal volumes fold. The jobs of both have the same tickets.
+/// Whether the lists of two equal volumes are condensed. The jobs of both have the same tickets.
 fn both_fold(alloc: Global, one: &mut Volume, other: &mut Volume) -> bool {
     let first = writes(alloc, one, 1) && writes(alloc, other, 1);
     let meta = job_of(alloc, one, Index::Meta);
@@ -189,7 +192,7 @@ fn both_fold(alloc: Global, one: &mut Volume, other: &mut Volume) -> bool {
         && folds_where_installed(alloc, other, &meta, &block)
 }
 
-/// Whether the lists of this volume and another of many files fold.
+/// Whether the lists of this volume and another of many files are condensed.
 fn folds_beside(alloc: Global, one: &mut Volume) -> bool {
     match filled_volume(alloc) {
         Some(mut other) => both_fold(alloc, one, &mut other),
@@ -197,7 +200,7 @@ fn folds_beside(alloc: Global, one: &mut Volume) -> bool {
     }
 }
 
-/// Whether the lists of two volumes of many files fold.
+/// Whether the lists of two volumes of many files are condensed.
 fn fold(alloc: Global) -> bool {
     match filled_volume(alloc) {
         Some(mut one) => folds_beside(alloc, &mut one),
@@ -206,6 +209,6 @@ fn fold(alloc: Global) -> bool {
 }
 
 #[test]
-fn a_list_folds_once_its_mark_is_gone(rt: HostRuntime) {
+fn a_list_is_condensed_once_its_mark_is_removed(rt: HostRuntime) {
     assert!(rt; fold(rt.alloc()));
 }

@@ -1,9 +1,8 @@
-//! Tests of engines: threads with a client each and flushers beside them, how an engine ends, and what each turn of a flusher does; long
-//! runs over names that all clients share, what waits in a slot once its mark is gone, and an engine that is opened over a volume with marks.
+//! Tests of engines: threads with a client each and flushers beside them, the end of an engine, and what each turn of a flusher does; long
+//! runs over names that all clients share, what is pending in a slot after its mark is removed, and an engine that is opened with a volume
+//! that has marks.
 #![tactic(auto)]
 
-#[cfg(test)]
-mod asked;
 #[cfg(test)]
 mod between;
 #[cfg(test)]
@@ -26,6 +25,8 @@ mod meeting;
 mod own;
 #[cfg(test)]
 mod pairs;
+#[cfg(test)]
+mod requests;
 #[cfg(test)]
 mod scene;
 #[cfg(test)]

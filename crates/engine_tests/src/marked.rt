@@ -1,4 +1,4 @@
-//! An engine that is opened over a volume with marks has none.
+//! Tests that an engine that is opened with a volume that has marks has none.
 ghost use Rattle.std.specs.Prelude.{◌≡◌};
 
 use crate::filled::marked_room;
@@ -28,7 +28,7 @@ fn installs_with<J: EngineId, R: Wait>(rt: &R, alloc: Global, engine: &mut Engin
     }
 }
 
-/// Whether a turn of a flusher of an engine in this room takes a job and installs it.
+/// Whether a turn of a flusher of an engine of this builder takes a job and installs it.
 fn installs_in<J: EngineId, R: Wait>(rt: &R, alloc: Global, room: EngineBuilder) -> bool
     requires { (room.0 ≡ J.table) × (room.1 ≡ J.opening) × (J.clients ≡ 1) }
 {
@@ -38,12 +38,12 @@ fn installs_in<J: EngineId, R: Wait>(rt: &R, alloc: Global, room: EngineBuilder)
     }
 }
 
-/// An engine in this room.
+/// An engine of this builder.
 fn run<R: Wait>(rt: &R, alloc: Global, room: EngineBuilder) -> bool {
     installs_in::<Brand, R>(rt, alloc, room)
 }
 
-/// Whether the first turn takes a job, in a volume of whose slots all that have messages had marks.
+/// Whether the first turn takes a job, in a volume in which all slots with messages were marked.
 fn takes_at_first<R: Wait>(rt: &R, alloc: Global) -> bool {
     match marked_room(alloc) {
         Some(room) => run(rt, alloc, room),

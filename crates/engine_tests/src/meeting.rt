@@ -1,8 +1,8 @@
-//! Two clients that wait for one another's file: threads really share the volume.
+//! Tests of two clients that wait for one another's file, which shows that threads share the volume.
 ghost use Rattle.std.specs.Prelude.{◌≡◌};
 
-use crate::asked::{SMALL, answers, is, new_room};
 use crate::crew::{end, two_of};
+use crate::requests::{SMALL, answers, is, new_room};
 use engine::{Client, Engine, EngineBuilder, EngineId};
 use pathkey::Path;
 use std::alloc::Global;
@@ -13,10 +13,10 @@ use std::thread::{Threads, join};
 use test_support::{ExpectedReply, SampleCall};
 use volume::Frozen;
 
-/// How often a client looks for the other's file.
+/// How often a client polls for the other's file.
 const LOOKS: u32 = 1_000_000;
 
-/// Asks for a file until it is found.
+/// Polls for a file until it is found.
 fn finds<J: EngineId, R: Wait>(rt: &R, alloc: Global, client: &mut Client<J>, text: &str) -> bool {
     for _ in 0..LOOKS {
         if answers(
@@ -32,7 +32,7 @@ fn finds<J: EngineId, R: Wait>(rt: &R, alloc: Global, client: &mut Client<J>, te
     false
 }
 
-/// Whether the file stands in a tree that stands still.
+/// Whether the file is in a frozen tree.
 fn has_file(alloc: Global, tree: &Frozen, text: &str) -> bool {
     match Path::parse(alloc, text.as_bytes()) {
         Ok(path) => is(ExpectedReply::File(0), &tree.stat(alloc, &path)),
@@ -40,7 +40,7 @@ fn has_file(alloc: Global, tree: &Frozen, text: &str) -> bool {
     }
 }
 
-/// Whether both files stand in the tree that the client takes.
+/// Whether both files are in the tree that the client freezes.
 fn freezes_both<J: EngineId, R: Wait>(rt: &R, alloc: Global, client: &mut Client<J>) -> bool {
     match client.freeze(rt) {
         Ok(tree) => has_file(alloc, &tree, "/w1") && has_file(alloc, &tree, "/w2"),
@@ -48,7 +48,7 @@ fn freezes_both<J: EngineId, R: Wait>(rt: &R, alloc: Global, client: &mut Client
     }
 }
 
-/// Makes a file, waits for the other's, and then looks at both in a tree that stands still.
+/// Creates a file, waits for the other's, and then looks for both in a frozen tree.
 fn meet<J: EngineId, R: Wait>(
     rt: &R,
     alloc: Global,
@@ -68,7 +68,7 @@ fn meet<J: EngineId, R: Wait>(
     (client, made && found && both)
 }
 
-/// Two clients meet, each in a thread of its own.
+/// Runs two clients that wait for each other, each in a thread of its own.
 fn both_meet<J: EngineId + Send + Sync, R: Threads + Wait + Sync>(
     rt: &R,
     alloc: Global,
@@ -82,7 +82,7 @@ fn both_meet<J: EngineId + Send + Sync, R: Threads + Wait + Sync>(
     )
 }
 
-/// Whether two clients of an engine meet.
+/// Whether two clients of an engine find each other's file.
 fn in_room<J: EngineId + Send + Sync, R: Threads + Wait + Sync>(
     rt: &R,
     alloc: Global,

@@ -1,7 +1,7 @@
-//! A client among others: files that it alone writes, and calls on names that all share.
+//! A client of a stress test: files that only it writes, and calls on names that all share.
 ghost use Rattle.std.specs.Prelude.{◌≡◌};
 
-use crate::asked::{call_of, name_of};
+use crate::requests::{call_of, name_of};
 use crate::tally::{Course, Tally};
 use engine::{Client, EngineId};
 use pathkey::Errno;
@@ -12,25 +12,25 @@ use std::thread::Parker;
 use std::time::Duration;
 use test_support::{SampleCall, file_name};
 
-/// How many clients there are.
+/// The number of clients.
 pub const CLIENTS: usize = 8;
 
-/// How many files each client alone writes.
+/// The number of files that only this client writes.
 const FILES: usize = 16;
 
-/// How many files there are that one client alone writes.
+/// The number of files that only one client writes.
 pub const OWNED: u32 = 128;
 
-/// Where a mark stands: over the end of a block, so that it lies in two.
+/// The offset of a mark: it crosses the end of a block, so it is in two.
 pub const PLACE: u64 = 4_092;
 
-/// Above this is the number of the file in a mark.
+/// The number of the file in a mark is above this.
 const TAG: u64 = 1 << 32;
 
-/// The name of a snapshot that clients keep and drop.
+/// The name of a snapshot that clients take and drop.
 pub const LATER: &str = "t";
 
-/// What all clients ask for, over names that they share.
+/// The calls of all clients, on names that they share.
 const SHARED: &[SampleCall] = &[
     SampleCall::Mkdir("/d"),
     SampleCall::Create("/d/x"),
@@ -50,16 +50,16 @@ const SHARED: &[SampleCall] = &[
     SampleCall::Rmtree("/d"),
 ];
 
-/// The eight bytes of a file's mark: the number of the file, and how many marks came before, none at the first.
+/// The eight bytes of a file's mark: the number of the file, and how many marks were written before it.
 pub fn mark_of(file: u64, count: u64) -> [u8; 8] {
     file.wrapping_mul(TAG).wrapping_add(count).to_be_bytes()
 }
 
-/// What a client was answered.
+/// The result of a client's call.
 #[derive(Clone, Copy)]
 enum Found {
     Count(u64),
-    /// So many bytes, which stand for this number.
+    /// That many bytes, which represent this number.
     Mark(usize, u64),
     Fault(Errno),
     Other,
@@ -71,37 +71,38 @@ impl Found {
         matches!(self, Found::Count(8))
     }
 
-    /// Whether memory was refused.
+    /// Whether an allocation failed.
     fn is_refused(self) -> bool {
         matches!(self, Found::Fault(Errno::ENOMEM))
     }
 }
 
-/// Rests for so short a time that others get the lock.
+/// Sleeps for so short a time that others get the lock.
 pub fn rest<R: Wait>(rt: &R) {
     Parker::new().park_timeout(rt, Duration::from_micros(20));
 }
 
-/// What a client knows of one of its files. At first it has the mark of number 0, and the first snapshot keeps that.
+/// What a client knows of one of its files. At first the file has the mark of number 0, which is also in the first
+/// snapshot.
 #[derive(Clone, Copy)]
 struct Known {
     /// The number of the mark that the client wrote last.
     written: u64,
-    /// How many restores had ended before that was written.
+    /// The number of restores that had ended before that was written.
     ended: u64,
-    /// How many restores had begun when that was answered.
+    /// The number of restores that had begun when that returned.
     begun: u64,
-    /// Whether the client has read since that it is gone.
-    is_gone: bool,
+    /// Whether the client has read since that it was lost.
+    is_lost: bool,
 }
 
 impl Known {
-    /// Whether a read may find the mark of this number, where so many restores had ended before the read, and so many
-    /// had begun when it was answered.
+    /// Whether a read may find the mark of this number, if that many restores had ended before the read, and that many
+    /// had begun when it returned.
     ///
-    /// Where no restore came since the last mark was written, it is that mark. Where a restore of the first snapshot
-    /// surely came, it is the first mark, and stays so. Where one may have come, it is either. Where a later snapshot
-    /// may have come back, it is any mark that was written.
+    /// If no restore was done since the last mark was written, it is that mark. If a restore of the first snapshot was
+    /// certainly done, it is the first mark, and remains so. If one may have been done, it is either. If a later
+    /// snapshot may have been restored, it is any mark that was written.
     fn may_be(self, number: u64, course: Course, ended: u64, begun: u64) -> bool {
         if self.ended == begun {
             return number == self.written;
@@ -109,7 +110,7 @@ impl Known {
         match course {
             Course::Later => number <= self.written,
             Course::First | Course::Rests => {
-                number == 0 || (number == self.written && !self.is_gone && ended <= self.begun)
+                number == 0 || (number == self.written && !self.is_lost && ended <= self.begun)
             }
         }
     }
@@ -126,13 +127,13 @@ pub struct Own {
 }
 
 impl Own {
-    /// What a client knows at first, by its number.
+    /// The initial knowledge of the client with a number.
     pub fn new(client: usize) -> Own {
         let first = Known {
             written: 0,
             ended: 0,
             begun: 0,
-            is_gone: false,
+            is_lost: false,
         };
         Own {
             client: client % CLIENTS,
@@ -142,7 +143,7 @@ impl Own {
         }
     }
 
-    /// The next number, which looks random.
+    /// The next pseudo-random number.
     fn draw(&mut self) -> usize {
         self.seed = self
             .seed
@@ -151,23 +152,24 @@ impl Own {
         ((self.seed >> 40) % 4_096) as usize
     }
 
-    /// The number of a file among all: files that lie beside one another are of different clients.
+    /// The number of a file among all: adjacent files are of different clients.
     fn number(&self, file: usize) -> u32 {
         ((file % FILES) * CLIENTS + self.client % CLIENTS) as u32
     }
 
-    /// Notes that the next mark was written to a file, where so many restores had ended before, and so many have begun.
+    /// Records that the next mark was written to a file, with the numbers of restores that had ended before and that
+    /// have begun.
     fn note_write(&mut self, file: usize, ended: u64, begun: u64) {
         let known = &mut self.files[file % FILES];
         known.written = known.written.wrapping_add(1);
         known.ended = ended;
         known.begun = begun;
-        known.is_gone = false;
+        known.is_lost = false;
         self.last = file;
     }
 
-    /// Notes what a read found in a file, where so many restores had ended before, and so many have begun. Whether it
-    /// may be so.
+    /// Records what a read found in a file, with the numbers of restores that had ended before and that have begun.
+    /// Returns whether it may be so.
     fn note_read(
         &mut self,
         file: usize,
@@ -182,12 +184,12 @@ impl Own {
         let is_of_file = mark / TAG == u64::from(self.number(file));
         let known = &mut self.files[file % FILES];
         let is_right = known.may_be(mark % TAG, course, ended, begun);
-        known.is_gone = mark % TAG != known.written;
+        known.is_lost = mark % TAG != known.written;
         is_of_file && is_right
     }
 }
 
-/// The number that bytes stand for.
+/// The number that bytes represent.
 fn number_of(bytes: &[u8]) -> u64 {
     let mut number: u64 = 0;
     for byte in bytes {
@@ -196,7 +198,7 @@ fn number_of(bytes: &[u8]) -> u64 {
     number
 }
 
-/// What a reply says.
+/// The result in a reply.
 fn found_in(reply: &Reply) -> Found {
     match reply {
         Reply::Count(count) => Found::Count(*count),
@@ -206,7 +208,8 @@ fn found_in(reply: &Reply) -> Found {
     }
 }
 
-/// The reply to a call of the client. It ensures nothing, so that no proof of a test reads what a call means.
+/// The reply to a call of the client. It has no postcondition, so that the proofs of the tests do not unfold what a
+/// call does.
 fn reply_to<J: EngineId, R: Wait>(
     rt: &R,
     alloc: Global,
@@ -216,7 +219,7 @@ fn reply_to<J: EngineId, R: Wait>(
     client.call(rt, alloc, call, 0)
 }
 
-/// What a call of the client is answered.
+/// The result of a call of the client.
 fn found_by<J: EngineId, R: Wait>(
     rt: &R,
     alloc: Global,
@@ -226,7 +229,7 @@ fn found_by<J: EngineId, R: Wait>(
     found_in(&reply_to(rt, alloc, client, call))
 }
 
-/// What the client is answered.
+/// The result of a request of the client.
 fn asks<J: EngineId, R: Wait>(
     rt: &R,
     alloc: Global,
@@ -239,7 +242,7 @@ fn asks<J: EngineId, R: Wait>(
     }
 }
 
-/// What the client is answered where it writes a mark to the file of a number.
+/// The result of writing a mark to the file with a number.
 fn writes_mark<J: EngineId, R: Wait>(
     rt: &R,
     alloc: Global,
@@ -259,7 +262,7 @@ fn writes_mark<J: EngineId, R: Wait>(
     }
 }
 
-/// What the client is answered where it reads the mark of the file of a number.
+/// The result of reading the mark of the file with a number.
 fn reads_mark<J: EngineId, R: Wait>(
     rt: &R,
     alloc: Global,
@@ -288,7 +291,7 @@ fn writes<J: EngineId, R: Wait>(
     found.is_written()
 }
 
-/// Reads what one of its files holds.
+/// Reads one of its files.
 fn reads<J: EngineId, R: Wait>(
     rt: &R,
     alloc: Global,
@@ -302,12 +305,12 @@ fn reads<J: EngineId, R: Wait>(
     own.note_read(file, tally.course, ended, tally.begun(), found)
 }
 
-/// Whether a call on the later snapshot was done, or refused since there is one, or none.
+/// Whether a call on the later snapshot succeeded, or failed since it exists, or since it does not.
 fn is_settled(settled: Result<(), Errno>) -> bool {
     matches!(settled, Ok(()) | Err(Errno::EEXIST) | Err(Errno::ENOENT))
 }
 
-/// Keeps the later snapshot.
+/// Takes the later snapshot.
 fn keeps<J: EngineId, R: Wait>(rt: &R, alloc: Global, client: &mut Client<J>) -> bool {
     match name_of(alloc, LATER) {
         Some(name) => is_settled(client.snapshot(rt, alloc, &name)),
@@ -323,7 +326,7 @@ fn drops<J: EngineId, R: Wait>(rt: &R, alloc: Global, client: &mut Client<J>) ->
     }
 }
 
-/// A call on names that all share: whatever is answered, there is memory.
+/// A call on names that all share: any reply but ENOMEM is right.
 fn shares<J: EngineId, R: Wait>(
     rt: &R,
     alloc: Global,
@@ -354,8 +357,8 @@ fn next<J: EngineId, R: Wait>(
     }
 }
 
-/// Calls, the last on one of the client's own files, as long as the flushers want more of them. Whether each was
-/// answered as it may be, and recorded once.
+/// Makes calls, the last on one of the client's own files, as long as the flushers need more of them. Returns whether
+/// each had a possible reply, and was recorded once.
 pub fn work<J: EngineId, R: Wait>(
     rt: &R,
     alloc: Global,

@@ -1,8 +1,8 @@
-//! Two clients and two flushers, each in a thread of its own.
+//! Tests of two clients and two flushers, each in a thread of its own.
 ghost use Rattle.std.specs.Prelude.{◌≡◌};
 
-use crate::asked::{SMALL, answers, new_room};
 use crate::crew::{end, two_flushers, two_of};
+use crate::requests::{SMALL, answers, new_room};
 use engine::{Client, Engine, EngineBuilder, EngineId, Flusher};
 use std::alloc::Global;
 use std::marker::Brand;
@@ -11,7 +11,7 @@ use std::test::Fail;
 use std::thread::{Threads, join};
 use test_support::{ExpectedReply, SampleCall};
 
-/// How many calls a client makes.
+/// The number of calls of a client.
 const CALLS: u64 = 1000;
 
 /// The bytes that a client reads at the end.
@@ -23,7 +23,7 @@ fn written(alloc: Global) -> Option<Vec<u8>> {
     Some(bytes)
 }
 
-/// Writes a byte for each call but the first and the last, each behind the one before.
+/// Writes a byte for each call but the first and the last, each after the one before.
 fn write_all<J: EngineId, R: Wait>(
     rt: &R,
     alloc: Global,
@@ -44,7 +44,7 @@ fn write_all<J: EngineId, R: Wait>(
     is_right
 }
 
-/// A thousand calls on one file: it is made, written byte by byte, and read.
+/// A thousand calls on one file: it is created, written byte by byte, and read.
 fn thousand<J: EngineId, R: Wait>(
     rt: &R,
     alloc: Global,
@@ -87,12 +87,12 @@ fn thousands<J: EngineId + Send + Sync, R: Threads + Wait + Sync>(
     )
 }
 
-/// So many turns.
+/// Runs that many turns.
 fn flush<J: EngineId, R: Wait>(rt: &R, alloc: Global, mut flusher: Flusher<J>, turns: u32) {
     flusher.run_flusher(rt, alloc, turns);
 }
 
-/// So many turns by each of two flushers.
+/// Runs that many turns by each of two flushers.
 fn flush_both<J: EngineId + Send + Sync, R: Threads + Wait + Sync>(
     rt: &R,
     alloc: Global,
@@ -107,8 +107,8 @@ fn flush_both<J: EngineId + Send + Sync, R: Threads + Wait + Sync>(
     );
 }
 
-/// Two clients and two flushers at once. Whether each client was answered as the only one on its file, and how many calls there
-/// were in all.
+/// Two clients and two flushers at once. Returns whether the replies of each client are those of the only one on its file, and
+/// the total number of calls.
 fn at_once<J: EngineId + Send + Sync, R: Threads + Wait + Sync>(
     rt: &R,
     alloc: Global,

@@ -1,9 +1,9 @@
-//! An engine with one client and one flusher, and what is seen of them.
+//! Tests of an engine with one client and one flusher.
 ghost use Rattle.std.specs.Prelude.{◌≡◌};
 
-use crate::asked::{SMALL, new_room};
-use crate::between::{Interference, gives_back, goes_on};
+use crate::between::{Interference, gives_back, interferes};
 use crate::depth::{sinks, sinks_beside, takes_of_the_other};
+use crate::requests::{SMALL, new_room};
 use crate::unlocked::writes_meanwhile;
 use engine::{Client, Engine, EngineBuilder, EngineId, Flusher};
 use std::alloc::Global;
@@ -11,24 +11,24 @@ use std::marker::Brand;
 use std::sync::Wait;
 use std::thread::Threads;
 
-/// What is seen.
+/// A test.
 #[derive(Clone, Copy)]
 enum Scene {
-    /// Many files sink.
+    /// Many files are flushed.
     Sinks,
-    /// So many files sink, with a turn after each.
+    /// That many files are created and flushed, with a turn after each.
     SinksBeside(u32),
     /// A job of the index with fewer pending messages is taken.
     TakesOfTheOther,
-    /// A client does this between the two holds of a turn.
+    /// A client does this between the two critical sections of a turn.
     GoesOn(Interference),
-    /// A job is given back.
+    /// A job is returned unbuilt.
     GivesBack,
     /// A client writes while a flusher builds.
     WritesMeanwhile,
 }
 
-/// Whether it is seen of this client and this flusher.
+/// Whether the test passes with this client and this flusher.
 fn plays<J: EngineId + Send + Sync, R: Threads + Wait + Sync>(
     rt: &R,
     alloc: Global,
@@ -40,13 +40,13 @@ fn plays<J: EngineId + Send + Sync, R: Threads + Wait + Sync>(
         Scene::Sinks => sinks(rt, alloc, client, flusher),
         Scene::SinksBeside(files) => sinks_beside(rt, alloc, client, flusher, files),
         Scene::TakesOfTheOther => takes_of_the_other(rt, alloc, client, flusher),
-        Scene::GoesOn(interference) => goes_on(rt, alloc, client, flusher, interference),
+        Scene::GoesOn(interference) => interferes(rt, alloc, client, flusher, interference),
         Scene::GivesBack => gives_back(rt, alloc, client, flusher),
         Scene::WritesMeanwhile => writes_meanwhile(rt, alloc, client, flusher),
     }
 }
 
-/// Whether it is seen of the client and a flusher of this engine.
+/// Whether the test passes with the client and a flusher of this engine.
 fn plays_with<J: EngineId + Send + Sync, R: Threads + Wait + Sync>(
     rt: &R,
     alloc: Global,
@@ -63,7 +63,7 @@ fn plays_with<J: EngineId + Send + Sync, R: Threads + Wait + Sync>(
     }
 }
 
-/// Whether it is seen in an engine of one client.
+/// Whether the test passes in an engine of one client.
 fn plays_in<J: EngineId + Send + Sync, R: Threads + Wait + Sync>(
     rt: &R,
     alloc: Global,
@@ -80,12 +80,12 @@ fn plays_in<J: EngineId + Send + Sync, R: Threads + Wait + Sync>(
     }
 }
 
-/// Whether it is seen in this room.
+/// Whether the test passes with this builder.
 fn run<R: Threads + Wait + Sync>(rt: &R, alloc: Global, room: EngineBuilder, scene: Scene) -> bool {
     plays_in::<Brand, R>(rt, alloc, room, scene)
 }
 
-/// Whether it is seen.
+/// Whether the test passes.
 fn is_seen<R: Threads + Wait + Sync>(rt: &R, alloc: Global, scene: Scene) -> bool {
     match new_room(alloc, SMALL) {
         Some(room) => run(rt, alloc, room, scene),

@@ -1,10 +1,10 @@
-//! Eight clients and four flushers at once, in a tree that is deep enough for jobs, with snapshots and restores
-//! between.
+//! Tests of eight clients and four flushers at once, in a tree that is deep enough for jobs, with snapshots and
+//! restores between.
 ghost use Rattle.std.specs.Prelude.{◌≡◌};
 
-use crate::asked::name_of;
 use crate::filled::{FIRST, kept_room};
 use crate::own::{CLIENTS, LATER, Own, rest, work};
+use crate::requests::name_of;
 use crate::tally::{Course, Tally};
 use engine::{Between, Client, Clients, Engine, EngineBuilder, EngineId, Flusher, TurnReply};
 use std::alloc::Global;
@@ -13,17 +13,17 @@ use std::sync::Wait;
 use std::thread::{Scope, Threads, for_each_mut, scope, scope_env};
 use volume::{Done, Job};
 
-/// How many flushers there are, each with a client of its own, which restores.
+/// The number of flushers, each with a client of its own, which restores.
 const FLUSHERS: usize = 4;
 
-/// How many turns a flusher makes between two looks at the clients where nothing is restored.
+/// The number of turns of a flusher between two checks of the clients if nothing is restored.
 const TURNS: u32 = 64;
 
-/// How many turns a flusher makes at most once the clients are done.
+/// The maximal number of turns of a flusher after the clients are done.
 const LEFT: u32 = 10_000;
 
-/// A flusher's client. Where the flusher's turn has taken a job and the next restore may come, it restores a snapshot,
-/// so that the job is stale. Else it rests, so that clients come between.
+/// A flusher's client. If the flusher's turn has taken a job and the next restore is due, it restores a snapshot, so
+/// that the job is stale. Otherwise it sleeps, so that clients can run between.
 #[derive(Drop)]
 struct Restorer<'a, J: EngineId, R: Wait> {
     rt: &'a R,
@@ -61,7 +61,7 @@ fn restores_one<J: EngineId, R: Wait>(
     }
 }
 
-/// Restores a snapshot, and tells when it begins and ends.
+/// Restores a snapshot, and reports when it begins and ends.
 fn restores<J: EngineId, R: Wait>(rt: &R, alloc: Global, client: &mut Client<J>, tally: &Tally) {
     tally.begin_restore();
     let is_later = tally.has_later() && restores_one(rt, alloc, client, LATER);
@@ -69,7 +69,8 @@ fn restores<J: EngineId, R: Wait>(rt: &R, alloc: Global, client: &mut Client<J>,
     tally.end_restore(is_done);
 }
 
-/// A turn with a restore or a rest in it. A restore follows where nothing waits any more, so that there is more to do.
+/// A turn with a restore or a sleep in it. If nothing is pending any more, a restore follows, so that there is more to
+/// do.
 fn turn<J: EngineId, R: Wait>(
     rt: &R,
     alloc: Global,
@@ -84,7 +85,7 @@ fn turn<J: EngineId, R: Wait>(
     }
 }
 
-/// A turn or, where nothing is restored, many with the flusher's own rests between them.
+/// A turn or, if nothing is restored, many with the flusher's own sleeps between them.
 fn turns<J: EngineId, R: Wait>(
     rt: &R,
     alloc: Global,
@@ -98,7 +99,7 @@ fn turns<J: EngineId, R: Wait>(
     }
 }
 
-/// Turns until the clients are done, and enough jobs were installed and stale.
+/// Runs turns until the clients are done, and enough jobs were installed and stale.
 fn flush<J: EngineId, R: Wait>(
     rt: &R,
     alloc: Global,
@@ -138,7 +139,7 @@ fn start<'s, E, J: EngineId + Send + Sync + 's, R: Wait + Sync>(
     });
 }
 
-/// Starts a flusher of the engine with this client, if there are both.
+/// Starts a flusher of the engine with this client, if both exist.
 fn hire<'s, E, J: EngineId + Send + Sync + 's, R: Wait + Sync>(
     scope: &Scope<'s, E>,
     rt: &'s R,
@@ -155,7 +156,7 @@ fn hire<'s, E, J: EngineId + Send + Sync + 's, R: Wait + Sync>(
     }
 }
 
-/// The clients work, each in a thread of its own.
+/// Runs the clients, each in a thread of its own.
 fn work_all<J: EngineId + Send + Sync, R: Threads + Wait + Sync>(
     rt: &R,
     alloc: Global,
@@ -173,7 +174,7 @@ fn work_all<J: EngineId + Send + Sync, R: Threads + Wait + Sync>(
     );
 }
 
-/// The clients work while flushers make turns. Whether each client was answered as it may be, each of its calls was
+/// Runs the clients while flushers run turns. Returns whether each client had possible replies, each of its calls was
 /// recorded once, and enough jobs were installed and stale.
 fn beside<J: EngineId + Send + Sync, R: Threads + Wait + Sync>(
     rt: &R,
@@ -193,7 +194,8 @@ fn beside<J: EngineId + Send + Sync, R: Threads + Wait + Sync>(
     tally.is_right(CLIENTS as u64)
 }
 
-/// Whether the clients of an engine in the room are answered as they may be beside flushers, and enough jobs are installed and stale.
+/// Whether the clients of an engine of the builder have possible replies with flushers running, and enough jobs are installed and
+/// stale.
 fn in_room<J: EngineId + Send + Sync, R: Threads + Wait + Sync>(
     rt: &R,
     alloc: Global,
@@ -208,7 +210,8 @@ fn in_room<J: EngineId + Send + Sync, R: Threads + Wait + Sync>(
     }
 }
 
-/// Whether the clients of an engine in the room, under a name, are answered as they may be beside flushers.
+/// Whether the clients of an engine of the builder, with an identity of its own, have possible replies with flushers
+/// running.
 fn run<R: Threads + Wait + Sync>(
     rt: &R,
     alloc: Global,
@@ -218,7 +221,8 @@ fn run<R: Threads + Wait + Sync>(
     in_room::<Brand, R>(rt, alloc, room, course)
 }
 
-/// Whether the clients of an engine over many files, which the first snapshot keeps, are answered as they may be beside flushers.
+/// Whether the clients of an engine over many files, which are in the first snapshot, have possible replies with flushers
+/// running.
 fn is_right<R: Threads + Wait + Sync>(rt: &R, alloc: Global, course: Course) -> bool {
     match kept_room(alloc) {
         Some(room) => run(rt, alloc, room, course),

@@ -1,58 +1,58 @@
-//! What clients and flushers tell one another.
+//! The state that clients and flushers of a stress test share.
 use engine::TurnReply;
 use std::sync::atomic::{AtomicBool, AtomicU64, Ordering};
 
-/// How many calls a client makes where nothing is restored.
+/// The number of calls of a client if nothing is restored.
 const MANY: u64 = 10_000;
 
-/// How many calls it makes beside restores.
+/// The number of calls of a client with restores.
 const CALLS: u64 = 3_000;
 
-/// How many calls it makes beside restores until enough jobs were installed and stale.
+/// The maximal number of calls with restores until enough jobs were installed and stale.
 const MOST: u64 = 10_000;
 
-/// How many jobs are installed at least.
+/// The least number of jobs that are installed.
 const INSTALLED: u64 = 1_000;
 
-/// How many jobs are stale at least.
+/// The least number of jobs that are stale.
 const STALE: u64 = 100;
 
-/// How many jobs are installed at least for each restore.
+/// The least number of jobs that are installed for each restore.
 const APART: u64 = 8;
 
-/// What flushers do beside the clients.
+/// What flushers do while the clients run.
 #[derive(Clone, Copy)]
 pub enum Course {
-    /// They rest between their turns, as `run_flusher` does, and nothing is restored.
+    /// They sleep between their turns, as `run_flusher` does, and nothing is restored.
     Rests,
-    /// Now and then one of them restores the first snapshot, between taking a job and installing it.
+    /// From time to time one of them restores the first snapshot, between taking a job and installing it.
     First,
-    /// Now and then one of them restores a snapshot that a client has kept meanwhile, or else the first, between taking a job and
-    /// installing it.
+    /// From time to time one of them restores a snapshot that a client has taken meanwhile, or otherwise the first, between
+    /// taking a job and installing it.
     Later,
 }
 
-/// What is told.
+/// The shared state.
 #[derive(Drop)]
 pub struct Tally {
     /// What flushers do.
     pub course: Course,
     /// Whether the clients are done.
     done: AtomicBool,
-    /// How many clients were answered as they may be.
+    /// The number of clients whose replies were possible.
     right: AtomicU64,
-    /// How many restores have begun.
+    /// The number of restores that have begun.
     begun: AtomicU64,
-    /// How many restores have ended, all of them done.
+    /// The number of restores that have ended, all of them successfully.
     ended: AtomicU64,
-    /// How many jobs were installed.
+    /// The number of jobs that were installed.
     installed: AtomicU64,
-    /// How many jobs were stale.
+    /// The number of jobs that were stale.
     stale: AtomicU64,
 }
 
 impl Tally {
-    /// Nothing was told.
+    /// The initial state.
     pub fn new(course: Course) -> Tally {
         Tally {
             course,
@@ -65,12 +65,12 @@ impl Tally {
         }
     }
 
-    /// A client is done; whether it was answered as it may be.
+    /// Records that a client is done, and whether its replies were possible.
     pub fn note(&self, is_right: bool) {
         self.right.fetch_add(u64::from(is_right), Ordering::SeqCst);
     }
 
-    /// A turn has ended.
+    /// Records a turn that has ended.
     pub fn note_turn(&self, reply: TurnReply) {
         match reply {
             TurnReply::Installed => {
@@ -83,27 +83,27 @@ impl Tally {
         }
     }
 
-    /// A restore begins.
+    /// Records that a restore begins.
     pub fn begin_restore(&self) {
         self.begun.fetch_add(1, Ordering::SeqCst);
     }
 
-    /// A restore has ended; whether it was done.
+    /// Records that a restore has ended, and whether it succeeded.
     pub fn end_restore(&self, is_done: bool) {
         self.ended.fetch_add(u64::from(is_done), Ordering::SeqCst);
     }
 
-    /// How many restores have begun.
+    /// The number of restores that have begun.
     pub fn begun(&self) -> u64 {
         self.begun.load(Ordering::SeqCst)
     }
 
-    /// How many restores have ended.
+    /// The number of restores that have ended.
     pub fn ended(&self) -> u64 {
         self.ended.load(Ordering::SeqCst)
     }
 
-    /// All clients are done.
+    /// Records that all clients are done.
     pub fn end(&self) {
         self.done.store(true, Ordering::SeqCst);
     }
@@ -118,24 +118,24 @@ impl Tally {
         !matches!(self.course, Course::Rests)
     }
 
-    /// Whether there are restores of a snapshot that a client has kept meanwhile.
+    /// Whether there are restores of a snapshot that a client has taken meanwhile.
     pub fn has_later(&self) -> bool {
         matches!(self.course, Course::Later)
     }
 
-    /// Whether as many jobs were installed, and as many stale, as are wanted.
+    /// Whether enough jobs were installed, and enough were stale.
     pub fn is_enough(&self) -> bool {
         !self.has_restores()
             || (self.installed.load(Ordering::SeqCst) >= INSTALLED
                 && self.stale.load(Ordering::SeqCst) >= STALE)
     }
 
-    /// Whether so many jobs were installed that the next restore may come.
+    /// Whether enough jobs were installed for the next restore.
     pub fn wants_restore(&self) -> bool {
         self.installed.load(Ordering::SeqCst) / APART > self.begun()
     }
 
-    /// Whether a client that made so many calls is to make more.
+    /// Whether a client that made that many calls makes more.
     pub fn wants(&self, made: u64) -> bool {
         if self.has_restores() {
             made < CALLS || (made < MOST && !self.is_enough())
@@ -144,12 +144,12 @@ impl Tally {
         }
     }
 
-    /// Whether a client that made so many calls rests, so that flushers get the lock.
+    /// Whether a client that made that many calls sleeps, so that flushers get the lock.
     pub fn wants_rest(&self, made: u64) -> bool {
         self.has_restores() && made % 4 == 0
     }
 
-    /// Whether so many clients were answered as they may be, each restore was done, and enough jobs were installed and
+    /// Whether that many clients had possible replies, each restore succeeded, and enough jobs were installed and
     /// stale.
     pub fn is_right(&self, clients: u64) -> bool {
         self.right.load(Ordering::SeqCst) == clients

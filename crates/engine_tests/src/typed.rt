@@ -1,5 +1,5 @@
-//! Each file call of a client by its name, once; and what stands then has the moments at which it was changed.
-use crate::asked::{SMALL, new_room};
+//! Tests of the typed calls of a client: each once; the entries then have the mtimes of their changes.
+use crate::requests::{SMALL, new_room};
 use engine::{Client, ClientTask, EngineBuilder, EngineId, Errno, Kind, Path};
 use std::alloc::Global;
 use std::sync::Wait;
@@ -7,7 +7,7 @@ use std::sync::atomic::{AtomicBool, Ordering};
 use std::thread::Threads;
 use test_support::ask::path;
 
-/// A directory, a file in it, and where the file is moved to.
+/// A directory, a file in it, and the new path of the file.
 #[derive(Drop)]
 struct Places {
     home: Path,
@@ -22,7 +22,7 @@ fn new_places(alloc: Global) -> Result<Places, Errno> {
     Ok(Places { home, file, moved })
 }
 
-/// Makes the file and moves it, a moment after the other: how many bytes were written.
+/// Creates the file, writes it and renames it, with rising timestamps; returns how many bytes were written.
 fn changes<J: EngineId, R: Wait>(
     rt: &R,
     alloc: Global,
@@ -45,7 +45,7 @@ fn reads<J: EngineId, R: Wait>(rt: &R, alloc: Global, client: &mut Client<J>, fi
     }
 }
 
-/// Whether the directory has one entry, which is the moved file.
+/// Whether the directory has one entry, which is the renamed file.
 fn lists<J: EngineId, R: Wait>(rt: &R, alloc: Global, client: &mut Client<J>, home: &Path) -> bool {
     match client.readdir(rt, alloc, home) {
         Ok(entries) => match entries.as_slice() {
@@ -56,7 +56,7 @@ fn lists<J: EngineId, R: Wait>(rt: &R, alloc: Global, client: &mut Client<J>, ho
     }
 }
 
-/// Whether the looks tell what was changed.
+/// Whether reads report what was changed.
 fn looks<J: EngineId, R: Wait>(
     rt: &R,
     alloc: Global,
@@ -69,7 +69,7 @@ fn looks<J: EngineId, R: Wait>(
         && client.stat(rt, alloc, &places.home) == Ok((Kind::Dir, 0, 5))
 }
 
-/// Whether file and directory are taken out, and are not there any more.
+/// Whether file and directory are removed, and do not exist any more.
 fn removes<J: EngineId, R: Wait>(
     rt: &R,
     alloc: Global,
@@ -82,8 +82,8 @@ fn removes<J: EngineId, R: Wait>(
         && client.rmtree(rt, alloc, &places.home, 8) == Err(Errno::ENOENT)
 }
 
-/// Whether each call is answered as it has to be.
-fn goes<J: EngineId, R: Wait>(rt: &R, alloc: Global, client: &mut Client<J>) -> bool {
+/// Whether each call has its expected result.
+fn succeeds<J: EngineId, R: Wait>(rt: &R, alloc: Global, client: &mut Client<J>) -> bool {
     match new_places(alloc) {
         Ok(places) => {
             changes(rt, alloc, client, &places) == Ok(5)
@@ -109,7 +109,7 @@ impl ClientTask for EachCall {
         client: &mut Client<J>,
     ) {
         self.is_right
-            .store(goes(rt, alloc, client), Ordering::SeqCst);
+            .store(succeeds(rt, alloc, client), Ordering::SeqCst);
     }
 }
 

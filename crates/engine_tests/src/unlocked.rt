@@ -1,8 +1,8 @@
-//! A job is built without the lock: a client's write is answered while a flusher builds.
+//! Tests that a job is built without the lock: a client's write returns while a flusher builds.
 ghost use Rattle.std.specs.Prelude.{◌≡◌};
 
-use crate::asked::answers;
 use crate::depth::{FILES, makes_all, shapes, turns_until_idle};
+use crate::requests::answers;
 use engine::{Between, Client, EngineId, Flusher, TurnReply};
 use std::alloc::Global;
 use std::sync::Wait;
@@ -12,15 +12,15 @@ use std::time::Duration;
 use test_support::{ExpectedReply, SampleCall, file_name};
 use volume::{Done, Job};
 
-/// How often a flusher looks for a flag.
+/// How often a flusher polls for a flag.
 const LOOKS: u32 = 10_000;
 
-/// What a flusher and a client tell one another.
+/// The flags that a flusher and a client share.
 #[derive(Drop)]
 struct Flags {
     /// The flusher has begun to build.
     began: AtomicBool,
-    /// A write that began after that was answered.
+    /// A write that began after that has returned.
     wrote: AtomicBool,
     /// The turn has ended.
     ended: AtomicBool,
@@ -36,12 +36,12 @@ impl Flags {
     }
 }
 
-/// Rests for a millisecond.
+/// Sleeps for a millisecond.
 fn rest<R: Wait>(rt: &R) {
     Parker::new().park_timeout(rt, Duration::from_millis(1));
 }
 
-/// Whether a write was answered before so many looks.
+/// Whether a write returned before that many polls.
 fn sees_write<R: Wait>(rt: &R, flags: &Flags) -> bool {
     for _ in 0..LOOKS {
         if flags.wrote.load(Ordering::SeqCst) {
@@ -52,7 +52,7 @@ fn sees_write<R: Wait>(rt: &R, flags: &Flags) -> bool {
     false
 }
 
-/// Looks until the flusher builds, or its turn has ended: whether it builds.
+/// Polls until the flusher builds, or its turn has ended; returns whether it builds.
 fn sees_build<R: Wait>(rt: &R, flags: &Flags) -> bool {
     for _ in 0..u64::MAX {
         if flags.began.load(Ordering::SeqCst) {
@@ -66,7 +66,7 @@ fn sees_build<R: Wait>(rt: &R, flags: &Flags) -> bool {
     false
 }
 
-/// Looks until the turn has ended.
+/// Polls until the turn has ended.
 fn sees_end<R: Wait>(rt: &R, flags: &Flags) {
     for _ in 0..u64::MAX {
         if flags.ended.load(Ordering::SeqCst) {
@@ -76,7 +76,7 @@ fn sees_end<R: Wait>(rt: &R, flags: &Flags) {
     }
 }
 
-/// Builds only once a client has written.
+/// Builds only after a client has written.
 #[derive(Drop)]
 struct Waits<'a, R: Wait> {
     rt: &'a R,
@@ -94,7 +94,7 @@ impl<'a, R: Wait> Between for Waits<'a, R> {
     fn between(&mut self) {}
 }
 
-/// One turn: whether it installed a job, and saw a write while it built.
+/// One turn; returns whether it installed a job, and saw a write while it built.
 fn builds<J: EngineId, R: Wait>(
     rt: &R,
     alloc: Global,
@@ -111,7 +111,7 @@ fn builds<J: EngineId, R: Wait>(
     between.is_seen && reply == TurnReply::Installed
 }
 
-/// Writes once the flusher builds, and reads the bytes back once its turn has ended.
+/// Writes while the flusher builds, and reads the bytes back after its turn has ended.
 fn writes<J: EngineId, R: Wait>(
     rt: &R,
     alloc: Global,
@@ -137,7 +137,7 @@ fn writes<J: EngineId, R: Wait>(
     )
 }
 
-/// Writes a byte to the file of a number.
+/// Writes a byte to the file with a number.
 fn fills_one<J: EngineId, R: Wait>(
     rt: &R,
     alloc: Global,
@@ -156,7 +156,7 @@ fn fills_one<J: EngineId, R: Wait>(
     }
 }
 
-/// Makes many files with a byte each, and then turns until nothing waits.
+/// Creates many files with a byte each, and then runs turns until nothing is pending.
 fn fills<J: EngineId, R: Wait>(
     rt: &R,
     alloc: Global,
@@ -170,7 +170,7 @@ fn fills<J: EngineId, R: Wait>(
     is_right && turns_until_idle(rt, alloc, flusher).is_some()
 }
 
-/// Whether both trees have two inner levels or more, and one file more waits.
+/// Whether both trees have two inner levels or more, and one more file is pending.
 fn is_ready<J: EngineId, R: Wait>(rt: &R, alloc: Global, client: &mut Client<J>) -> bool {
     match shapes(rt, client) {
         Some((meta, block)) => {
@@ -188,7 +188,7 @@ fn is_ready<J: EngineId, R: Wait>(rt: &R, alloc: Global, client: &mut Client<J>)
     }
 }
 
-/// A turn beside a client: whether a write was answered while it built.
+/// A turn beside a client; returns whether a write returned while it built.
 pub fn writes_meanwhile<J: EngineId + Send + Sync, R: Threads + Wait + Sync>(
     rt: &R,
     alloc: Global,
@@ -197,11 +197,11 @@ pub fn writes_meanwhile<J: EngineId + Send + Sync, R: Threads + Wait + Sync>(
 ) -> bool {
     let is_ready = fills(rt, alloc, &mut client, &mut flusher) && is_ready(rt, alloc, &mut client);
     let flags = Flags::new();
-    let told = &flags;
+    let shared = &flags;
     let (built, read) = join(
         rt,
-        move || builds(rt, alloc, flusher, told),
-        move || writes(rt, alloc, client, told),
+        move || builds(rt, alloc, flusher, shared),
+        move || writes(rt, alloc, client, shared),
     );
     is_ready && built && read
 }

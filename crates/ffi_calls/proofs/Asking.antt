@@ -1,4 +1,5 @@
--- What was told of a call that changes a volume: the number of bytes that were written, and texts that were not read.
+-- The result of a call that changes a volume: the number of bytes that were written, or the error of a text that was
+-- not parsed.
 use Rattle.std.proofs.Common.{◌≡◌, ◌⊎◌, ℕ, List, [], ◌∷◌, length, cond, refl, sym, subst, ◌∙◌, Result, Ok, Err, IsOk, inl, inr}
 use Rattle.pathkey.specs.Names.{Path}
 use Rattle.pathkey.specs.Outcomes.{IsOrLacksMemory}
@@ -18,9 +19,9 @@ use Rattle.volume.specs.Volumes.{PVolume, IsVolume, live_of}
 use Rattle.volume.proofs.Leading.{lacks_call}
 use Rattle.ffi_calls.specs.Changes.{Asks, asked}
 
--- ---- a write is told by the number of its bytes
+-- ---- the result of a write is the number of its bytes
 
--- the replies to a write of bytes: their number, or a refusal
+-- the replies to a write of bytes: their number, or a fault
 abbrev Replies : List ℕ → Reply → Type 0
 Replies w r = (r ≡ Count (length w)) ⊎ ((e : Errno) × (r ≡ Fault e))
 
@@ -46,13 +47,13 @@ pub written : (p : Path) (off : ℕ) (bytes : List ℕ) (at n : ℕ) (old new : 
 written p off bytes at n old new v k =
     subst (λ (x : ℕ). Called (Write p off bytes) at (Count x) old new) (fitting at v.world p off n bytes (k.leads v.world v.means).0) k
 
--- ---- a path that was not read, or for which memory was refused
+-- ---- a path that was not parsed, because it is invalid or an allocation failed
 
 -- it is a reply of the call
 not_called : (c : Call) (at : ℕ) (v : PVolume) → Called c at (Fault ENOMEM) v v
 not_called c at v = lacks_call v c at (live_of v) refl
 
--- no path was read: the text is none, or memory was refused
+-- no path was parsed: the text is not a path, or an allocation failed
 unread : (call : Path → Call) (at : ℕ) (read answer : Result Path Errno) (e : Errno) (v : PVolume) → IsOrLacksMemory answer read → answer ≡ Err e → Asks (asked call read) at (Err e) v v
 unread call at read answer e v (inl is) err = subst (λ (r : Result Path Errno). Asks (asked call r) at (Err e) v v) (sym err ∙ is) (refl, refl)
 unread call at read answer e v (inr lacks) err = lacking read lacks.1
@@ -61,6 +62,6 @@ unread call at read answer e v (inr lacks) err = lacking read lacks.1
     lacking (Ok p) some = let same : e ≡ ENOMEM = (cc) in subst (λ (x : Errno). Called (call p) at (Fault x) v v) (sym same) (not_called (call p) at v)
     lacking (Err f) some = absurd (cc)
 
--- so the call is answered by the error that came of reading its path
+-- so the call's result is the error of parsing its path
 pub not_read : (call : Path → Call) (at : ℕ) (read answer : Result Path Errno) (e : Errno) (outcome : Result (Unit {0}) Errno) (v : PVolume) → IsOrLacksMemory answer read → answer ≡ Err e → outcome ≡ Err e → Asks (asked call read) at outcome v v
 not_read call at read answer e outcome v is err same = subst (λ (r : Result (Unit {0}) Errno). Asks (asked call read) at r v v) (sym same) (unread call at read answer e v is err)

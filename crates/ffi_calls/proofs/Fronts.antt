@@ -37,7 +37,7 @@ fill_ends b off n end i out is some h was =
     let all : end - off ≡ min (4096 * i) end - off = omega arith in
     ap (λ (k : ℕ). take k out) all ∙ read_ends b off n (length b) end i (take (min (4096 * i) end - off) out) refl is some h was
 
--- what is behind stays behind
+-- the bytes after the front are unchanged
 pub rest_stays : (k m : ℕ) (old new : List ℕ) → k ≤ m → drop k new ≡ drop k old → drop m new ≡ drop m old
 rest_stays k m old new h e =
     let on : m ≡ k + (m - k) = omega arith in

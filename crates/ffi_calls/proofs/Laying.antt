@@ -1,4 +1,4 @@
--- What two writes side by side leave in a buffer: bytes of a block, and zeros behind them.
+-- The effect of two adjacent writes to a buffer: bytes of a block, and zeros after them.
 use Rattle.std.proofs.Common.{◌≡◌, ℕ, ◌+◌, ◌-◌, ◌≤◌, ◌<◌, min, List, ◌++◌, length, take, drop, get_or, replicate, sym, ap, ◌∙◌, arith}
 use Rattle.std.proofs.lemmas.List.{take_all, length-append, length-take, length-take-le, length-drop, length-replicate, get_or-take}
 use Rattle.std.proofs.lemmas.Slice.{take-put_mid, drop-put_mid}
@@ -16,7 +16,8 @@ length_put a k xs ys h e =
     let behind : length (drop a xs) ≡ length xs - a = length-drop a xs in
     omega arith
 
--- the block v from its byte `from` up to `to` behind the first `done` bytes of the buffer o, with zeros where it has none
+-- bytes `from` up to `to` of the block v, after the first `done` bytes of the buffer o, with zeros where the block has
+-- none
 module _ (o bytes zeros v : List ℕ) (from to stop begin done there whole : ℕ) (h : from ≤ to) (room : whole ≤ length o) (es : stop ≡ min to (length v)) (eb : begin ≡ min from stop) (et : there ≡ done + (stop - begin)) (ew : whole ≡ done + (to - from)) (ed : bytes ≡ take (stop - begin) (drop begin v)) (ez : zeros ≡ replicate (length (take (whole - there) (drop there (put_mid done (there - done) o bytes)))) 0) where
   abbrev between : List ℕ
   between = put_mid done (there - done) o bytes

@@ -10,7 +10,7 @@ use Rattle.volume.specs.Volumes.{PVolume, live_of}
 use Rattle.volume.proofs.MtimeCalls.{lacks_mtime}
 use Rattle.ffi_calls.specs.Mtimes.{SetsMtimeAt}
 
--- the text is none, or memory was refused
+-- the text is not a path, or an allocation failed
 pub unread_mtime : (at : ℕ) (read answer : Result Path Errno) (e : Errno) (v : PVolume) → IsOrLacksMemory answer read → answer ≡ Err e → SetsMtimeAt read at (Err e) v v
 unread_mtime at read answer e v (inl is) err = subst (λ (r : Result Path Errno). SetsMtimeAt r at (Err e) v v) (sym err ∙ is) (refl, refl)
 unread_mtime at read answer e v (inr lacks) err = lacking read lacks.1

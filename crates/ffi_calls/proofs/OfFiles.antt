@@ -17,9 +17,9 @@ use Rattle.volume.specs.HistoryOf.{Tells}
 use Rattle.volume.specs.Volumes.{MeanRooted, MeanSome}
 use Rattle.ffi_calls.specs.Reads.{IsLong}
 
--- ---- what a stat tells of a read
+-- ---- what a stat implies for a read
 
--- how a stat of what stands at a path is replied to
+-- the reply to a stat of the entry at a path
 abbrev reported_of : Tree → At → Reply
 reported_of t here = (unless t (path_fault here ∷ []) (t, stat_of here)).1
 
@@ -52,13 +52,13 @@ no_length_here t Missing n m h = absurd (cc)
 no_length_here t Blocked n m h = absurd (cc)
 
 module _ (p : Path) (i : FsRoot) where
-  -- a directory is told with no length
+  -- a directory has no length
   pub no_length : (n m : ℕ) → MeanSome i → Tells (AskStat p) (Stat Directory n m) i → Tells (AskStat p) (Stat Directory 0 m) i
   no_length n m s k =
       let none : n ≡ 0 = ⊎_elim (λ (h : Stat Directory n m ≡ (does 0 s.tree (AskStat p)).1). no_length_here s.tree (entry_at s.tree p) n m (h ∙ stat_is 0 s.tree p)) (λ (h : Stat Directory n m ≡ Fault ENOMEM). absurd (cc)) (k s.tree 0 s.means) in
       subst (λ (x : ℕ). Tells (AskStat p) (Stat Directory x m) i) none k
 
-  -- a refusal of a stat is that of a read
+  -- a stat and a read fail for the same reason
   pub read_as_stat : (e : Errno) → Tells (AskStat p) (Fault e) i → (off n : ℕ) → Tells (Read p off n) (Fault e) i
   read_as_stat e k off n = λ t at mean. ⊎_elim (λ (h : Fault e ≡ (does at t (AskStat p)).1). inl (sym (read_refused at t p off n e (refused_here t (entry_at t p) e (h ∙ stat_is at t p))))) (λ (h : Fault e ≡ Fault ENOMEM). inr h) (k t at mean)
 
@@ -66,7 +66,7 @@ module _ (p : Path) (i : FsRoot) where
   pub read_of_directory : (m : ℕ) → Tells (AskStat p) (Stat Directory 0 m) i → (off n : ℕ) → Tells (Read p off n) (Fault EISDIR) i
   read_of_directory m k off n = λ t at mean. ⊎_elim (λ (h : Stat Directory 0 m ≡ (does at t (AskStat p)).1). inl (sym (read_refused at t p off n EISDIR (directory_here t (entry_at t p) m (h ∙ stat_is at t p))))) (λ (h : Stat Directory 0 m ≡ Fault ENOMEM). absurd (cc)) (k t at mean)
 
-  -- a file is as long as is told
+  -- the length of a file is the reported one
   pub long_file : (n m : ℕ) → Tells (AskStat p) (Stat Plain n m) i → IsLong p i n
   long_file n m k = λ t mean. ⊎_elim (λ (h : Stat Plain n m ≡ (does 0 t (AskStat p)).1). file_here t (entry_at t p) n m (h ∙ stat_is 0 t p)) (λ (h : Stat Plain n m ≡ Fault ENOMEM). absurd (cc)) (k t 0 mean)
 
@@ -89,6 +89,6 @@ module _ (p : Path) (i : FsRoot) where
     pub too_much : (off n : ℕ) → greatest_read < n → Tells (Read p off n) (Fault EINVAL) i
     too_much off n h = λ t at mean. let f = is t mean in inl (sym (read_too_much at t p off n f.0 f.1 f.2 (lt-ltb greatest_read n h)))
 
-    -- what a read gives, where these are the bytes of each such file
+    -- what a read returns, if these are the bytes of each such file
     pub read_is : (off n : ℕ) (items : List ℕ) → n ≤ greatest_read → ((t : Tree) (date : ℕ) (b : List ℕ) → MeanRooted i t → entry_at t p ≡ Found (File date b) → length b ≡ len → items ≡ take n (drop off b)) → Tells (Read p off n) (Data items) i
     read_is off n items h same = λ t at mean. let f = is t mean in inl (ap Data (same t f.0 f.1 mean f.2 f.3) ∙ sym (read_done at t p off n f.0 f.1 f.2 (le-ltb greatest_read n h)))

@@ -14,7 +14,7 @@ abbrev pub IsKept : Result (List ℕ) Errno → World → Tree → Type 0
 IsKept (Err e) w t = ⊥
 IsKept (Ok s) w t = finite.get w.snapshots s ≡ Some t
 
--- the tree that a text names: the live one where it is empty, and else that of the snapshot of that name
+-- the tree that a text names: the live one if it is empty, otherwise that of the snapshot of that name
 abbrev pub NamesTree : List ℕ → World → Tree → Type 0
 NamesTree [] w t = t ≡ w.live
 NamesTree (b ∷ name) w t = IsKept (snap_parsed (b ∷ name)) w t
@@ -24,7 +24,7 @@ abbrev pub IsNotKept : Result (List ℕ) Errno → World → Errno → Type 0
 IsNotKept (Err f) w e = e ≡ f
 IsNotKept (Ok s) w e = (e ≡ ENOENT) × (finite.get w.snapshots s ≡ None)
 
--- why a text names no tree, or memory was refused
+-- why a text does not name a tree, or ENOMEM
 abbrev pub LacksTree : List ℕ → World → Errno → Type 0
 LacksTree [] w e = e ≡ ENOMEM
 LacksTree (b ∷ name) w e = IsNotKept (snap_parsed (b ∷ name)) w e ⊎ (e ≡ ENOMEM)
@@ -33,7 +33,7 @@ LacksTree (b ∷ name) w e = IsNotKept (snap_parsed (b ∷ name)) w e ⊎ (e ≡
 abbrev pub NamesOne : List ℕ → World → Type 0
 NamesOne name w = (t : Tree) × NamesTree name w t
 
--- why the first of two texts names no tree; or, only if it names one, why the second names none; or memory was refused
+-- why the first of two texts does not name a tree; or, if it does, why the second does not; or ENOMEM
 abbrev pub LacksOne : List ℕ → List ℕ → World → Errno → Type 0
 LacksOne old new w e = LacksTree old w e ⊎ (NamesOne old w × LacksTree new w e)
 
@@ -41,6 +41,6 @@ LacksOne old new w e = LacksTree old w e ⊎ (NamesOne old w × LacksTree new w 
 abbrev pub DiffersSo : List ℕ → List ℕ → World → List ℕ → Type 0
 DiffersSo old new w text = (t : Tree) × (u : Tree) × NamesTree old w t × NamesTree new w u × IsDifference text t u
 
--- its size was told, and it is in the buffer where it fits
+-- the result is its size, and the buffer has it if it fits
 abbrev pub PrintsDifference : List ℕ → List ℕ → World → Result ℕ Errno → List ℕ → List ℕ → Type 0
 PrintsDifference old new w outcome before after = (text : List ℕ) × DiffersSo old new w text × Prints text outcome before after

@@ -1,4 +1,4 @@
--- Blocks of a file that were found, to be laid into a buffer.
+-- Blocks of a file that were found, to be copied into a buffer.
 use Rattle.std.specs.Prelude.{◌≡◌, ◌+◌, ◌*◌, ◌<◌, ℕ, List, length, slice_index, slice_index_or, Option, None}
 use Rattle.reference.specs.Indexes.{byte_of}
 

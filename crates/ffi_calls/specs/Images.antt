@@ -8,12 +8,13 @@ use Rattle.images.specs.Printings.{HandsOver, PPrinting}
 use Rattle.volume.specs.Volumes.{MeanRooted}
 use Rattle.ffi_calls.specs.Reads.{copied}
 
--- how many bytes the text has, which is in the buffer where it fits; or memory was refused, and the buffer is as it was
+-- the result is the number of bytes of the text, and the buffer has it if it fits; or it is ENOMEM, and the buffer is
+-- unchanged
 abbrev pub Prints : List ℕ → Result ℕ Errno → List ℕ → List ℕ → Type 0
 Prints text (Ok n) old new = (n ≡ length text) × (new ≡ copied text old)
 Prints text (Err e) old new = (e ≡ ENOMEM) × (new ≡ old)
 
--- so many bytes more of the image were handed over; or memory was refused, and the printing and the buffer are as they were
+-- so many more bytes of the image were handed out; or an allocation failed, and the printer and the buffer are unchanged
 abbrev pub PrintsOn : PPrinting → Result ℕ Errno → PPrinting → List ℕ → List ℕ → Type 0
 PrintsOn p (Ok n) q old new = (q ≡ record p { done = p.done + n }) × ((t : Tree) → MeanRooted p.tree t → HandsOver (image Second t) p.done n old new)
 PrintsOn p (Err e) q old new = (e ≡ ENOMEM) × (q ≡ p) × (new ≡ old)

@@ -8,7 +8,8 @@ use Rattle.volume.specs.Typed.{replied}
 use Rattle.volume.specs.Volumes.{PVolume}
 use Rattle.ffi_calls.specs.Changes.{Refuses}
 
--- a text that is no path is refused, and nothing changes; else the mtime was set at the path, and what is told is the volume's answer
+-- a text that is not a path fails, and nothing changes; otherwise the mtime was set at the path, and the result is the volume's
+-- answer
 abbrev pub SetsMtimeAt : Result Path Errno → ℕ → Result (Unit {0}) Errno → PVolume → PVolume → Type 0
 SetsMtimeAt (Err e) at outcome old new = Refuses e outcome old new
 SetsMtimeAt (Ok p) at outcome old new = SetsMtime p at (replied (λ _. Done) outcome) old new

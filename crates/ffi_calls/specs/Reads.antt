@@ -1,4 +1,4 @@
--- Calls asked in texts that only look, and what they write into a buffer.
+-- Calls, given as texts, that only read, and what they write into a buffer.
 use Rattle.std.specs.Prelude.{◌≡◌, ℕ, ◌≤◌, List, [], ◌∷◌, ◌++◌, length, take, drop, flat_map, nat_le, if◌then◌else◌, Result, Ok, Err, MatchResult}
 use Rattle.volume.specs.declared.fs_root.FsRoot.{FsRoot}
 use Rattle.pathkey.specs.Names.{Name, Path}
@@ -14,7 +14,7 @@ use Rattle.reference.specs.Tree.{Tree, Found, File, entry_at}
 use Rattle.volume.specs.HistoryOf.{Tells}
 use Rattle.volume.specs.Volumes.{MeanRooted}
 
--- a text that is no path is refused; else this holds of the path
+-- a text that is not a path fails; otherwise this holds of the path
 abbrev pub OnPath : {A : Type 0} → Result Path Errno → Result A Errno → (Path → Type 0) → Type 0
 OnPath read result P = MatchResult read P (λ e. result ≡ Err e)
 
@@ -25,23 +25,23 @@ abbrev pub filled : Result ℕ Errno → ℕ
 filled (Ok n) = n
 filled (Err e) = 0
 
--- so many bytes were written at the front of the buffer, no more than it has, and the rest is as it was
+-- so many bytes were written at the front of the buffer, no more than it has, and the rest is unchanged
 pub record Fills (result : Result ℕ Errno) (old new : List ℕ) : Type 0 where
   pub fits : filled result ≤ length old
   pub rest : drop (filled result) new ≡ drop (filled result) old
 
--- the reply that was told by the front of a buffer
+-- the reply that the front of a buffer represents
 abbrev pub read_reply : Result ℕ Errno → List ℕ → Reply
 read_reply (Ok n) out = Data (take n out)
 read_reply (Err e) out = Fault e
 
--- in each tree that is meant a file of so many bytes stands at the path
+-- in each tree of the indexes there is a file of so many bytes at the path
 abbrev pub IsLong : Path → FsRoot → ℕ → Type 0
 IsLong p i len = (t : Tree) → MeanRooted i t → (date : ℕ) × (b : List ℕ) × (entry_at t p ≡ Found (File date b)) × (length b ≡ len)
 
--- ---- what stands at a path
+-- ---- the entry at a path
 
--- the reply that was told by what stands there
+-- the reply that these metadata represent
 abbrev pub stat_reply : Result Meta Errno → Reply
 stat_reply (Ok (Dir at)) = Stat Directory 0 at
 stat_reply (Ok (FileMeta len at)) = Stat Plain len at
@@ -62,18 +62,18 @@ entry_bytes e = letter_of e.0 ∷ e.1 ++ 0 ∷ []
 abbrev pub listing_bytes : List (Kind × Name) → List ℕ
 listing_bytes es = flat_map entry_bytes es
 
--- the buffer with bytes at its front, where they fit, and else as it was
+-- the buffer with the bytes at its front if they fit, and otherwise unchanged
 abbrev pub copied : List ℕ → List ℕ → List ℕ
 copied bytes out = if nat_le (length bytes) (length out) then bytes ++ drop (length bytes) out else out
 
--- the entries that the tree has at the path, and how many bytes they take, which are in the buffer where they fit
+-- the entries of the tree at the path, and the length of their listing, which is in the buffer if it fits
 pub record ListsAll (p : Path) (i : FsRoot) (n : ℕ) (old new : List ℕ) : Type 0 where
   pub entries : List (Kind × Name)
   pub tells : Tells (Readdir p) (Names entries) i
   pub size : n ≡ length (listing_bytes entries)
   pub buffer : new ≡ copied (listing_bytes entries) old
 
--- the same, or the refusal, and the buffer is as it was
+-- the same, or it failed, and the buffer is unchanged
 abbrev pub Lists : Path → FsRoot → Result ℕ Errno → List ℕ → List ℕ → Type 0
 Lists p i (Ok n) old new = ListsAll p i n old new
 Lists p i (Err e) old new = Tells (Readdir p) (Fault e) i × (new ≡ old)

@@ -1,4 +1,4 @@
--- Calls of snapshots, whose names are asked in texts.
+-- Snapshot calls whose names are given as texts.
 use Rattle.std.specs.Prelude.{◌≡◌, ◌⊎◌, ℕ, List, length, Result, Ok, Err, Option, Some, None, IfOk}
 use Rattle.std.specs.FinMap as finite
 use Rattle.volume.specs.declared.fs_root.FsRoot.{FsRoot}
@@ -11,8 +11,8 @@ use Rattle.volume.specs.Volumes.{PVolume, Means}
 use Rattle.ffi_calls.specs.Changes.{Refuses}
 use Rattle.ffi_calls.specs.Reads.{copied}
 
--- a text that is no name is refused, and nothing changes; else the volume has settled the call of that name, or memory was
--- refused on the way to it
+-- a text that is not a name fails, and nothing changes; otherwise the volume has executed the call of that name, or an
+-- allocation failed before it
 abbrev pub SettlesNamed : Result (List ℕ) Errno → (List ℕ → Event) → (List ℕ → PVolume → PVolume → Type 0) → Snapped → PVolume → PVolume → Type 0
 SettlesNamed (Err e) event Done result old new = Refuses e result old new
 SettlesNamed (Ok s) event Done result old new = Settles (event s) (Done s) result old new ⊎ Refuses ENOMEM result old new
@@ -22,12 +22,12 @@ pub record Keeps (s : List ℕ) (v : PVolume) (result : Result FsRoot Errno) : T
   pub same : IfOk result (λ f. finite.get v.snapshots s ≡ Some f)
   pub means : (w : World) → Means v w → Finds s result w
 
--- a text that is no name is refused; else it is the tree of that name, or memory was refused on the way to it
+-- a text that is not a name fails; otherwise it is the tree of that name, or an allocation failed before
 abbrev pub FindsNamed : Result (List ℕ) Errno → PVolume → Result FsRoot Errno → Type 0
 FindsNamed (Err e) v result = result ≡ Err e
 FindsNamed (Ok s) v result = Keeps s v result ⊎ (result ≡ Err ENOMEM)
 
--- how many bytes the name has, which is in the buffer where it fits; where there is no such name, ENOENT, and the buffer is as it was
+-- the length of the name, which is in the buffer if it fits; if there is no such name, ENOENT, and the buffer is unchanged
 abbrev pub TellsName : Option (List ℕ) → Result ℕ Errno → List ℕ → List ℕ → Type 0
 TellsName (Some name) result old new = (result ≡ Ok (length name)) × (new ≡ copied name old)
 TellsName None result old new = (result ≡ Err ENOENT) × (new ≡ old)

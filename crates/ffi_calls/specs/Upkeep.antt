@@ -8,7 +8,7 @@ use Rattle.volume.specs.Volumes.{PVolume}
 use Rattle.volume.specs.declared.event.Index.TheVariants.{Meta, Block}
 use Rattle.volume.specs.declared.event.CompactStep.{CompactStep}
 
--- the step was done: it had room, and memory was found
+-- the step was done: it fitted, and no allocation failed
 abbrev pub is_done : StepReply → Bool
 is_done (Did n) = true
 is_done _ = false

@@ -1,4 +1,4 @@
-//! Tree steps between the calls.
+//! Tree steps between the calls. They do not change the world of the volume.
 ghost use Rattle.std.specs.Prelude.{◌≡◌, ◌≤◌, ◌<◌, ◌⊎◌, true, false};
 ghost use Rattle.reference.specs.Worlds.{World};
 ghost use Rattle.volume.specs.Volumes.{Means};
@@ -8,8 +8,8 @@ use std::alloc::Global;
 use volume::{StepReply, Volume};
 
 /// Does at most `steps` tree steps, each in the index with more pending pieces. Returns how many were done. It stops early
-/// only if nothing is pending, or if the next step was not done, since it has no room or an allocation failed. In that case
-/// another try would change nothing either. The volume still abstracts to the same world.
+/// only if no message is pending, or if the next step was not done, since it does not fit or an allocation failed. In that
+/// case another try would change nothing either. The volume still abstracts to the same world.
 pub fn compact(alloc: Global, volume: &mut Volume, steps: u32) -> u32
     ensures few { result ≤ steps }
     ensures steps { Relieves result volume.old volume.new }

@@ -1,4 +1,5 @@
-//! Calls that only read, either the live tree of a volume or a frozen tree.
+//! Calls that only read, either the live tree of a volume or a frozen tree. A listing is written only if the whole of
+//! it fits into the buffer; its length is returned in either case.
 ghost use Rattle.std.specs.Prelude.{◌≡◌, ◌≢◌, ◌≤◌, ◌^◌, ◌++◌, [], ℕ, drop, length, IfErr, IfOk, MatchResult};
 ghost use Rattle.pathkey.specs.Texts.{parsed};
 ghost use Rattle.reference.specs.Pairs.{pairs_of};

@@ -1,4 +1,4 @@
-//! Snapshots and frozen trees.
+//! Snapshot calls, and frozen trees.
 ghost use Rattle.std.specs.Prelude.{◌≡◌, MatchResult, slice_get};
 ghost use Rattle.pathkey.specs.SnapNames.{snap_parsed};
 ghost use Rattle.reference.specs.Worlds.{DropSnapshot, RestoreSnapshot, TakeSnapshot};

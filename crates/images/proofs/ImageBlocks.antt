@@ -27,7 +27,7 @@ trimmed_end (x ∷ xs) b ne = trimmed_is x (xs ++ b ∷ []) ∙ ap (keep x) (tri
     some zero (y ∷ ys) = refl
     some (suc x) xs = refl
 
--- a last byte that is zero goes
+-- a last byte that is zero is trimmed
 pub trimmed_less : (bytes : List ℕ) (k : ℕ) → get_or bytes k 0 ≡ 0 → trimmed (take k bytes) ≡ trimmed (take (k + 1) bytes)
 trimmed_less bytes k e = trimmed_same (take k bytes) (take (k + 1) bytes) at
   where
@@ -71,7 +71,7 @@ zero_at n k = ⊎_elim
     (λ (h : n ≤ k). get_or_past (zeros_of n) k 0 (let l : length (zeros_of n) ≡ n = length-replicate n 0 in omega arith))
     (cases_lt k n)
 
--- zeros behind bytes are trimmed away
+-- zeros after bytes are trimmed
 trimmed_zeros : (v : List ℕ) (n : ℕ) → trimmed (v ++ zeros_of n) ≡ trimmed v
 trimmed_zeros v n = trimmed_same (v ++ zeros_of n) v (λ j. ⊎_elim
     (λ (h : j < length v). get_or_append_left v (zeros_of n) 0 j h)
@@ -155,7 +155,7 @@ module _ (b : List ℕ) (i : ℕ) (x : ℕ × List ℕ) (are : AreBlocks b i 1 (
       ∙ ap (λ (l : List ℕ). l ++ block_line x.0 (trimmed (block_bytes b x.0))) (none_between b i x.0 next.0 skipped)
       ∙ ap (λ (l : List ℕ). block_lines b i ++ block_line x.0 l) (block_trimmed b x.0 x.1 next.2)
 
--- where there is no next, all lines are written
+-- if there is no next one, all lines are written
 no_next : (b : List ℕ) (i : ℕ) → AreBlocks b i 1 [] → block_lines b i ≡ block_lines b (count b)
 no_next b i are = ⊎_elim
     (λ (h : i < count b). sym (none_between b i (count b) (omega arith) (λ j g f. blank j g)))
@@ -187,7 +187,7 @@ block_passed (Found (Dir d es)) i x are = absurd (cc)
 block_passed Missing i x are = absurd (cc)
 block_passed Blocked i x are = absurd (cc)
 
--- where it gives none, none is left
+-- if it returns none, none is left
 pub blocks_passed : (at : At) (i : ℕ) → AreBlocksAt at i 1 [] → blocks_left at i ≡ []
 blocks_passed (Found (File d b)) i are = left_is d b i [] (sym (no_next b i are) ∙ sym (append-nil (block_lines b i)))
 blocks_passed (Found (Dir d es)) i are = refl

@@ -27,7 +27,7 @@ use Rattle.images.specs.Spots.{AreFrom}
 use Rattle.volume.specs.Walks.{AreEntries, IsEntry}
 use Rattle.volume.proofs.Walks.{assert_invariant}
 
--- ---- what stands in a directory
+-- ---- the entries of a directory
 
 missing_stands : (r : Path) (y : Tree) → fold onward Missing r ≡ Found y → ⊥
 missing_stands r y e = let clash : Missing ≡ Found y = sym (fold-Missing r) ∙ e in cc
@@ -191,7 +191,7 @@ image_starts (File stamp b) date is same = absurd is.root
 pub behind_root : (k : Key) → reaches (next_key k) [] ≡ false
 behind_root k = reaches-next k [] ∙ not_before_from_reaches [] k (from_start k)
 
--- of what stands somewhere, metadata are told
+-- each entry has metadata
 pub reported_of : (x : Tree) → (v : Meta) × (meta_of (sighted (Found x)) ≡ Some v)
 reported_of (Dir date es) = (DirMeta date, refl)
 reported_of (File date b) = (FileMeta (length b) date, refl)
@@ -225,7 +225,7 @@ first_text (Dir date es) lo k (n ∷ r) y is low at none key e =
 
 -- ---- a walk from entry to entry
 
--- no key stands before itself
+-- no key is before itself
 itself : (k : Key) → before k k ≡ false
 itself k = not_before_from_reaches k k (reaches-refl k)
 
@@ -236,7 +236,7 @@ module _ (t : Tree) (lo : Key) (n : ℕ) (e : Path × Meta) (es : List (Path × 
   later : (k : ℕ) (d : Path × Meta) → k < length es → before (enc e.0) (enc (get_or es k d).0) ≡ true
   later k d l = are.rising 0 (suc k) d (omega arith) (omega (arith, l))
 
-  -- what is listed stands at the first or behind it
+  -- a listed entry is the first or after it
   not_before_first : (p : Path) (m : Meta) → Contains (e ∷ es) (p, m) → before (enc p) (enc e.0) ≡ false
   not_before_first p m (zero, l, is) = ap (λ (x : Path × Meta). before (enc p) (enc x.0)) is ∙ itself (enc p)
   not_before_first p m (suc k, l, is) = not_before (enc e.0) (enc p) (subst (λ (x : Path × Meta). before (enc e.0) (enc x.0) ≡ true) is (later k (p, m) (omega (arith, l))))
@@ -256,7 +256,7 @@ module _ (t : Tree) (lo : Key) (n : ℕ) (e : Path × Meta) (es : List (Path × 
       first_text t lo (enc e.0) e.0 at.0 is low head_at.0 none_before refl at.1
       ∙ ap (λ (a : At). lines_there e.0 a ++ image_from (next_key (enc e.0)) t) (sym at.1)
 
-  -- those behind the first are a walk from the next key on
+  -- the entries after the first are a walk from the next key on
   pub others : AreFrom t (next_key (enc e.0)) (n - 1) es
   others = record {
     few = omega (arith, are.few);
@@ -274,7 +274,7 @@ module _ (t : Tree) (lo : Key) (n : ℕ) (e : Path × Meta) (es : List (Path × 
       listed p m after (zero, l, is) = absurd (let not : before (enc e.0) (enc p) ≡ false = ap (λ (x : Path × Meta). before (enc x.0) (enc p)) is ∙ itself (enc p) in cc)
       listed p m after (suc k, l, is) = (k, omega (arith, l), is)
 
--- where none is listed, and some was asked for, no line is left
+-- if none is listed, though some were requested, no line is left
 pub none_behind : (t : Tree) (p : Path) (n : ℕ) → IsTree t → AreFrom t (next_key (enc p)) n [] → 0 < n → image_from (next_key (enc p)) t ≡ []
 none_behind t p n is are some = image_end t (next_key (enc p)) is (λ q x at. false_from_ne_true (within (next_key (enc p)) None (enc q)) (λ h.
     let reported : (v : Meta) × (meta_of (sighted (Found x)) ≡ Some v) = reported_of x in

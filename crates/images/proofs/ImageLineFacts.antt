@@ -23,7 +23,7 @@ use Rattle.images.specs.declared.image_line.ImageLine.TheVariants.{Directory, Fi
 
 -- ---- a path in percent form
 
--- what is read of the spelling of a path: the path, or want of memory
+-- parsing the spelling of a path: the result is the path, or ENOMEM
 pub path_spelled : (word : Text) (p q : Path) (r : Result Path Errno) (guess : Option Path) → (r ≡ path_of word) ⊎ (r ≡ Err ENOMEM) → r ≡ Ok q → IsPath p → p ≢ [] → word ≡ path_text p → (q ≢ [] → guess ≡ Some q) → guess ≡ Some p
 path_spelled word p q r guess read is path ne e same = ⊎_elim
     (λ (f : r ≡ path_of word).
@@ -86,11 +86,11 @@ pub record IsCut (text front back : Text) : Type 0 where
   pub is : text ≡ front ++ 32 ∷ back
   pub first : All (λ b. b ≢ 32) front
 
--- the parts are those of each other cut behind visible bytes
+-- two ways to split a text after visible bytes have the same parts
 pub cut_parts : (text front back xs r : Text) → IsCut text front back → Visible xs → text ≡ xs ++ 32 ∷ r → (front ≡ xs) × (back ≡ r)
 cut_parts text front back xs r h v e = same_cut front xs back r (no_space_from_all front h.first) (no_space_from_visible xs v) (sym h.is ∙ e)
 
--- a text without a space has none behind visible bytes
+-- a text without a space has none after visible bytes
 pub never_cut : (text xs r : Text) → All (λ b. b ≢ 32) text → text ≡ xs ++ 32 ∷ r → ⊥
 never_cut text xs r h e = no_space_there xs r (subst NoSpace e (no_space_from_all text h))
 
@@ -137,7 +137,7 @@ other_letter v text front back h d f b = no_guess v text (λ l is e. clash l (cu
     clash (FileLine p n at) e = f e
     clash (BlockLine i b') e = b e
 
--- the first byte, and what is behind the second
+-- the first byte, and the text after the second
 abbrev first : Text → ℕ
 first [] = 0
 first (x ∷ xs) = x
@@ -227,7 +227,7 @@ pub some_block : (guess : Option (List ℕ)) (b : List ℕ) → IfSome guess IsB
 some_block None b h e = absurd (cc)
 some_block (Some c) b h e = let same : c ≡ b = cc in subst IsBlock same h
 
--- ---- the moment that ends a line
+-- ---- the mtime at the end of a line
 
 -- what was cut off is what was spelled
 pub moment_cut : (v : Version) (words : Text) (cut : Option (Text × ℕ)) → CutsMoment v words cut → (front : Text) (a : ℕ) → cut ≡ Some (front, a) → (last : Text) (at : ℕ) → All (λ b. b ≢ 32) last → IsReported v at
@@ -236,7 +236,7 @@ moment_cut v words cut h front a is last at free reported e =
     let same : (front, a) ≡ (last, at) = same_Some {A = Text × ℕ} (front, a) (last, at) (sym is ∙ h.complete last at free reported e) in
     (ap (λ (p : Text × ℕ). p.0) same, ap (λ (p : Text × ℕ). p.1) same)
 
--- and something was, where something is spelled
+-- and something was, if the text spells something
 pub no_moment_cut : (v : Version) (words : Text) (cut : Option (Text × ℕ)) → CutsMoment v words cut → cut ≡ None → (last : Text) (at : ℕ) → All (λ b. b ≢ 32) last → IsReported v at → words ≡ last ++ moment_text v at → ⊥
 no_moment_cut v words cut h none last at free reported e = let clash : ◌≡◌ {A = Option (Text × ℕ)} None (Some (last, at)) = sym none ∙ h.complete last at free reported e in cc
 
@@ -267,12 +267,12 @@ root_read line read h v a is = go (subst (IsRoot line) is h)
 pub root_unread : (line : Text) (read : Option (Version × ℕ)) → IsRoot line read → read ≡ None → (v : Version) (at : ℕ) → IsReported v at → line ≢ root_line v at
 root_unread line read h none = subst (IsRoot line) none h
 
--- no line of version 1, nor one of version 2 without a number behind its words
+-- no line of version 1, nor one of version 2 without a number after its words
 pub no_root : (line rest : Text) → line ≢ codes "d /" → rest ≡ drop (length (codes "D / ")) line → ((n : ℕ) → n < 2 ^ 64 → rest ≢ decimal n) → (v : Version) (at : ℕ) → IsReported v at → line ≢ root_line v at
 no_root line rest other is none First at reported e = other e
 no_root line rest other is none Second at reported e = none at reported (is ∙ ap (drop (length (codes "D / "))) e)
 
--- ---- how a moment is cut off
+-- ---- how an mtime is split off
 
 -- version 1 has none
 pub cuts_nothing : (words : Text) → CutsMoment First words (Some (words, 0))
@@ -287,7 +287,7 @@ cuts_nothing words = record {
 pub cuts_no_space : (words : Text) → All (λ b. b ≢ 32) words → CutsMoment Second words None
 cuts_no_space words h = record { valid = tt; complete = λ front at free reported e. absurd (never_ends words front at h e) }
 
--- and a number behind that
+-- and a number after that
 pub cuts_no_number : (words front back : Text) → IsCut words front back → number_of back ≡ None → CutsMoment Second words None
 cuts_no_number words front back h none = record {
   valid = tt;
@@ -305,7 +305,7 @@ cuts_last words front back n h number few = record {
       ap (λ (w : Text). Some (w, n)) parts.0 ∙ ap (λ (k : ℕ). Some (last, k)) same;
 }
 
--- the length and the moment that end the line of a file
+-- the length and the mtime at the end of the line of a file
 pub len_spelled : (v : Version) (numbers number : Text) (cut : Option (Text × ℕ)) → CutsMoment v numbers cut → (a : ℕ) → cut ≡ Some (number, a) → (n at : ℕ) → n ≤ 2 ^ 40 → IsReported v at → numbers ≡ decimal n ++ moment_text v at
     → (number_of number ≡ Some n) × (a ≡ at)
 len_spelled v numbers number cut h a is n at few reported e =

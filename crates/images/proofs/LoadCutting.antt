@@ -29,7 +29,7 @@ pub loads_line : (piece rest end after items between now : Text) (old mid new : 
 loads_line piece rest end after items between now old mid new (front, is, f) cut g =
     (front ++ (end ++ 10 ∷ []), line_cut piece front rest end after is cut, loads_then front (end ++ 10 ∷ []) items between now old mid new f g)
 
--- the next line was refused
+-- the next line failed
 pub refused_at_line : (piece rest end after items between : Text) (n : ℕ) (old mid : LoadState) → LoadsFront piece rest items between old mid
     → rest ≡ end ++ 10 ∷ after → RefusesPiece between (end ++ 10 ∷ []) n mid → RefusesPiece items piece n old
 refused_at_line piece rest end after items between n old mid (front, is, f) cut g text later h =
@@ -68,7 +68,7 @@ line_loaded end items line now old new whole none short loads text h =
     (subst (λ (t : Text). HasRead t [] new) (append_assoc text end (10 ∷ []))
     (line_read (text ++ end) line old new short loads (bytes_read text items line end old whole h)))
 
--- the line was refused
+-- the line failed
 pub line_refused : (end items line : Text) (n : ℕ) (old : LoadState) → ((held : Text) → Holds held items → Holds (held ++ end) line) → n ≡ old.lines + 1
     → RefusesLine line old → RefusesPiece items (end ++ 10 ∷ []) n old
 line_refused end items line n old whole count refuses text rest h =

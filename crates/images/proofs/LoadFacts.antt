@@ -78,7 +78,7 @@ can_plant b p m are h =
     let r : Ready b.root p b.lines = ready b.version b.root p b.lines (made b.version b.root b.lines are.0 are.1) (new_entry b p m h) in
     record { some = r.some; parent_there = r.parent_there; free = r.free; short = not_too_long b p m h }
 
--- the answer tells whether a fault came
+-- the answer shows whether there was a fault
 fault_none : (t u : Tree) (fault : Option Errno) → ◌≡◌ {A = Snapped} (Ok tt) (planted_unless t u fault).1 → fault ≡ None
 fault_none t u None e = refl
 fault_none t u (Some f) e = absurd (cc)
@@ -100,7 +100,7 @@ last_of_entry : (ls : Lines) (p : Path) (m : Meta) → (p ≡ last_path (entry_l
 last_of_entry ls p (DirMeta at) = (refl, refl, refl)
 last_of_entry ls p (FileMeta n at) = (refl, refl, refl)
 
--- the moment of an entry that was put
+-- the mtime of an entry that was put
 same_moment : (a : At) (x : Tree) → sighted a ≡ sighted (Found x) → moment_there a ≡ moment x
 same_moment (Found (Dir d es)) (Dir e fs) s = let q : Some (Seen Directory d) ≡ Some (Seen Directory e) = s in cc
 same_moment (Found (Dir d es)) (File e c) s = absurd (let q : Some (Seen Directory d) ≡ Some (Seen (Bytes c) e) = s in cc)
@@ -224,7 +224,7 @@ block_done old v i bytes len number n count block file rises inside h = λ b is.
       next = refl;
     }
 
--- the same, where the place is known to fit
+-- the same, if the block is known to fit
 pub block_at : (old : LoadState) (v : PVolume) (i j off : ℕ) (b : List ℕ) (number : ℕ) → j ≡ i → number ≡ old.lines + 1 → IsBlock b → FitsAt i (length b) old off → Counts (Write old.last off b) old.modified old.volume v
     → LoadsNext (BlockLine i b) old (record { volume = v; version = old.version; lines = number; last = old.last; modified = old.modified; len = old.len; next = j + 1 })
 block_at old v i j off b number same count block fits counts =
@@ -312,7 +312,7 @@ nothing_read l means lines last moment len at = record {
   holds = holds_nothing;
 }
 
--- what is held is the line, where it is short
+-- what is buffered is the line, if it is short
 line_is : (left items : Text) → Holds left items → length items ≤ 65536 → items ≡ left
 line_is left items h short = ⊎_elim
     (λ (l : 65536 < length left). absurd (let g : 65536 < length items = h.long l in omega arith))
@@ -332,7 +332,7 @@ line_read text items old new short loads h =
       holds = holds_nothing;
     }
 
--- a line that was refused is refused by what was held of it
+-- if a line fails, so does the part of it that is kept
 refused_left : (left items : Text) (l : LoadState) → Holds left items → RefusesLine items l → RefusesLine left l
 refused_left left items l h refuses = ⊎_elim
     (λ (s : 65536 < length left). long_refused left l s)
@@ -382,7 +382,7 @@ end_refused items n l count bad text h = subst (IsBadAt n) (sym h.cut) (go h.so_
     go (Some s) is [] free b = absurd (let c : l.lines ≡ length s.lines + 1 = is.count in ⊎_elim (λ (s : 0 < length {A = ℕ} []). omega arith) (λ (z : l.lines ≡ 0). omega arith) b)
     go (Some s) is (x ∷ left) free b = let c : l.lines ≡ length s.lines + 1 = is.count in bad_end s.version s.root s.lines n x left is.are.0 is.are.1 free (omega arith)
 
--- what was loaded means the tree of the image
+-- what was loaded abstracts to the tree of the image
 pub loaded : (text : Text) (l : LoadState) → (b : Begun) × IsLoading (Some b) l × (text ≡ text_of b) → IsSomeImage text × Loaded text l.volume
 loaded text l (b, is, text_is) =
     let m = lines_law b.version b.root b.lines is.are.0 is.are.1 in (
@@ -403,7 +403,7 @@ planted_ok (Err f) p m old new e h = absurd (cc)
 same_form : (v w : PVolume) → w.live.indexes.meta.tree.shape ≡ v.live.indexes.meta.tree.shape → w.live.indexes.block.tree.shape ≡ v.live.indexes.block.tree.shape → w.marks ≡ v.marks → form_of w ≡ form_of v
 same_form v w m b k = λ i. record { meta = m i; block = b i; marks = k i }
 
--- messages that come to a tree leave its shape
+-- messages that a tree receives do not change its shape
 received_shape : {U V : Type 0} (means : U → Option V → Option V) (ms : List (Msg U V)) (a b : PTree U V) → Receives means ms a b → b.shape ≡ a.shape
 received_shape {U} {V} means [] a b h = ap (λ (t : PTree U V). t.shape) h
 received_shape {U} {V} means (m ∷ ms) a b h = h.shape_kept

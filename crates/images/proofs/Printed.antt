@@ -23,7 +23,7 @@ use Rattle.images.proofs.WholeLines.{ends_after}
 use Rattle.volume.specs.Volumes.{MeanRooted}
 use Rattle.volume.specs.declared.fs_root.FsRoot.{FsRoot}
 
--- ---- behind the root
+-- ---- after the root
 
 abbrev pub IsBehindRoot : PrintPosition → Type 0
 IsBehindRoot s = (s.last ≡ []) × (s.from ≡ 0)
@@ -38,7 +38,7 @@ left_of_root (File date b) is = absurd is.root
 root_left : (t : Tree) (s : PrintPosition) → IsTree t → IsBehindRoot s → left_at t s ≡ image_from (next_key []) t
 root_left t s is behind = ap (left_at t) (is_root s behind) ∙ left_of_root t is
 
--- the line of the root, and what is left behind it
+-- the line of the root, and the lines after it
 pub root_starts : (t : Tree) (s : PrintPosition) (date : ℕ) → IsTree t → moment t ≡ date → IsBehindRoot s → image Second t ≡ number_line (codes "D / ") date ++ left_at t s
 root_starts t s date is same behind = image_starts t date is same ∙ ap (λ (l : Text). number_line (codes "D / ") date ++ l) (sym (root_left t s is behind))
 
@@ -74,7 +74,7 @@ module _ (a b c : Option (List ℕ)) (t : Tree) (s new : PrintPosition) (text : 
   split : image Second t ≡ so_far.0 ++ (text ++ left_at t new)
   split = so_far.1 ∙ ap (λ (l : Text). so_far.0 ++ l) (on.left ∙ ap (λ (l : Text). l ++ left_at t new) lines_are)
 
-  -- the lines that come next
+  -- the next lines
   pub printed_more : Appends b c text → PrintedTo a c t new
   printed_more w = (
     so_far.0 ++ text,
@@ -88,7 +88,7 @@ module _ (a b c : Option (List ℕ)) (t : Tree) (s new : PrintPosition) (text : 
   pub printed_more_part : AppendsPart b c text → AppendsPart a c (image Second t)
   printed_more_part part = subst (AppendsPart a c) (sym split) (part_after a b c so_far.0 (text ++ left_at t new) so_far.2 (part_before b c text (left_at t new) part))
 
--- where no line is left
+-- if no line is left
 pub printed_all : (a c : Option (List ℕ)) (t : Tree) (s : PrintPosition) → left_at t s ≡ [] → PrintedTo a c t s → Appends a c (image Second t)
 printed_all a c t s none (done, split, w, at, ends) = subst (Appends a c) (sym (split ∙ ap (λ (l : Text). done ++ l) none ∙ append-nil done)) w
 
@@ -146,7 +146,7 @@ ready_more i r s all is used done passes ahead = record {
 
 -- ---- handed out
 
--- so many bytes more of what is ready were handed out
+-- so many more bytes of what is ready were handed out
 pub ready_less : (i : FsRoot) (r : PrintedLines) (n : ℕ) (old new : List ℕ) → IsReady i r → HandsOut n r old new → IsReady i (record r { used = r.used + n; done = r.done + n })
 ready_less i r n old new is out = record {
   fits = let l = length-drop r.used r.text.items in omega (arith, l, out.ready, is.fits);
@@ -186,7 +186,7 @@ hands_over i t r n old new is mean filled out =
 
 -- ---- the next piece
 
--- what is ready behind it, whatever was answered
+-- the lines that are ready after it, whatever the result
 pub ready_after : {E : Type 0} (i : FsRoot) (r s : PrintedLines) (reported : Result ℕ E) (old new : List ℕ) → IsReady i r → IfOk reported (λ n. HandsOut n r old new)
     → IfOk reported (λ n. s ≡ record r { used = r.used + n; done = r.done + n }) → OnErr reported ((s ≡ r) × (new ≡ old)) → IsReady i s
 ready_after i r s (Ok n) old new is out on refused = subst (IsReady i) (sym on) (ready_less i r n old new is out)
@@ -203,14 +203,14 @@ next_piece p i r (Err e) old new tree done is filled out = tt
 
 -- ---- more lines
 
--- where lines are ready
+-- if lines are ready
 pub still_ready : (i : FsRoot) (r : PrintedLines) → r.used < length r.text.items → (t : Tree) → MeanRooted i t → ready_text r ≡ [] → left_at t r.spot ≡ []
 still_ready i r some t mean none =
     let l = length-drop r.used r.text.items in
     let z : length (ready_text r) ≡ 0 = ap length none in
     absurd (omega (arith, l, z, some))
 
--- where none came
+-- if there was no line
 pub none_came : (i : FsRoot) (r s : PrintedLines) → IsReady i r → s.used ≡ 0 → ((t : Tree) → MeanRooted i t → IsAt t r.spot → IsAhead t r.spot.last r.ahead → length s.text.items < 65536 → left_at t s.spot ≡ [])
     → (t : Tree) → MeanRooted i t → ready_text s ≡ [] → left_at t s.spot ≡ []
 none_came i r s is used rest t mean none =

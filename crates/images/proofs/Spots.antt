@@ -24,7 +24,7 @@ use Rattle.volume.specs.Walks.{AreBlocksAt, AreEntries, IsEntry}
 pub passes_nothing : (t : Tree) (s : PrintPosition) (had : Text) → IsAt t s → Passes t s had s had
 passes_nothing t s had at = record { lines = []; added = sym (append-nil had); left = refl; whole = inl refl; at = at }
 
--- lines behind others
+-- lines after others
 pub passes_then : (t : Tree) (a b c : PrintPosition) (x y z : Text) → Passes t a x b y → Passes t b y c z → Passes t a x c z
 passes_then t a b c x y z f g = record {
   lines = f.lines ++ g.lines;
@@ -48,7 +48,7 @@ passes_block t s number block had has at are put =
       at = at;
     }
 
--- the line of the entry that comes next
+-- the line of the next entry
 pub passes_entry : (t : Tree) (s : PrintPosition) (e : Path × Meta) (had has : Text) → IsPassed t s → IsNextAt t s.last e → has ≡ had ++ entry_text e.0 e.1 → Passes t s had (record { last = e.0; from = 0 }) has
 passes_entry t s e had has passed next put = record {
   lines = entry_text e.0 e.1;
@@ -58,7 +58,7 @@ passes_entry t s e had has passed next put = record {
   at = (e.1, next.is);
 }
 
--- ---- where the blocks of an entry end
+-- ---- the end of the blocks of an entry
 
 ends_at : (a : At) (m : Meta) (i : ℕ) → meta_of (sighted a) ≡ Some m → size_of m ≤ i * 4096 → blocks_left a i ≡ []
 ends_at (Found (File date b)) (FileMeta len at) i e le =
@@ -74,7 +74,7 @@ ends_at (Found (Dir date es)) m i e le = refl
 ends_at Missing m i e le = refl
 ends_at Blocked m i e le = refl
 
--- by what is told of it
+-- from its metadata
 pub ends_by : (t : Tree) (p : Path) (m : Meta) → IsEntry t p m → EndsBy t p (size_of m)
 ends_by t p m is = λ i few le. ends_at (entry_at t p) m i is le
 
@@ -110,7 +110,7 @@ ahead_piece t last m n es a is there some are rest all =
       all = λ yes. let l : length a.entries.items ≡ length (drop 1 es) = ap length rest in let few = all yes in let one = behind.1 in omega (arith, l, few, one);
     }
 
--- where no other is left, none comes next
+-- if no other is left, there is no next one
 next_none : (t : Tree) (last : Path) (old new : EntryReadahead) → IsTree t → IsAhead t last old → old.entries.items ≡ [] → old.all ≡ true → new.entries.items ≡ [] → new.all ≡ old.all → IsNext t last None new
 next_none t last old new is ahead none all rest same =
     let few = ahead.all all in
@@ -149,7 +149,7 @@ no_first : {X : Type 0} (xs : List X) → xs ≡ drop 1 xs → xs ≡ []
 no_first [] e = refl
 no_first (x ∷ xs) e = absurd (let l : length (x ∷ xs) ≡ length xs = ap length e in omega (arith, l))
 
--- what comes next, of what was taken
+-- the next entry, from those that were read ahead
 pub next_is : (t : Tree) (last : Path) (old new : EntryReadahead) (e : Option (Path × Meta)) → IsTree t → IsAhead t last old → (old.entries.items ≡ [] → old.all ≡ true) → old.entries.items ≡ option_to_list e ++ new.entries.items
     → new.entries.items ≡ drop 1 old.entries.items → new.all ≡ old.all → IsNext t last e new
 next_is t last old new None is ahead all split rest same =
@@ -159,7 +159,7 @@ next_is t last old new (Some e) is ahead all split rest same = next_some t last 
 
 -- ---- from entry to entry
 
--- lines up to a place were added, those of its entry are passed unless the text has enough bytes, and these entries come behind it
+-- lines up to a position were appended, those of its entry completely unless the text has enough bytes, and these entries follow
 pub record Prints (t : Tree) (old : PrintPosition) (had : Text) (new : PrintPosition) (has : Text) (a : EntryReadahead) : Type 0 where
   pub passes : Passes t old had new has
   pub passed : length has < 65536 → IsPassed t new
@@ -174,6 +174,6 @@ prints_on t a s new x y z old ahead e so_far short next passes passed last = rec
   ahead = subst (λ (p : Path). IsAhead t p ahead) (sym last) next.1;
 }
 
--- where none comes next, no line is left
+-- if there is no next entry, no line is left
 pub prints_end : (t : Tree) (a s : PrintPosition) (x y : Text) (old ahead : EntryReadahead) → Prints t a x s y old → IsNext t s.last None ahead → length y < 65536 → left_at t s ≡ []
 prints_end t a s x y old ahead so_far next short = ap (λ (l : Text). l ++ image_from (next_key (enc s.last)) t) (so_far.passed short) ∙ next.0

@@ -1,4 +1,4 @@
--- What a loader took of a text, piece by piece.
+-- What a loader has read of a text, piece by piece.
 use Rattle.std.proofs.Common.{◌≡◌, ◌≢◌, ℕ, List, [], ◌++◌, sym, subst, ◌∙◌, append_assoc, append-nil, refl, Option, Result, Ok, Err, OnOk, IfOk}
 use Rattle.std.specs.Io.KnownBytes.{Consumes, IsAtEnd, Keeps}
 use Rattle.std.specs.Prelude.{IfSome}
@@ -41,7 +41,7 @@ never_read (Spoiled n) e = (cc)
 pub fresh_loader : (shape : Shape) (l : ImageLoader) → l.intake ≡ Open → HasRead [] l.held.items l.load_state → form_of l.load_state.volume ≡ new_form shape → IsFresh shape l
 fresh_loader shape l still read form = (still, subst (λ (i : FeedOutcome). TookBy i shape [] l) (sym still) (read, form))
 
--- what an open one took
+-- what an open one has read
 pub took_open : (shape : Shape) (text : Text) (l : ImageLoader) → l.intake ≡ Open → Took shape text l → HasRead text l.held.items l.load_state × (form_of l.load_state.volume ≡ new_form shape)
 took_open shape text l still took = subst (λ (i : FeedOutcome). TookBy i shape text l) still took
 
@@ -63,7 +63,7 @@ took_piece shape text piece old new taken still answer loads form refuses took =
     go Starved e = tt
     go (Spoiled n) e = λ rest. subst (IsBadAt n) (sym (append_assoc text piece rest)) (refuses n (sym e) text rest was.0)
 
--- a piece behind a refusal
+-- a piece after a failure
 pub took_refused : (shape : Shape) (text piece : Text) (l : ImageLoader) (fault : LoadFault) → answer_of l.intake ≡ Err fault → Took shape text l → Took shape (text ++ piece) l
 took_refused shape text piece l fault = go l.intake
   where

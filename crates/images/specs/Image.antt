@@ -22,17 +22,17 @@ directory_text v p at = directory_letter v ∷ 32 ∷ (path_text p ++ (moment_te
 abbrev pub file_text : Version → Path → ℕ → ℕ → Text
 file_text v p len at = file_letter v ∷ 32 ∷ (path_text p ++ (32 ∷ (decimal len ++ (moment_text v at ++ 10 ∷ []))))
 
--- the lines of what stands at the path p, without those of a directory's entries, in version 2
+-- the lines of what is at the path p, without those of a directory's entries, in version 2
 abbrev pub entry_lines : Path → Tree → Text
 entry_lines p (Dir date es) = directory_text Second p date
 entry_lines p (File date b) = file_text Second p (length b) date ++ block_lines b (length b / 4096 + 1)
 
--- the first of them, that of the entry itself, by what is told of it
+-- the first of them, that of the entry itself, from its metadata
 abbrev pub entry_text : Path → Meta → Text
 entry_text p (DirMeta at) = directory_text Second p at
 entry_text p (FileMeta len at) = file_text Second p len at
 
--- all of them of what stands there: none where nothing does
+-- all of them for the entry at a path: none if there is no entry
 abbrev pub lines_there : Path → At → Text
 lines_there p (Found x) = entry_lines p x
 lines_there p _ = []
@@ -47,7 +47,7 @@ AppendsLines old new text = (part : Text) × (rest : Text) × (text ≡ part ++ 
 
 -- ---- what is left of an image
 
--- of a tree that stands at the path p the lines of the entries that are marked, and of the entries of a directory there
+-- the lines of a tree at the path p for the entries that are marked, and for the entries of a directory there
 abbrev mutual
   pub text_by : (Path → Bool) → Path → Tree → Text
   text_by f p (Dir date es) = cond (f p) (entry_lines p (Dir date es)) [] ++ texts_by f p es
@@ -62,7 +62,7 @@ abbrev pub image_from : Key → Tree → Text
 image_from lo (Dir date es) = texts_by (λ p. reaches lo (enc p)) [] es
 image_from lo (File date b) = []
 
--- the lines of the blocks of what stands there, from a number on
+-- the lines of the blocks of the entry, from a number on
 abbrev pub blocks_left : At → ℕ → Text
 blocks_left (Found (File date b)) from = drop (length (block_lines b from)) (block_lines b (length b / 4096 + 1))
 blocks_left _ from = []

@@ -36,9 +36,9 @@ form_of v = record { meta = v.live.indexes.meta.tree.shape; block = v.live.index
 abbrev pub new_form : Shape → Form
 new_form shape = record { meta = shape; block = shape; marks = no_marks 0 }
 
--- ---- the lines so far: none, or the root's line and others behind it
+-- ---- the lines so far: none, or the root's line and others after it
 
--- an image that was begun: its version, the moment of its root, and the lines behind the root's
+-- an image that was begun: its version, the mtime of its root, and the lines after the root's
 pub record Begun : Type 0 where
   pub version : Version
   pub root : ℕ
@@ -58,7 +58,7 @@ abbrev pub lines_so_far : Option Begun → Lines
 lines_so_far None = []
 lines_so_far (Some b) = b.lines
 
--- each line may follow those before it, and the root has a moment that the version may tell
+-- each line may follow those before it, and the version may have the root's mtime
 abbrev pub AreSoFar : Option Begun → Type 0
 AreSoFar None = ⊤
 AreSoFar (Some b) = IsReported b.version b.root × AreLines b.version b.lines
@@ -92,7 +92,7 @@ LoadsRoot line old new = IsLoading None old → (b : Begun) × IsLoading (Some b
 abbrev pub LoadsNext : Line → LoadState → LoadState → Type 0
 LoadsNext l old new = (b : Begun) → IsLoading (Some b) old → IsLoading (Some (with_line l b)) new
 
--- a block of this number and of so many bytes lies at this place within the last file, behind the blocks before it
+-- a block with this number and length may be here in the last file, after the blocks before it
 pub record FitsAt (i len : ℕ) (l : LoadState) (offset : ℕ) : Type 0 where
   pub file : ℕ
   pub is_file : l.len ≡ Some file
@@ -100,7 +100,7 @@ pub record FitsAt (i len : ℕ) (l : LoadState) (offset : ℕ) : Type 0 where
   pub at : offset ≡ 4096 * i
   pub inside : offset + len ≤ file
 
--- a call at a moment was answered by a count
+-- a call at a timestamp was executed, and its answer is a count
 abbrev pub Counts : Call → ℕ → PVolume → PVolume → Type 0
 Counts call at old new = (n : ℕ) × Called call at (Count n) old new
 
@@ -156,7 +156,7 @@ LoadsEnd items l = (text : Text) → HasRead text items l → (b : Begun) × IsL
 abbrev pub RefusesEnd : Text → ℕ → LoadState → Type 0
 RefusesEnd items n l = (text : Text) → HasRead text items l → IsBadAt n text
 
--- so far the reader gave a text, of which this was loaded and held
+-- so far the reader returned a text, which was loaded except for what is buffered
 abbrev pub ReadsSoFar : Option (List ℕ) → Option (List ℕ) → Text → LoadState → Type 0
 ReadsSoFar had has items l = (text : Text) × Consumes had has text × HasRead text items l
 
@@ -170,8 +170,8 @@ HasBegun had has = (text : Text) × Consumes had has text × IsBegun text
 
 -- ---- whole texts
 
--- the volume means the tree whose image in one of the versions the text is, with the moments that this version tells, without
--- snapshots
+-- the volume abstracts to the tree whose image in one of the versions is the text, with the mtimes that this version has,
+-- without snapshots
 pub record Loaded (text : Text) (v : PVolume) : Type 0 where
   pub version : Version
   pub tree : Tree
@@ -180,7 +180,7 @@ pub record Loaded (text : Text) (v : PVolume) : Type 0 where
   pub reported : AllReported version tree
   pub means : Means v (alone tree)
 
--- the reader is at its end, and what it gave is an image, whose tree the volume means
+-- the reader is at its end, and what it returned is an image, to whose tree the volume abstracts
 abbrev pub LoadsAll : Option (List ℕ) → Option (List ℕ) → PVolume → Type 0
 LoadsAll had has v = (text : Text) × Consumes had has text × IsAtEnd has × IsSomeImage text × Loaded text v
 

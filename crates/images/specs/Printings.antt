@@ -18,8 +18,8 @@ pub record PPrinting : Type 0 where
 abbrev pub printing_code : Coded PPrinting
 printing_code = code_by (FsRoot × ℕ) (coded× coded_rooted coded_ℕ) (λ p. (p.tree, p.done)) (λ q. record { tree = q.0; done = q.1 }) (λ _. refl)
 
--- the bytes of a text behind the first `done` come next: n of them stand at the front of the buffer, and the rest of it is as it was; there
--- is none only where the text is at its end or the buffer has no room
+-- the bytes of a text after the first `done` are handed out: n of them are at the front of the buffer, and the rest of it is unchanged; n
+-- is 0 only if the text is at its end or the buffer is empty
 pub record HandsOver (text : Text) (done n : ℕ) (old new : List ℕ) : Type 0 where
   pub front : Text
   pub back : Text
@@ -35,7 +35,7 @@ pub record HandsOver (text : Text) (done n : ℕ) (old new : List ℕ) : Type 0 
 abbrev pub ready_text : PrintedLines → Text
 ready_text r = drop r.used r.text.items
 
--- what was handed out of the image of a tree, what is ready, and what is left behind that are all of it; entries behind were taken ahead
+-- what was handed out of the image of a tree, what is ready, and what is left after that are all of it; these entries were read ahead
 pub record IsReadyFor (t : Tree) (r : PrintedLines) : Type 0 where
   pub front : Text
   pub count : length front ≡ r.done
@@ -43,12 +43,12 @@ pub record IsReadyFor (t : Tree) (r : PrintedLines) : Type 0 where
   pub at : IsAt t r.spot
   pub ahead : IsAhead t r.spot.last r.ahead
 
--- the same of each tree that is meant, and no more was handed out of the text than it has
+-- the same for each tree of the indexes, and not more was handed out than the text has
 pub record IsReady (i : FsRoot) (r : PrintedLines) : Type 0 where
   pub fits : r.used ≤ length r.text.items
   pub for_tree : (t : Tree) → MeanRooted i t → IsReadyFor t r
 
--- so many bytes of what was ready stand at the front of a buffer
+-- so many bytes of what was ready are at the front of a buffer
 pub record HandsOut (n : ℕ) (r : PrintedLines) (old new : List ℕ) : Type 0 where
   pub fits : n ≤ length old
   pub ready : n ≤ length (ready_text r)

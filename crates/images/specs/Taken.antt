@@ -1,4 +1,4 @@
--- An image on its way in: what a loader took of a text.
+-- An image that is loaded in pieces: what a loader has read of a text.
 use Rattle.std.specs.Prelude.{◌≡◌, ℕ, ⊤, List, [], ◌++◌, Option, Result, Ok, Err}
 use Rattle.std.specs.Io.KnownBytes.{Consumes, IsAtEnd}
 use Rattle.reference.specs.Image.{Text}
@@ -12,13 +12,13 @@ use Rattle.images.specs.declared.loader.FeedOutcome.TheVariants.{Open, Starved, 
 use Rattle.node.specs.declared.shape.Shape.{Shape}
 use Rattle.volume.specs.Volumes.{PVolume}
 
--- what is answered to the last piece, and to each one behind a refusal
+-- the answer to the last piece, and to each one after a failure
 abbrev pub answer_of : FeedOutcome → Result (Unit {0}) LoadFault
 answer_of Open = Ok tt
 answer_of Starved = Err Memory
 answer_of (Spoiled n) = Err (Bad n)
 
--- the text was taken, into trees of the shape; or memory was refused on the way; or it is no image from the line of a number on,
+-- the text was loaded into trees of the shape; or an allocation failed; or it is not an image from the line with a number on,
 -- whatever follows
 abbrev pub TookBy : FeedOutcome → Shape → Text → ImageLoader → Type 0
 TookBy Open shape text l = HasRead text l.held.items l.load_state × (form_of l.load_state.volume ≡ new_form shape)
@@ -28,11 +28,11 @@ TookBy (Spoiled n) shape text l = (rest : Text) → IsBadAt n (text ++ rest)
 abbrev pub Took : Shape → Text → ImageLoader → Type 0
 Took shape text l = TookBy l.intake shape text l
 
--- nothing was taken yet, and nothing refused
+-- nothing was loaded yet, and nothing failed
 abbrev pub IsFresh : Shape → ImageLoader → Type 0
 IsFresh shape l = (l.intake ≡ Open) × Took shape [] l
 
--- the volume means the tree whose image the text is, in trees of the shape and without marks
+-- the volume abstracts to the tree whose image is the text, in trees of the shape and without marks
 abbrev pub LoadedIn : Shape → Text → PVolume → Type 0
 LoadedIn shape text v = Loaded text v × (form_of v ≡ new_form shape)
 

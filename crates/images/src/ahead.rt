@@ -1,4 +1,6 @@
 //! Read-ahead of a tree's entries, before their lines are printed.
+//!
+//! The entries read ahead (`IsAhead`) are the first ones after the last printed entry, without a gap.
 ghost use Rattle.std.specs.Prelude.{◌≡◌, IfOk, OnOk, [], true};
 ghost use Rattle.pathkey.specs.Names.{Path};
 ghost use Rattle.reference.specs.Tree.{Tree};

@@ -1,4 +1,8 @@
 //! Prints the image of a frozen tree, in version 2, which has mtimes. Also prints the lines of either version.
+//! `docs/FORMATS.md` has the format of images.
+//!
+//! Each tree has one image: a line for each entry in key order, the root first, and after that of a file a line for
+//! each block with a byte other than zero.
 ghost use Rattle.std.specs.Prelude.{◌≡◌, ◌≤◌, ◌++◌, ◌∷◌, [], ℕ, List, Err, decimal, flat_map, length, take, OnOk, OnErr};
 ghost use Rattle.std.specs.Io.KnownBytes.{Appends};
 ghost use Rattle.reference.specs.Image.{Second, block_line, image, moment_text, path_text, percent, trimmed};

@@ -1,4 +1,7 @@
-//! Parses a line of an image. Each line has one spelling: what was parsed is printed again and compared.
+//! Parses a line of an image. `docs/FORMATS.md` has the format of lines.
+//!
+//! A line is valid if and only if it is what the printer prints for the parsed line: so the parser guesses without
+//! checking, prints its guess again, and compares.
 ghost use Rattle.std.specs.Prelude.{◌≡◌, ◌≢◌, ◌↔◌, true, ◌++◌, ◌∷◌, ◌^◌, ◌<◌, ◌≤◌, [], Some, IfOk, IfSome, MatchOption, option_map};
 ghost use Rattle.pathkey.specs.Names.{IsPath, Path as Names};
 ghost use Rattle.reference.specs.Image.{Second, directory_letter, file_letter, moment_text, path_text, two_digits};

@@ -1,8 +1,9 @@
 //! The image of a tree: a text from which the tree can be loaded again. A frozen tree is printed as an image, and an image is
-//! loaded into a new volume. Both can be done in pieces, so no image has to fit into memory.
+//! loaded into a new volume. Both can be done in pieces, so no image has to fit into memory. `docs/FORMATS.md` has the format
+//! of images.
 //!
-//! Each tree has one image of each version. An image of version 2 belongs to one tree, while an image of version 1 has no
-//! mtimes.
+//! A text is valid if and only if it is the image of a tree, in one of the versions: any other text fails, with the number of
+//! its first bad line. An image of version 2 belongs to one tree, while an image of version 1 has no mtimes.
 #![tactic(auto)]
 
 mod ahead;

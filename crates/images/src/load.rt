@@ -1,7 +1,10 @@
 //! Loads an image line by line into a new volume: what one line does, and how a whole text and a reader are loaded.
+//! `docs/FORMATS.md` has the format of images.
 //!
-//! One line is held at a time, and no block of a file outside the volume. Of the lines before, only what decides which line
-//! may follow is kept. The first line has the version. In version 1 each mtime is 0.
+//! A line is valid if it may follow those before it: keys rise, the parent of an entry is a directory, and blocks rise and
+//! are within their file. The volume always abstracts to the tree of the lines so far. One line is buffered at a time, and
+//! no block of a file outside the volume. Of the lines before, only what decides which line may follow is kept. The first
+//! line has the version. In version 1 each mtime is 0.
 ghost use Rattle.std.specs.Prelude.{◌≡◌, ◌≢◌, ◌↔◌, Ok, All, ◌≤◌, ◌<◌, ◌+◌, ◌^◌, ◌++◌, ◌∷◌, [], ℕ, List, Some, None, Err, false, true, length, IfSome, MatchOption, vec_capacity, IfOk, OnOk, OnErr, codes};
 ghost use Rattle.std.specs.declared.cmp.Ordering.TheVariants.{Less};
 ghost use Rattle.pathkey.specs.Enc.{enc};

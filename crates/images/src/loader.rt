@@ -1,4 +1,5 @@
-//! Loads an image piece by piece into a new volume.
+//! Loads an image piece by piece into a new volume. After a bad line every further piece fails with the number of that
+//! line.
 ghost use Rattle.std.specs.Prelude.{◌<◌, vec_capacity};
 
 use crate::load::{LoadFault, LoadState};

@@ -1,4 +1,7 @@
 //! Prints an image piece by piece, so no image has to fit into memory.
+//!
+//! Invariant (`IsReady`): what was handed out, the lines that are ready, and the lines after the position are together
+//! the image.
 ghost use Rattle.std.specs.Prelude.{◌≡◌, ◌+◌, IfOk, OnErr};
 
 use crate::ready::PrintedLines;

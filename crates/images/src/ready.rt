@@ -1,4 +1,5 @@
-//! Lines of an image that are printed ahead, and handed out in parts.
+//! Lines of an image that are printed ahead, and handed out in parts. Bytes that were handed out, followed by the ready
+//! ones and the lines after the position, are the image.
 ghost use Rattle.std.specs.Prelude.{◌≡◌, ◌+◌, ◌≤◌, [], IfErr, IfOk, OnErr, OnOk, length};
 ghost use Rattle.reference.specs.Tree.{Tree};
 ghost use Rattle.images.specs.Printings.{HandsOut, IsReady, ready_text};
@@ -78,8 +79,8 @@ impl PrintedLines {
         Ok(())
     }
 
-    /// Copies the printed lines that are left into the buffer, as far as it has room. No image has so many bytes that their
-    /// number overflows.
+    /// Copies as many of the remaining printed lines as fit into the buffer. The number of bytes of an image does not
+    /// overflow.
     pub(crate) fn hand_out(&mut self, out: &mut [u8]) -> Result<usize, NoMemory>
         requires fits { self.old.used ≤ length self.old.text.items }
         ensures out { IfOk result (λ n. HandsOut n self.old out.old out.new) }

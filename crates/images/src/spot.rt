@@ -1,5 +1,7 @@
-//! The position of a printer in an image, and the lines that come next: one for each entry in key order, and for a file one
-//! for each block with a byte other than zero.
+//! The position of a printer in an image, and printing of the next lines: one for each entry in key order, and for a file
+//! one for each block with a byte other than zero.
+//!
+//! The lines before the position were printed, and each line at or after it is still to be printed.
 ghost use Rattle.std.specs.Prelude.{◌≡◌, ◌<◌, ◌++◌, [], IfOk, OnOk, length};
 ghost use Rattle.reference.specs.Tree.{Tree};
 ghost use Rattle.images.specs.Image.{entry_text};
@@ -16,7 +18,7 @@ use std::alloc::Global;
 use textio::output::WriteFailed;
 use volume::{BlockWalk, Frozen};
 
-/// The number of bytes of lines that are printed in one go. The last line may end after them.
+/// The number of bytes of lines that are printed at once. The last line may exceed it.
 pub(crate) const ENOUGH: usize = 65_536;
 
 /// A position between two lines of an image, after the line of the root: after the line of an entry and the lines of its

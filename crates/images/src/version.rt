@@ -1,4 +1,5 @@
-//! The two versions of an image's text. They differ in the letters of lines, and in whether lines have mtimes.
+//! The two versions of an image's text (`docs/FORMATS.md`). They differ in the letters of lines, and in whether lines
+//! have mtimes.
 ghost use Rattle.std.specs.Prelude.{◌≡◌, ◌∷◌, []};
 ghost use Rattle.reference.specs.Image.{directory_letter, file_letter};
 ghost use Rattle.images.specs.Image.{version_of};

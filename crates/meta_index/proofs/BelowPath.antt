@@ -1,4 +1,4 @@
--- What lies below a path: its keys, and the entries of the directory there.
+-- What is below a path: its keys, and the entries of the directory there.
 use Rattle.std.proofs.Common.{◌≡◌, ℕ, List, [], ◌∷◌, ◌++◌, Bool, true, false, not, cond, refl, sym, ap, subst, ◌∙◌, Option, Some, None, append-nil}
 use Rattle.std.specs.Prelude.{fold}
 use Rattle.std.specs.Option.{is_none, is_some}
@@ -37,7 +37,7 @@ least_name : (n : Name) (k : Key) → is_le (by_bytes (0 ∷ []) (n ++ 0 ∷ k))
 least_name [] k = least k 0
 least_name (b ∷ n) k = least (n ++ 0 ∷ k) b
 
--- the keys of what lies below a path are in the range below it
+-- the keys of paths below a path are in the range below it
 pub in_below : (p : Path) (n : Name) (r : Path) → within (below p).lo (below p).hi (enc (p ++ n ∷ r)) ≡ true
 in_below p n r =
     let low : reaches (next_key (enc p)) (enc (p ++ n ∷ r)) ≡ true = subst (λ (k : Key). reaches (next_key (enc p)) k ≡ true) (sym (enc-append p (n ∷ r))) (same_beginning (enc p) (0 ∷ []) (enc (n ∷ r)) (least_name n (enc r))) in
@@ -101,7 +101,7 @@ pub pair_at : (f : List ℕ → Option Meta) (lo : List ℕ) (hi : Option (List 
 pair_at f lo hi k None b w e s t = absurd (cc)
 pair_at f lo hi k (Some v) b w e s t = record { key = k; value = v; inside = w; stands = sym e }
 
--- where a key below a path has a value, a full directory stands at the path
+-- if a key below a path has a value, there is a directory with entries at the path
 pub occupied : (t : Tree) (m : MetaIndex) (p : Path) → IsPath p → IsMeantBy t m → HasPair (metadata m) (below p).lo (below p).hi → is_full (entry_at t p) ≡ true
 occupied t m p is_path means x = elim (is_full (entry_at t p)) as (λ b. is_full (entry_at t p) ≡ b → b ≡ true) [
   | true ↦ λ full. refl
@@ -114,7 +114,7 @@ occupied t m p is_path means x = elim (is_full (entry_at t p)) as (λ b. is_full
       cc)
 ] refl
 
--- whether anything lies below a path tells whether a full directory stands there
+-- whether there is a key below a path shows whether there is a directory with entries there
 pub emptiness : (t : Tree) (m : MetaIndex) (p : Path) (first : Option (Key × Meta)) → IsPath p → IsMeantBy t m → IsFirst (metadata m) (below p).lo (below p).hi first → is_none first ≡ not (is_full (entry_at t p))
 emptiness t m p first is_path means h = elim (is_full (entry_at t p)) as (λ b. is_full (entry_at t p) ≡ b → is_none first ≡ not b) [
   | true ↦ λ full. some first h full

@@ -1,4 +1,4 @@
--- What the metadata at a path tell of it, and at the paths above it where it has none.
+-- What the metadata at a path say about the entry there, or those of its ancestors if it has none.
 use Rattle.std.proofs.Common.{◌≡◌, ℕ, ◌+◌, ◌<◌, [], ◌∷◌, ◌++◌, length, refl, sym, ap, ◌∙◌, arith, Option, Some, None}
 use Rattle.std.specs.Prelude.{MatchOption}
 use Rattle.pathkey.specs.Names.{Name, Path, IsPath, parent, parent_path}
@@ -28,11 +28,11 @@ without_meta None e = refl
 without_meta (Some (Seen Directory date)) e = absurd (cc)
 without_meta (Some (Seen (Bytes b) date)) e = absurd (cc)
 
--- the metadata at a path's key are those of what stands there
+-- the metadata at a path's key are those of the entry there
 pub found_reported : (t : Tree) (m : MetaIndex) (p : Path) (v : Meta) → IsPath p → Some v ≡ metadata m (enc p) → IsMeantBy t m → meta.TheVariants.Found v ≡ lookup_answer (entry_at t p)
 found_reported t m p v is_path e means = reported_sighted (entry_at t p) v (sym (means.meta.paths p is_path) ∙ sym e)
 
--- and where there are none, nothing is seen
+-- and if there are none, there is no entry
 pub none_seen : (t : Tree) (m : MetaIndex) (p : Path) → IsPath p → None ≡ metadata m (enc p) → IsMeantBy t m → look t p ≡ None
 none_seen t m p is_path e means = unseen t p (without_meta (sight t p) (sym (means.meta.paths p is_path) ∙ sym e))
 
@@ -84,7 +84,7 @@ parent_decides m (n ∷ p) t means none =
     let walk : entry_at t (n ∷ p) ≡ onward (entry_at t (parent (n ∷ p))) last.0 = ap (entry_at t) last.1 ∙ along t (parent (n ∷ p)) (last.0 ∷ []) in
     walk ∙ lacking (entry_at t (parent (n ∷ p))) last.0 (sym (ap seen walk) ∙ none)
 
--- where nothing is seen at the path that decides, its parent does
+-- if there is no entry at the path that decides, its parent decides
 pub parent_decides_for : (m : MetaIndex) (p q : Path) → IsPath q → None ≡ metadata m (enc q) → Decides m p (Some q) → Decides m p (parent_path q)
 parent_decides_for m p q is_path e decides t means none =
     above q (decides t means none) (parent_decides m q t means (none_seen t m q is_path e means))
@@ -93,7 +93,7 @@ parent_decides_for m p q is_path e decides t means none =
     above [] f g = g
     above (k ∷ q) f g = f ∙ ap beyond g ∙ beyond_twice (entry_at t (parent (k ∷ q)))
 
--- what stands at the path that decides tells why nothing stands below it
+-- the entry at the path that decides determines why there is nothing below it
 pub decided : (m : MetaIndex) (p q : Path) (v : Meta) (at : meta.At) → IsPath q → Some v ≡ metadata m (enc q) → Decides m p (Some q) → ((here : At) → meta.TheVariants.Found v ≡ lookup_answer here → at ≡ lookup_answer (beyond here))
     → (t : Tree) → IsMeantBy t m → look t p ≡ None → at ≡ lookup_answer (entry_at t p)
 decided m p q v at is_path e decides tells t means none = tells (entry_at t q) (found_reported t m q v is_path e means) ∙ ap lookup_answer (sym (decides t means none))

@@ -15,14 +15,14 @@ use Rattle.meta_index.specs.declared.update.MetaUpdate.{MetaUpdate}
 use Rattle.meta_index.specs.Means.{metadata, IsMeantBy}
 use Rattle.meta_index.specs.Updates.{means}
 
--- an index that agrees at each key means the same
+-- an index with the same value at each key abstracts to the same tree
 pub means_alike : (t : Tree) (m n : Metadata) → ((k : Key) → n k ≡ m k) → MetaMeans t m → MetaMeans t n
 means_alike t m n alike old = record {
   paths = λ p u. alike (enc p) ∙ old.paths p u;
   only_paths = λ k v e. old.only_paths k v (sym (alike k) ∙ e);
 }
 
--- the root's entry in a new tree means the empty root directory
+-- with the root's entry, a new tree abstracts to the empty root directory
 pub root_alone : (old : PTree MetaUpdate Meta) (new : MetaIndex) → old.root ≡ empty_root → Appended means (Put [] (DirMeta 0) ∷ []) old new.tree → IsMeantBy (Dir 0 nothing) new
 root_alone old new fresh appended = record {
   tree = fresh_law.tree;

@@ -1,4 +1,4 @@
--- A directory's entries listed one after the other, each found as the first key behind all that lies below the one before.
+-- A directory's entries listed one after the other: each is the first key after everything below the one before.
 use Rattle.std.proofs.Common.{◌≡◌, List, [], ◌∷◌, ◌++◌, Bool, true, false, cond, refl, sym, ap, subst, ◌∙◌, append_assoc, append-nil, Option, Some, None}
 use Rattle.std.specs.Prelude.{fold}
 use Rattle.std.specs.Ordering.{is_eq}
@@ -28,7 +28,7 @@ use Rattle.meta_index.specs.Means.{metadata, IsMeantBy}
 use Rattle.meta_index.proofs.BelowPath.{in_below, from_below, seen_some}
 use Rattle.meta_index.proofs.ChildOrder.{end_key, child_before, end_before, child_inside, child_first}
 
--- q lies at or below an entry of es, in the directory p
+-- q is at or below an entry of es, in the directory p
 pub record Among (p : Path) (es : Entries) (q : Path) : Type 0 where
   pub name : Name
   pub rest : Path
@@ -37,7 +37,8 @@ pub record Among (p : Path) (es : Entries) (q : Path) : Type 0 where
   pub entry : named name es ≡ Some tree
 
 module _ (t : Tree) (m : MetaIndex) (p : Path) where
-  -- the pairs are those of the directory p but for the entries es, and these and what lies below them are all from lo on
+  -- the pairs are those of the directory p except for the entries es, and these and everything below them are all from
+  -- lo on
   pub record IsRest (es : Entries) (listed : List (Kind × Name)) (lo : Key) (hi : Option Key) : Type 0 where
     pub whole : listed ++ listing es ≡ names_of (entry_at t p)
     pub rising : RisingEntries es
@@ -51,7 +52,7 @@ module _ (t : Tree) (m : MetaIndex) (p : Path) where
     pub entries : Entries
     pub rest : IsRest entries listed lo hi
 
--- the directory's entries; none where there is no directory
+-- the directory's entries; none if there is no directory
 abbrev pub entries_of : At → Entries
 entries_of (Found (Dir date es)) = es
 entries_of (Found (File date b)) = nothing
@@ -114,7 +115,7 @@ above_named n k (entry l y es) x h e = by_bool (same k l) (by_bytes n k ≡ Less
     (λ s. ap (by_bytes n) (same_true k l s) ∙ h.0)
     (λ s. above_named n k es x h.1 (sym (ap (λ (b : Bool). cond b (Some y) (named k es)) s) ∙ e))
 
--- a name is that of the first entry, or of one behind it
+-- a name is that of the first entry, or of one after it
 named_cases : (P : Type 0) (k n : Name) (x y : Tree) (es : Entries) → named k (entry n y es) ≡ Some x → (k ≡ n → P) → (named k es ≡ Some x → P) → P
 named_cases P k n x y es e f g = by_bool (same k n) P (λ s. f (same_true k n s)) (λ s. g (sym (ap (λ (b : Bool). cond b (Some y) (named k es)) s) ∙ e))
 
@@ -136,7 +137,7 @@ kind_is (File date b) v e = cc
 
 -- ---- one entry more
 
--- the first key from lo on is that of the next entry, and what is behind its end is the rest
+-- the first key from lo on is that of the next entry, and everything after its end is the rest
 pub record Next (t : Tree) (m : MetaIndex) (p : Path) (listed : List (Kind × Name)) (hi : Option Key) (k : Key) (v : Meta) : Type 0 where
   pub name : Name
   pub path : IsPath (p ++ name ∷ [])
@@ -150,7 +151,7 @@ module _ (t : Tree) (m : MetaIndex) (p : Path) (means : IsMeantBy t m) (listed :
       let there : entry_at t (p ++ n ∷ []) ≡ Found x = r.stand n x e in
       means.meta.paths (p ++ n ∷ []) (means.tree.paths (p ++ n ∷ []) x there) ∙ ap (λ (a : At). meta_of (sighted a)) there
 
-  -- no key from lo on where the first entry's key is not reached yet
+  -- no key from lo on, if the first entry's key is not reached yet
   reached : (es : Entries) → IsRest t m p es listed lo hi → (n : Name) (x : Tree) → named n es ≡ Some x → (k : Key) → HasNone (metadata m) lo (Some k) → reaches k (enc (p ++ n ∷ [])) ≡ true
   reached es r n x e k none = by_bool (before (enc (p ++ n ∷ [])) k) (reaches k (enc (p ++ n ∷ [])) ≡ true)
       (λ s. absurd (seen_some x (sym (own_meta es r n x e) ∙ none (enc (p ++ n ∷ [])) (in_range lo (enc (p ++ n ∷ [])) (Some k) (r.ahead n x e) s))))
@@ -171,7 +172,7 @@ module _ (t : Tree) (m : MetaIndex) (p : Path) (means : IsMeantBy t m) (listed :
       let never : reaches k (enc (p ++ n ∷ [])) ≡ false = not_reaches (enc (p ++ n ∷ [])) k far in
       cc))
 
-  -- what is left behind the first entry
+  -- the rest after the first entry
   rest_behind : (n : Name) (x : Tree) (es : Entries) (v : Meta) → IsRest t m p (entry n x es) listed lo hi → kind_reported v ≡ kind_of x → IsRest t m p es (listed ++ (kind_reported v, n) ∷ []) (end_key p n) hi
   rest_behind n x es v r kind = record {
     whole = append_assoc listed ((kind_reported v, n) ∷ []) (listing es) ∙ ap (λ (k : Kind). listed ++ (k, n) ∷ listing es) kind ∙ r.whole;
@@ -223,6 +224,6 @@ module _ (t : Tree) (m : MetaIndex) (p : Path) (means : IsMeantBy t m) (listed :
       let high : is_below (enc (p ++ n ∷ [])) hi ≡ true = subst (λ (o : Option Key). is_below (enc (p ++ n ∷ [])) o ≡ true) (sym r.high) (and_parts _ _ (in_below p n [])).1 in
       seen_some x (sym (own_meta (entry n x es) r n x at) ∙ h (enc (p ++ n ∷ [])) (in_range lo (enc (p ++ n ∷ [])) hi (r.ahead n x at) high)))
 
-  -- where no pair is left, all entries are listed
+  -- if no pair is left, all entries are listed
   pub all_listed : Listed t m p listed lo hi → HasNone (metadata m) lo hi → listed ≡ names_of (entry_at t p)
   all_listed l h = all_of l.entries l.rest h

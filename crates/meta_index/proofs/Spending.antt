@@ -1,4 +1,4 @@
--- What a listing asks of the tree, entry by entry.
+-- How many walks and pairs a listing needs, entry by entry.
 use Rattle.std.proofs.Common.{◌≡◌, ℕ, suc, ◌+◌, ◌-◌, ◌*◌, ◌^◌, ◌≤◌, min, max, Bool, true, false, cond, List, [], ◌∷◌, length, length-drop, refl, ap, sym, ◌∙◌, Option, Some, None, arith, ◌⊎◌, inl, inr}
 use Rattle.std.specs.List.{prefix_len}
 use Rattle.message.specs.Ranges.{before}
@@ -14,7 +14,7 @@ module _ {V : Type 0} where
       let left : length (from_unpassed test ps) ≡ length ps - prefix_len (λ (p : List ℕ × V). test p.0) ps = length-drop (prefix_len (λ (p : List ℕ × V). test p.0) ps) ps in
       omega (arith, left)
 
-  -- where a pair was passed the next piece may have one; else it may have as many as before, and all pairs are left
+  -- if a pair was skipped the next batch has one; otherwise it has as many as before, and all pairs remain
   passed_or_kept : (test : List ℕ → Bool) (q : List ℕ × V) (qs : List (List ℕ × V)) (n m : ℕ) → m ≡ size_past test (q ∷ qs) n → (m ≡ 1) ⊎ ((m ≡ n) × (from_unpassed test (q ∷ qs) ≡ q ∷ qs))
   passed_or_kept test q qs n m e = by_bool (test q.0) ((m ≡ 1) ⊎ ((m ≡ n) × (from_unpassed test (q ∷ qs) ≡ q ∷ qs)))
       (λ t. inl (e ∙ ap (λ (b : Bool). cond b 1 n) t))
@@ -77,7 +77,7 @@ module _ {V : Type 0} where
         each = omega (arith, w, a, each, small);
       }
 
-  -- so does `first`, where no pair is at hand and others may be left
+  -- so does `first`, if no pair was read ahead and others may be left
   pub first_asks : (lo : List ℕ) (old : List (List ℕ × V)) (all : Bool) (g m walks asked walks' asked' most : ℕ) (r : Option (List ℕ × V)) (all' : Bool) (ps : List (List ℕ × V)) → old ≡ [] → all ≡ false
       → asked + max m 1 ≤ 2 * g + 32 → max m 1 ≤ 256 → walks ≤ g → min g (2 ^ 64 - 1) ≤ asked → asked ≤ 256 * walks
       → walks' ≡ raised (is_walked lo all old) 1 walks → asked' ≡ raised (is_walked lo all old) (walked_for lo old m) asked → most ≡ cond (is_walked lo all old) (min (2 * walked_for lo old m) 256) (size_past (λ k. before k lo) old m)

@@ -26,14 +26,14 @@ pairs_push items kind name k n e f =
     ∙ ap (λ (x : Kind). pairs_of items ++ (x, name.items) ∷ []) e
     ∙ ap (λ (x : Name). pairs_of items ++ (k, x) ∷ []) f
 
--- so many entries of the directory p are listed; `next` is the first pair behind them and all that lies below them, and the
--- pairs at hand are those behind it
+-- so many entries of the directory p are listed; `next` is the first pair after them and everything below them, and the
+-- pairs read ahead are those after it
 pub record GoesOn (t : Tree) (m : MetaIndex) (p : Path) (items : List (Kind × Vec ℕ Global)) (hi : Option Key) (next : Option (Key × Meta)) (all : Bool) (ps : List (Key × Meta)) : Type 0 where
   pub lo : Key
   pub listed : Listed t m p (pairs_of items) lo hi
   pub given : IsGiven (metadata m) lo hi next all ps
 
--- where the end of the keys at and below an entry stands, of which this is the key
+-- the end of the keys at and below an entry, of which this is the key
 entry_end : (p : Path) (n : Name) → end_key p n ≡ (enc p ++ n) ++ 1 ∷ []
 entry_end p n = sym (append_assoc (enc p) n (1 ∷ []))
 
@@ -48,7 +48,7 @@ module _ (t : Tree) (m : MetaIndex) (p : Path) (means : IsMeantBy t m) where
   }
 
   module _ (items : List (Kind × Vec ℕ Global)) (hi : Option Key) (next : Option (Key × Meta)) (all : Bool) (ps : List (Key × Meta)) (goes : GoesOn t m p items hi next all ps) where
-    -- where no pair is left
+    -- if no pair is left
     pub listing_ends : next ≡ None → pairs_of items ≡ names_of (entry_at t p)
     listing_ends e = all_listed t m p means (pairs_of items) goes.lo hi goes.listed (subst (λ (o : Option (Key × Meta)). IsGiven (metadata m) goes.lo hi o all ps) e goes.given)
 

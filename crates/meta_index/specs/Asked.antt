@@ -1,8 +1,8 @@
--- How much a listing asks of the tree for the entries that it gives.
+-- How many walks of the tree and pairs a listing needs for its entries.
 use Rattle.std.specs.Prelude.{◌≡◌, ℕ, ◌+◌, ◌-◌, ◌*◌, ◌^◌, ◌<◌, ◌≤◌, min, max, Bool, false, Option, MatchOption}
 
--- for g entries there were so many walks, which asked for so many pairs: at most one walk for each entry and one more, at most two
--- pairs for each and 32 more, at least one pair for each as far as 64 bits count, and no walk for more than 256
+-- for g entries there were so many walks, which requested so many pairs: at most one walk for each entry and one more, at most two
+-- pairs for each and 32 more, at least one pair for each up to 64 bits, and no walk for more than 256
 pub record IsSpent (g walks asked : ℕ) : Type 0 where
   pub some : 0 < walks
   pub few : walks ≤ g + 1
@@ -10,8 +10,8 @@ pub record IsSpent (g walks asked : ℕ) : Type 0 where
   pub paid : min g (2 ^ 64 - 1) ≤ asked
   pub each : asked ≤ 256 * walks
 
--- the same where the last of the g entries was just given, n pairs are at hand, and the next piece may have `most`: one more walk
--- may come. Unless no other pair is left, that piece is paid by the entries and the pairs at hand
+-- the same after the last of the g entries was returned, if n pairs were read ahead, and the next batch may have `most`: one more
+-- walk may follow. Unless no other pair is left, that batch is paid for by the entries and the pairs read ahead
 pub record IsFrugal (g n most walks asked : ℕ) (all : Bool) : Type 0 where
   pub some : 0 < walks
   pub few : walks ≤ g

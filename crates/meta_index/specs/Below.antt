@@ -1,4 +1,4 @@
--- What lies below a path: its keys, and what is told of an entry.
+-- What is below a path: its keys, and what is reported of an entry.
 use Rattle.std.specs.Prelude.{◌≡◌, ℕ, true, List, Option, Some}
 use Rattle.pathkey.specs.Names.{Path}
 use Rattle.pathkey.specs.Keys.{enc, next_key, subtree}

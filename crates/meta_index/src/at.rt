@@ -1,4 +1,4 @@
-//! What is at a path, according to the metadata.
+//! The entry at a path, according to the metadata: a directory, a file, or why there is none.
 ghost use Rattle.std.specs.Prelude.{◌≡◌, None};
 ghost use Rattle.meta_index.specs.Means.{beyond, found_meta, moment_reported, lookup_answer};
 ghost use Rattle.reference.specs.Calls.{no_directory_fault, path_fault};

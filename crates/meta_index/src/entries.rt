@@ -1,4 +1,6 @@
-//! What is below a path: the range of its keys, and what the key of a directory's entry says.
+//! What is below a path: the range of its keys, and the name and kind in the key of a directory's entry.
+//!
+//! A path's keys are consecutive, and those of a directory's entries are in byte order of their names.
 ghost use Rattle.std.specs.Prelude.{◌≡◌, ◌∷◌, ◌++◌, ℕ, List, [], IfOk};
 ghost use Rattle.meta_index.specs.Below.{below, kind_reported};
 ghost use Rattle.pathkey.specs.Names.{IsPath};

@@ -1,4 +1,7 @@
-//! The metadata index, and the entry at a path.
+//! The type `MetaIndex`: look-ups, listings and messages of the metadata.
+//!
+//! If the index abstracts to a directory tree, each result is the one for that tree, and the messages change the tree
+//! as their contracts say.
 ghost use Rattle.std.specs.Prelude.{◌≡◌, ◌+◌, ◌*◌, ◌<◌, ◌≤◌, ◌∷◌, ◌++◌, ℕ, List, [], IfOk, OnOk, IsTrue, None, length, not, true};
 ghost use Rattle.std.specs.Result.{result_err};
 ghost use Rattle.meta_index.specs.Asked.{AsksFor, IsFrugal};
@@ -49,7 +52,8 @@ impl MetaIndex {
 
     /// The entry at the path, or why there is none. It fails only if an allocation fails.
     ///
-    /// It finds the metadata that the index has under the path's key, and none if it has none there, whatever the index means.
+    /// It returns what the metadata under the keys of the path and of its ancestors say, also if the index abstracts to no
+    /// tree.
     pub fn find(&self, alloc: Global, path: &Path) -> Result<At, NoMemory>
         ensures reported { IfOk result (λ at. (t : DirectoryTree) → IsMeantBy t self.now → at ≡ lookup_answer (entry_at t path.now)) }
         ensures value { IfOk result (λ at. found_meta at ≡ metadata self.now (enc path.now)) }
@@ -80,7 +84,7 @@ impl MetaIndex {
             }
             ancestor = above.parent(alloc)?;
         }
-        // Does not occur if the index means a tree: the root exists.
+        // Unreachable if the index abstracts to a tree, since the root exists.
         Ok(At::Missing)
     }
 
@@ -260,7 +264,7 @@ impl MetaIndex {
 
     /// The first pair of the range after everything at or below the path with this key.
     ///
-    /// What is there is skipped by its first bytes; the key where it ends is built only for a new batch.
+    /// The keys below it are skipped by their prefix; their end is built as a key only for a new batch.
     fn first_past(
         &self,
         alloc: Global,

@@ -1,9 +1,9 @@
 //! The metadata of the file system: a buffered tree that has, at the key of each path that exists, whether it is a directory or a
 //! file of which length, and its mtime.
 //!
-//! It is queried by full paths (full-path indexing: Jannen et al., FAST 2015): the entry at a path is one lookup, and the
-//! contents of a directory are side by side after its own key. Contracts speak of the directory tree that the index means: each
-//! result is the one that this tree gives.
+//! It is queried by full paths (full-path indexing: Jannen et al., FAST 2015): the entry at a path is one look-up, and the keys
+//! below a directory are consecutive after its own key. The index abstracts to a directory tree (`IsMeantBy`): it has the
+//! metadata of the tree's entries and nothing else. Each result is the one for this tree.
 #![tactic(auto)]
 
 pub mod at;

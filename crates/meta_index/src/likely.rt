@@ -68,8 +68,8 @@ fn past(alloc: Global, key: &Key, depth: usize) -> Result<Option<Key>, NoMemory>
 
 /// A key in the range to which the messages of a slot give a value.
 ///
-/// From one key with a message it goes to the first that differs in an early byte, as long as there is one, then to the first
-/// that differs in a later byte: so it skips long runs of removed names, and reaches the last key with a message.
+/// From one key with a message it advances to the first that differs in an early byte, as long as there is one, then to the
+/// first that differs in a later byte: so it skips long runs of removed names, and reaches the last key with a message.
 pub(crate) fn given_in(
     alloc: Global,
     slot: &Slot<MetaUpdate>,

@@ -1,4 +1,4 @@
-//! Updates of the metadata at one path: the length of a file set or raised, and the mtime.
+//! Updates of the metadata at one path: the length of a file set or raised, and the mtime. An update creates no entry.
 ghost use Rattle.std.specs.Prelude.{◌≡◌, Some, Option, IfOk, IfSome, is_some};
 ghost use Rattle.meta_index.specs.Updates.{joins, means as meant};
 ghost use Rattle.reference.specs.declared.reply.Meta.{Meta as MetaValue};
@@ -46,8 +46,8 @@ impl MetaUpdate {
         }
     }
 
-    /// The one update that means this one and then `later`, with the mtime of `later`, if both change a file, or both set only
-    /// the mtime.
+    /// The update with the effect of this one followed by `later`, if both change a file, or both set only the mtime. Its
+    /// mtime is that of `later`.
     pub fn joined(self, later: MetaUpdate) -> Option<MetaUpdate>
         ensures means { IfSome result (λ one. (old : Option MetaValue) → meant one old ≡ meant later (meant self old)) }
         ensures some { is_some result ≡ joins self later }

@@ -14,7 +14,7 @@ pub last_held : (hs : List RunJob) (h : RunJob) (l : PLive) → AreHeld l (hs ++
 last_held [] h l a = (tt, a.0)
 last_held (x ∷ xs) h l a = let r = last_held xs h l a.1 in ((a.0, r.0), r.1)
 
--- one more, or as many where there was no memory for one more
+-- one more, or as many if there was no memory for one more
 pub pushed_held : (b : Bool) (hs : List RunJob) (h : RunJob) (l : PLive) → AreHeld l hs → IsHeld l h → AreHeld l (if b then hs ++ h ∷ [] else hs)
 pushed_held true hs h l a k = held_more hs h l a k
 pushed_held false hs h l a k = a

@@ -155,7 +155,7 @@ impl<'a, J: EngineId, R: Wait> OomCase<Served<'a, J, R>> for Made {
     }
 }
 
-/// A client that may restore a snapshot between the two holds of a turn, outside the two lines of the call.
+/// A client that may restore a snapshot between the two critical sections of a turn, outside the two lines of the call.
 #[derive(Drop)]
 struct Meanwhile<'a, J: EngineId, R: Wait> {
     served: Served<'a, J, R>,
@@ -223,7 +223,7 @@ fn put_turn(out: &mut Vec<u8>, reply: TurnReply) -> bool {
     false
 }
 
-/// Makes turns until nothing is pending, at most `turns`.
+/// Runs turns until nothing is pending, at most `turns`.
 fn settle<J: EngineId, R: Wait>(rt: &R, alloc: Global, flusher: &mut Flusher<J>, turns: u32) {
     flusher.run_flusher(rt, alloc, turns);
 }

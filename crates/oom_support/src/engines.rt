@@ -1,4 +1,4 @@
-//! Engines: how they are opened and closed, and what their clients and flushers do.
+//! Scenes of engines: opening and closing them, and the calls of their clients and turns of their flushers.
 ghost use Rattle.std.specs.Prelude.{◌≡◌};
 
 use crate::clients::{Made, Served, make_turn};
@@ -16,18 +16,18 @@ use std::marker::Brand;
 use std::sync::Wait;
 use volume::Volume;
 
-/// What is done with an engine.
+/// A scene of an engine.
 #[derive(Clone, Copy)]
 pub enum Scene<'a> {
-    /// A room is made for a volume between the two lines.
+    /// An engine builder is made for a volume between the two lines.
     Room,
     /// An engine is opened between the two lines.
     Open,
     /// A client makes a call.
     Call(Act<'a>),
-    /// A client takes the live tree.
+    /// A client freezes the live tree.
     Freeze,
-    /// A client takes the tree of a snapshot.
+    /// A client freezes the tree of a snapshot.
     Frozen(&'a str),
     /// The number of a client's calls.
     Made,
@@ -35,13 +35,13 @@ pub enum Scene<'a> {
     Flusher,
     /// A turn of a flusher, after the given number of turns.
     Turn(u32),
-    /// A turn between whose two holds of the lock a snapshot is restored.
+    /// A turn between whose two critical sections a snapshot is restored.
     Stale(&'a str),
     /// The engine is closed between the two lines.
     Close,
 }
 
-/// What the first word of a scene names.
+/// The scene that the first word selects.
 #[derive(Clone, Copy)]
 enum Verb {
     Room,
@@ -68,7 +68,7 @@ const VERBS: &[(&str, Verb)] = &[
     ("close", Verb::Close),
 ];
 
-/// What a word names.
+/// The scene that a word selects.
 fn verb_of(name: &str) -> Option<Verb> {
     for (word, verb) in VERBS {
         if name == *word {
@@ -94,7 +94,7 @@ fn scene_of<'a>(words: &'a [&'a str]) -> Option<Scene<'a>> {
     })
 }
 
-/// A client takes the tree of a snapshot.
+/// A client freezes the tree of a snapshot.
 fn looks_back<J: EngineId, R: Wait + Print>(
     rt: &R,
     alloc: Global,
@@ -137,7 +137,7 @@ fn by_client<J: EngineId, R: Wait + Print>(
     call(rt, alloc, &mut served, scene, out)
 }
 
-/// A flusher of an engine. It ensures nothing, so that no other proof reads what an engine means.
+/// A flusher of an engine. It has no postcondition, so that other proofs do not unfold what an engine is.
 fn flusher_of<J: EngineId>(engine: &mut Engine<J>) -> Option<Flusher<J>> {
     engine.flusher().ok()
 }
@@ -158,7 +158,7 @@ fn by_flusher<J: EngineId, R: Wait + Print>(
     }
 }
 
-/// A turn of a flusher, with a snapshot restored between its two holds of the lock.
+/// A turn of a flusher, with a snapshot restored between its two critical sections.
 fn by_stale_flusher<J: EngineId, R: Wait + Print>(
     rt: &R,
     alloc: Global,
@@ -324,7 +324,7 @@ fn put_opened<J: EngineId>(alloc: Global, opened: Opened<J>, out: &mut Vec<u8>) 
     }
 }
 
-/// Opens an engine over the volume of a room between the two lines, and prints the result.
+/// Opens an engine with the volume of a builder between the two lines, and prints the result.
 fn open_in<J: EngineId, R: Wait + Print>(
     rt: &R,
     alloc: Global,
@@ -340,7 +340,7 @@ fn open_in<J: EngineId, R: Wait + Print>(
     true
 }
 
-/// What is done with an engine over the volume of a room.
+/// Runs a scene on an engine with the volume of a builder.
 fn in_room<J: EngineId, R: Wait + Print>(
     rt: &R,
     alloc: Global,
@@ -359,7 +359,7 @@ fn in_room<J: EngineId, R: Wait + Print>(
     }
 }
 
-/// What is done with an engine over the volume of a room, under a name of its own.
+/// Runs a scene on an engine with the volume of a builder, with an identity of its own.
 fn named<R: Wait + Print>(
     rt: &R,
     alloc: Global,
@@ -370,7 +370,7 @@ fn named<R: Wait + Print>(
     in_room::<Brand, R>(rt, alloc, room, scene, out)
 }
 
-/// Makes a room for a volume between the two lines.
+/// Makes an engine builder for a volume between the two lines.
 fn room_asked<R: Print>(rt: &R, alloc: Global, volume: Volume) -> Result<EngineBuilder, Volume> {
     window::open(rt);
     let made = EngineBuilder::new(alloc, volume);
@@ -378,7 +378,7 @@ fn room_asked<R: Print>(rt: &R, alloc: Global, volume: Volume) -> Result<EngineB
     made
 }
 
-/// Prints how making a room ended.
+/// Prints the result of making an engine builder.
 fn put_room(alloc: Global, made: Result<EngineBuilder, Volume>, out: &mut Vec<u8>) {
     put(out, "== answer\n");
     match made {
@@ -387,7 +387,7 @@ fn put_room(alloc: Global, made: Result<EngineBuilder, Volume>, out: &mut Vec<u8
     }
 }
 
-/// A room is made for a volume between the two lines.
+/// Makes an engine builder for a volume between the two lines.
 fn make_room<R: Print>(rt: &R, alloc: Global, volume: Volume, out: &mut Vec<u8>) -> bool {
     put(out, "== before\n");
     show_volume(alloc, &volume, out);
@@ -396,7 +396,7 @@ fn make_room<R: Print>(rt: &R, alloc: Global, volume: Volume, out: &mut Vec<u8>)
     true
 }
 
-/// What is done with an engine over a volume.
+/// Runs a scene on an engine with a volume.
 pub fn over<R: Wait + Print>(
     rt: &R,
     alloc: Global,
@@ -412,7 +412,7 @@ pub fn over<R: Wait + Print>(
     }
 }
 
-/// What is done with a volume that is passed by value; `None` if the words name nothing.
+/// Runs a scene on a volume that is passed by value; `None` if the words select none.
 pub fn on_volume<R: Wait + Print>(
     rt: &R,
     alloc: Global,

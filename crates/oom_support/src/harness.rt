@@ -5,7 +5,7 @@ use std::alloc::Global;
 
 /// What a call is made on.
 pub trait Subject {
-    /// Prints how large it is, in lines that begin with `count`, and what it means.
+    /// Prints its size, in lines that begin with `count`, and its contents.
     fn show(&mut self, alloc: Global, out: &mut Vec<u8>);
 }
 

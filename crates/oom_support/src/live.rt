@@ -14,7 +14,7 @@ use reference::{Call, Meta};
 use std::alloc::Global;
 use volume::{Answer, CompactStep, Index, Step, TakeAnswer, TakeReply, Volume};
 
-/// A file call, or a call on snapshots.
+/// A file call, or a snapshot call.
 #[derive(Clone, Copy)]
 pub enum Act<'a> {
     /// A file call.
@@ -190,7 +190,7 @@ impl OomCase<Site> for Cancel {
     }
 }
 
-/// The measures of an index are taken.
+/// The measures of an index are read.
 #[derive(Drop)]
 pub struct Measure(pub Index);
 

@@ -84,7 +84,7 @@ pub fn put_found(alloc: Global, told: &Result<Frozen, Errno>, out: &mut Vec<u8>)
     }
 }
 
-/// What is read from a frozen tree.
+/// A read from a frozen tree.
 #[derive(Clone, Copy)]
 pub enum Look<'a> {
     /// At most the given number of bytes of a file, from an offset on.

@@ -11,7 +11,7 @@ use std::alloc::Global;
 use test_support::SampleCall;
 use volume::{Answer, Event, Index, Step};
 
-/// What an event is to be.
+/// An event of the run.
 #[derive(Clone, Copy)]
 enum Act {
     Live(SampleCall<'static>),
@@ -59,7 +59,7 @@ fn first_step(kind: StepKind) -> Step {
     }
 }
 
-/// The event of an act.
+/// The event of a row.
 fn event_of(alloc: Global, act: Act) -> Option<Event> {
     match act {
         Act::Live(ask) => call_event(alloc, ask),
@@ -72,7 +72,7 @@ fn event_of(alloc: Global, act: Act) -> Option<Event> {
     }
 }
 
-/// Adds the event of an act; returns whether that succeeded.
+/// Adds the event of a row; returns whether that succeeded.
 fn add(alloc: Global, events: &mut Vec<Event>, act: Act) -> bool {
     match event_of(alloc, act) {
         Some(event) => events.push(event).is_ok(),
@@ -91,7 +91,7 @@ pub fn events_without(alloc: Global, left_out: Option<usize>) -> Vec<Event> {
     events
 }
 
-/// Events are done in their order.
+/// Events are executed in order.
 #[derive(Drop)]
 pub struct Run {
     /// The events.

@@ -1,4 +1,4 @@
-//! The scenes of a volume by their names.
+//! The scenes of a volume, by the words that select them.
 use crate::harness::ask;
 use crate::held::{ask_marked, build, install_one, tickets};
 use crate::live::{Act, Cancel, Line, Measure, Plant, Relieve, Take, Try};
@@ -42,7 +42,8 @@ fn plant<R: Print>(
     Some(ask(rt, alloc, site, &mut Plant { path, meta }, out))
 }
 
-/// The tree of a snapshot. It ensures nothing, so that no other proof reads what a tree is; nor do the next two.
+/// The tree of a snapshot. It has no postcondition, so that other proofs do not unfold what a tree is; nor do the next
+/// two functions.
 fn snapshot_tree(volume: &Volume, name: &SnapName) -> Option<Frozen> {
     volume.frozen(name).ok()
 }

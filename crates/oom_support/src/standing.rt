@@ -1,4 +1,4 @@
-//! The state of a volume: how large its trees are, and the images of the live tree and of its snapshots.
+//! The state of a volume: the sizes of its trees, and the images of the live tree and of its snapshots.
 use crate::answers::put_load;
 use crate::harness::Subject;
 use crate::print::{put, put_choice, put_fault, put_number, put_report};

@@ -1,4 +1,4 @@
--- The ends that lie ahead of a key: a search passes one with each stretch.
+-- The ends of messages ahead of a key: a search passes one with each segment.
 use Rattle.std.proofs.Common.{◌≡◌, ℕ, zero, suc, ◌+◌, ◌<◌, ◌≤◌, ◌⊎◌, inl, inr, Bool, true, false, List, [], ◌∷◌, ◌++◌, length, get_or, refl, ap, ◌∙◌, Option, Some, None, cond, arith}
 use Rattle.std.specs.Prelude.{Contains}
 use Rattle.std.specs.Option.{option_to_list}
@@ -11,7 +11,7 @@ use Rattle.node.specs.See.{seen_slots}
 use Rattle.node.specs.Site.{end_of}
 use Rattle.message.specs.Stretches.{all_ends}
 
--- how many of the keys lie after c
+-- the number of keys after c
 abbrev pub ahead : List ℕ → List (List ℕ) → ℕ
 ahead c [] = 0
 ahead c (b ∷ bs) = cond (before c b) 1 0 + ahead c bs
@@ -22,7 +22,7 @@ fewer_by true false m n f h = absurd (let e : false ≡ true = f refl in cc)
 fewer_by false true m n f h = omega arith
 fewer_by false false m n f h = omega arith
 
--- what lies after a later key lies after an earlier one
+-- what is after a later key is after an earlier one
 pub fewer : (c d : List ℕ) (bs : List (List ℕ)) → before c d ≡ true → ahead d bs ≤ ahead c bs
 fewer c d [] l = omega arith
 fewer c d (b ∷ bs) l = fewer_by (before d b) (before c b) (ahead d bs) (ahead c bs) (λ e. lt_le c d b l (reaches-from_before d b e)) (fewer c d bs l)
@@ -38,7 +38,7 @@ less_later true false m n f h = absurd (let e : false ≡ true = f refl in cc)
 less_later false true m n f h = omega arith
 less_later false false m n f h = omega arith
 
--- fewer lie after a later one of them
+-- after a later one of them there are fewer
 pub ahead_falls : (c d : List ℕ) (bs : List (List ℕ)) → before c d ≡ true → Contains bs d → ahead d bs < ahead c bs
 ahead_falls c d [] l h = absurd (let b = h.1 in omega (arith, b))
 ahead_falls c d (b ∷ bs) l (zero, h, e) = less_here (before d b) (before c b) (ahead d bs) (ahead c bs) (ap (before d) e ∙ not_before_from_reaches d d (reaches-refl d)) (ap (before c) e ∙ l) (fewer c d bs l)
@@ -55,7 +55,7 @@ earlier_is (Some a) None d e = inl e
 earlier_is (Some a) (Some b) d e = earlier_by (before a b) a b d (same_Some (cond (before a b) a b) d e)
 
 module _ {U V : Type 0} where
-  -- where the slots begin, and the ends of all their messages
+  -- the pivots of the slots, and the ends of all their messages
   abbrev pub slot_ends : List (Slot U V) → List (List ℕ)
   slot_ends [] = []
   slot_ends (s ∷ ss) = s.lo ∷ (all_ends s.pending.0 ++ slot_ends ss)
@@ -66,7 +66,7 @@ module _ {U V : Type 0} where
   message_end (s ∷ ss) zero d k l h = Contains-append_right (s.lo ∷ []) (all_ends s.pending.0 ++ slot_ends ss) k (Contains-append_left (all_ends s.pending.0) (slot_ends ss) k h)
   message_end (s ∷ ss) (suc i) d k l h = Contains-append_right (s.lo ∷ all_ends s.pending.0) (slot_ends ss) k (message_end ss i d k (omega arith) h)
 
-  -- and where a slot ends
+  -- and the end of a slot
   pub pivot_end : (ss : List (Slot U V)) (i : ℕ) (k : List ℕ) → end_of None (seen_slots ss) i ≡ Some k → Contains (slot_ends ss) k
   pivot_end [] i k e = (cc)
   pivot_end (s ∷ []) zero k e = (cc)

@@ -33,7 +33,7 @@ module _ {V : Type 0} (f : List ℕ → Option V) where
     tail_behind : All (λ q. before p.0 q.0 ≡ true) ps
     tail_behind = λ j d l. s.rising 0 (suc j) d (omega arith) (omega (arith, l))
 
-    -- no pair stands before the first
+    -- no pair is before the first
     pub all_from : (j : ℕ) (d : List ℕ × V) → j < length (p ∷ ps) → reaches p.0 (get_or (p ∷ ps) j d).0 ≡ true
     all_from zero d l = reaches-refl p.0
     all_from (suc j) d l = reaches-from_before p.0 (get_or ps j d).0 (tail_behind j d (omega (arith, l)))
@@ -63,7 +63,7 @@ module _ {V : Type 0} (f : List ℕ → Option V) where
           | inr x ↦ inr (omega (arith, x.0), λ j d l. x.1 (suc j) d (omega (arith, l)))
         ]
 
-    -- what is left of the scan is one behind the first pair
+    -- the rest of the scan is one after the first pair
     pub tail_scan : IsScan f (next_key p.0) hi (n - 1) ps
     tail_scan = record {
       few = omega (arith, s.few);
@@ -78,7 +78,7 @@ module _ {V : Type 0} (f : List ℕ → Option V) where
   pub ahead_none : (lo : List ℕ) (hi : Option (List ℕ)) (all : Bool) (ps : List (List ℕ × V)) → all ≡ false → ps ≡ [] → AreAhead f lo hi all ps
   ahead_none lo hi all ps a e = (lo, reaches-refl lo, (0, subst (λ (xs : List (List ℕ × V)). IsScan f lo hi 0 xs) (sym e) (scan_zero f lo hi), λ t. absurd (let g : all ≡ false = a in cc)))
 
-  -- the first of them stands before the range
+  -- the first of them is before the range
   pub ahead_passed : (lo : List ℕ) (hi : Option (List ℕ)) (all : Bool) (p : List ℕ × V) (ps : List (List ℕ × V)) → before p.0 lo ≡ true → AreAhead f lo hi all (p ∷ ps) → AreAhead f lo hi all ps
   ahead_passed lo hi all p ps b (from, low, (n, s, short)) = (next_key p.0, reaches-next p.0 lo ∙ b, (n - 1, tail_scan from hi n p ps s, λ t. omega (arith, short t)))
 
@@ -86,7 +86,7 @@ module _ {V : Type 0} (f : List ℕ → Option V) where
   pub ahead_given : (lo : List ℕ) (hi : Option (List ℕ)) (all : Bool) (p : List ℕ × V) (ps : List (List ℕ × V)) → before p.0 lo ≡ false → AreAhead f lo hi all (p ∷ ps) → IsGiven f lo hi (Some p) all ps
   ahead_given lo hi all p ps b (from, low, (n, s, short)) = (head_first from hi n p ps s lo low b, (n - 1, tail_scan from hi n p ps s, λ t. omega (arith, short t)))
 
-  -- a scan that had room for a pair and found none
+  -- a scan with a limit above 0 that found none
   pub found_none : (lo : List ℕ) (hi : Option (List ℕ)) (n : ℕ) → 0 < n → IsScan f lo hi n [] → HasNone f lo hi
   found_none lo hi n some s = λ k w. none_of (f k) (λ v h.
       elim (s.complete k v w h) [
@@ -114,7 +114,7 @@ module _ {V : Type 0} (f : List ℕ → Option V) where
   given_first lo hi None all ps g = g
   given_first lo hi (Some p) all ps g = g.0
 
-  -- and the others are ahead of the key where the caller goes on
+  -- and the others are ahead of the key from which the caller continues
   pub given_ahead : (lo : List ℕ) (hi : Option (List ℕ)) (r : Option (List ℕ × V)) (p : List ℕ × V) (all : Bool) (ps : List (List ℕ × V)) → r ≡ Some p → IsGiven f lo hi r all ps → (next : List ℕ) → reaches (next_key p.0) next ≡ true → AreAhead f next hi all ps
   given_ahead lo hi r p all ps e g next h =
       let given : IsGiven f lo hi (Some p) all ps = subst (λ x. IsGiven f lo hi x all ps) e g in
@@ -133,7 +133,7 @@ module _ {V : Type 0} (test : List ℕ → Bool) (p : List ℕ × V) (ps : List 
   pub unpassed_first : test p.0 ≡ false → from_unpassed test (p ∷ ps) ≡ p ∷ ps
   unpassed_first e = ap (λ (b : Bool). drop (cond b (1 + prefix_len (λ (q : List ℕ × V). test q.0) ps) 0) (p ∷ ps)) e
 
-  -- which is taken out
+  -- which is removed
   pub unpassed_taken : (old : List (List ℕ × V)) → from_unpassed test old ≡ from_unpassed test (p ∷ ps) → test p.0 ≡ false → IsTaken test old (Some p) ps
   unpassed_taken old e u = (e ∙ unpassed_first u, λ none. absurd (let clash : Some p ≡ None = none in cc))
 
@@ -147,12 +147,12 @@ unpassed_alike a b (p ∷ ps) h =
     (λ t. unpassed_first a p ps t ∙ sym (unpassed_first b p ps (sym same ∙ t)))
 
 module _ {V : Type 0} (f : List ℕ → Option V) (lo : List ℕ) (hi : Option (List ℕ)) (all : Bool) where
-  -- the first of the pairs is given from lo on, and where there is none, none is ahead
+  -- the first of the pairs is returned from lo on, and if there is none, none is left
   abbrev pub Gives : List (List ℕ × V) → Type 0
   Gives [] = AreAhead f lo hi all []
   Gives (p ∷ ps) = IsGiven f lo hi (Some p) all ps
 
-  -- those that stand before lo are passed
+  -- those before lo are skipped
   pub ahead_gives : (ps : List (List ℕ × V)) → AreAhead f lo hi all ps → Gives (from_unpassed (λ k. before k lo) ps)
   ahead_gives [] a = a
   ahead_gives (p ∷ ps) a = by_bool (before p.0 lo) (Gives (from_unpassed (λ k. before k lo) (p ∷ ps)))
@@ -163,11 +163,11 @@ module _ {V : Type 0} (f : List ℕ → Option V) (lo : List ℕ) (hi : Option (
   taken_by None new nil g = subst Gives (nil refl) g
   taken_by (Some p) new nil g = g
 
-  -- the first that does not stand before lo was taken out
+  -- the first that is not before lo was removed
   pub ahead_taken : (old : List (List ℕ × V)) (taken : Option (List ℕ × V)) (new : List (List ℕ × V)) → IsTaken (λ k. before k lo) old taken new → AreAhead f lo hi all old → MatchOption taken (AreAhead f lo hi all []) (λ p. IsGiven f lo hi (Some p) all new)
   ahead_taken old taken new h a = taken_by taken new h.1 (subst Gives h.0 (ahead_gives old a))
 
--- the clause of `take_unless`, where each call of the closure gives the test of a key
+-- the clause of `take_unless`, if each call of the closure returns the test of a key
 pub taken_by_test : {V F : Type 0} {g : Mut F (Bor (List ℕ) × Unit {0}) Bool} {f : F} (test : List ℕ → Bool) (old : List (List ℕ × V)) (taken : Option (List ℕ × V)) (new : List (List ℕ × V))
     → ((t : List ℕ → Bool) → ComputesKey g t f → IsTaken t old taken new)
     → ((a : Bor (List ℕ) × Unit {0}) (r : Bool) (f' : F) → Called g f a r f' → (r ≡ test a.0.now) × (f' ≡ f)) → IsTaken test old taken new
@@ -178,7 +178,7 @@ begins_itself : (k : List ℕ) → starts_with eqb k k ≡ true
 begins_itself k = (starts_is {E = eqb} Decides-eqb k k (starts_with eqb k k) refl).1 [] (sym (append-nil k))
 
 module _ {V : Type 0} (f : List ℕ → Option V) (front end : List ℕ) (hi : Option (List ℕ)) (all : Bool) (is_end : IsEndOf end front) where
-  -- the first that does not begin with `front` was taken out, where all stand behind that key
+  -- the first that does not begin with `front` was removed, if all are after that key
   pub past_taken : (old : List (List ℕ × V)) (taken : Option (List ℕ × V)) (new : List (List ℕ × V)) → IsTaken (λ k. starts_with eqb k front) old taken new → AreFrom f (next_key front) hi all old → MatchOption taken (AreAhead f end hi all []) (λ p. IsGiven f end hi (Some p) all new)
   past_taken old taken new h (n, s, short) =
       let behind : before front end ≡ true = is_end front (reaches-refl front) ∙ begins_itself front in

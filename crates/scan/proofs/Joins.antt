@@ -23,7 +23,7 @@ module _ {V : Type 0} where
   }
 
 module _ {V : Type 0} (f : List ℕ → Option V) where
-  -- where there is no value
+  -- if there is no value
   pub scan_none : (lo : List ℕ) (hi : Option (List ℕ)) (n : ℕ) → HasNone f lo hi → IsScan f lo hi n []
   scan_none lo hi n h = record {
     few = omega arith;
@@ -32,7 +32,7 @@ module _ {V : Type 0} (f : List ℕ → Option V) where
     complete = λ k v w e. absurd (none-some v (sym (h k w) ∙ e));
   }
 
-  -- where no pair is wanted
+  -- if no pair is requested
   pub scan_zero : (lo : List ℕ) (hi : Option (List ℕ)) → IsScan f lo hi 0 []
   scan_zero lo hi = record {
     few = omega arith;
@@ -42,7 +42,7 @@ module _ {V : Type 0} (f : List ℕ → Option V) where
   }
 
   module _ (from : List ℕ) (hi : Option (List ℕ)) (p : List ℕ × V) (h : IsFirst f from hi (Some p)) where
-    -- the first pair is all that stands before the next key
+    -- the first pair is the only one before the next key
     one_complete : (k : List ℕ) (v : V) → within from (Some (next_key p.0)) k ≡ true → f k ≡ Some v → Contains (p ∷ []) (k, v)
     one_complete k v w e =
         let q = both (reaches from k) (before k (next_key p.0)) w in
@@ -61,20 +61,20 @@ module _ {V : Type 0} (f : List ℕ → Option V) where
       complete = λ k v w e. inl (one_complete k v w e);
     }
 
-    -- no key before the next lies past the end of the range
+    -- no key before the next is past the end of the range
     pub next_inside : (k : List ℕ) → within from (Some (next_key p.0)) k ≡ true → is_below k hi ≡ true
     next_inside k w = begins_before_end k p.0 hi (reaches-from_before_next k p.0 (both (reaches from k) (before k (next_key p.0)) w).1) (both (reaches from p.0) (is_below p.0 hi) h.0).1
 
-    -- and the next is behind the beginning
+    -- and the next is after the beginning
     pub next_reached : reaches from (next_key p.0) ≡ true
     next_reached = le_le from p.0 (next_key p.0) (both (reaches from p.0) (is_below p.0 hi) h.0).0 (reaches-from_before p.0 (next_key p.0) (before-next p.0))
 
   module _ (lo mid : List ℕ) (hi : Option (List ℕ)) (n : ℕ) (ps qs : List (List ℕ × V)) (low : reaches lo mid ≡ true) (inside : (k : List ℕ) → within lo (Some mid) k ≡ true → is_below k hi ≡ true) (s : IsScan f lo (Some mid) n ps) (t : IsScan f mid hi (n - length ps) qs) where
-    -- the pairs of the first part stand before the keys of the second
+    -- the pairs of the first part are before the keys of the second
     front_before : (k : List ℕ) → reaches mid k ≡ true → All (λ p. before p.0 k ≡ true) ps
     front_before k r = All-weaker (λ p. (within lo (Some mid) p.0 ≡ true) × (f p.0 ≡ Some p.1)) (λ p. before p.0 k ≡ true) (λ p h. lt_le p.0 mid k (both (reaches lo p.0) (before p.0 mid) h.0).1 r) ps s.sound
 
-    -- what is missing stands behind as many pairs as are wanted
+    -- what is missing is after as many pairs as the limit
     join_complete : (k : List ℕ) (v : V) → within lo hi k ≡ true → f k ≡ Some v → Contains (ps ++ qs) (k, v) ⊎ ((length (ps ++ qs) ≡ n) × All (λ p. before p.0 k ≡ true) (ps ++ qs))
     join_complete k v w e =
         let q = both (reaches lo k) (is_below k hi) w in
@@ -104,7 +104,7 @@ module _ {V : Type 0} (f : List ℕ → Option V) where
       complete = join_complete;
     }
 
-  -- a list that stays as it is, where there is no value
+  -- a list that is unchanged, if there is no value
   pub adds_none : (lo : List ℕ) (hi : Option (List ℕ)) (limit : ℕ) (old new : List (List ℕ × V)) → new ≡ old → HasNone f lo hi → AddsScan f lo hi limit old new
   adds_none lo hi limit old new e h = ([], e ∙ sym (append-nil old), scan_none lo hi (limit - length old) h)
 
@@ -130,13 +130,13 @@ pub adds_moved : {V : Type 0} (f g : List ℕ → Option V) (lo : List ℕ) (hi 
 adds_moved f g lo hi end limit old new there back agree a = (a.0, a.1, scan_moved f g lo hi end (limit - length old) a.0 there back agree a.2)
 
 module _ {V : Type 0} (f : List ℕ → Option V) (lo : List ℕ) (hi : Option (List ℕ)) (limit : ℕ) where
-  -- a walk stands at `from`: the list has grown by the pairs up to there
+  -- a walk is at `from`: the list has grown by the pairs up to there
   pub record HasWalked (from : List ℕ) (old new : List (List ℕ × V)) : Type 0 where
     pub reached : reaches lo from ≡ true
     pub inside : (k : List ℕ) → within lo (Some from) k ≡ true → is_below k hi ≡ true
     pub added : AddsScan f lo (Some from) limit old new
 
-  -- where it begins
+  -- the start of a walk
   pub walk_start : (from : List ℕ) (old new : List (List ℕ × V)) → from ≡ lo → new ≡ old → HasWalked from old new
   walk_start from old new e n = subst (λ (k : List ℕ). HasWalked k old new) (sym e) (record {
     reached = reaches-refl lo;
@@ -148,7 +148,7 @@ module _ {V : Type 0} (f : List ℕ → Option V) (lo : List ℕ) (hi : Option (
   })
 
   module _ (from : List ℕ) (old new : List (List ℕ × V)) (x : HasWalked from old new) where
-    -- it goes on to a later key
+    -- it advances to a later key
     pub walk_on : (next : List ℕ) (newer : List (List ℕ × V)) → reaches from next ≡ true → ((k : List ℕ) → within from (Some next) k ≡ true → is_below k hi ≡ true) → AddsScan f from (Some next) limit new newer → HasWalked next old newer
     walk_on next newer r inside a = record {
       reached = le_le lo from next x.reached r;
@@ -164,7 +164,7 @@ module _ {V : Type 0} (f : List ℕ → Option V) (lo : List ℕ) (hi : Option (
     pub walk_full : limit ≤ length new → AddsScan f lo hi limit old new
     walk_full l = walk_end new (adds_zero f from hi limit new l)
 
-    -- or where there is no value left
+    -- or if there is no value left
     pub walk_over : HasNone f from hi → AddsScan f lo hi limit old new
     walk_over h = walk_end new (adds_none f from hi limit new new refl h)
 

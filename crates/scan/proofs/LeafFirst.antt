@@ -1,4 +1,4 @@
--- The first entry of a range in a leaf: entry i is the first that stands at lo or behind it.
+-- The first entry of a range in a leaf: entry i is the first at or after lo.
 use Rattle.std.proofs.Common.{◌≡◌, ℕ, ◌<◌, ◌≤◌, true, false, List, [], length, get_or, ap, sym, ◌∙◌, subst, Option, Some, None, arith, ⊎_elim}
 use Rattle.std.proofs.lemmas.Bool.{cases_order}
 use Rattle.std.proofs.lemmas.List.{get_or_default}
@@ -17,7 +17,7 @@ use Rattle.message.proofs.NextKey.{in_range}
 use Rattle.message.proofs.PointKeys.{below_past}
 
 module _ {V : Type 0} (es : List (List ℕ × V)) (lo : List ℕ) (i : ℕ) (c : IsCount es (Some lo) i) where
-  -- all entries stand before the range
+  -- all entries are before the range
   pub all_before : (hi : Option (List ℕ)) → length es ≤ i → HasNone (lookup es) lo hi
   all_before hi l k h =
       let p = both (reaches lo k) (is_below k hi) h in
@@ -27,7 +27,7 @@ module _ {V : Type 0} (es : List (List ℕ × V)) (lo : List ℕ) (i : ℕ) (c :
     pub key_at : (d : List ℕ × V) → (get_or es i d).0 ≡ e.0
     key_at d = ap (λ (x : List ℕ × V). x.0) (get_or_default es i d e bound ∙ sym at)
 
-    -- the entry and those behind it stand at its key or behind it
+    -- the entry and those after it are at or after its key
     from_here : (j : ℕ) (d : List ℕ × V) → i ≤ j → j < length es → reaches e.0 (get_or es j d).0 ≡ true
     from_here j d a b = ⊎_elim
         (λ (x : j ≡ i). ap (reaches e.0) (ap (λ m. (get_or es m d).0) x ∙ key_at d) ∙ reaches-refl e.0)
@@ -40,7 +40,7 @@ module _ {V : Type 0} (es : List (List ℕ × V)) (lo : List ℕ) (i : ℕ) (c :
     reached : reaches lo e.0 ≡ true
     reached = reaches-from_not_before e.0 lo (subst (λ (k : List ℕ). before k lo ≡ false) (key_at e) (c.others i e (omega arith) bound))
 
-    -- no entry lies between the beginning of the range and this one
+    -- no entry is between the beginning of the range and this one
     none_before : (stop : Option (List ℕ)) → ((k : List ℕ) → is_below k stop ≡ true → before k e.0 ≡ true) → HasNone (lookup es) lo stop
     none_before stop u k h =
         let p = both (reaches lo k) (is_below k stop) h in
@@ -65,6 +65,6 @@ module _ {V : Type 0} (es : List (List ℕ × V)) (lo : List ℕ) (i : ℕ) (c :
         let value = (is_entry e.0 es i e its_count bound at (same_itself e.0)).value e in
         (in_range lo e.0 hi reached u, value ∙ ap (λ (x : List ℕ × V). Some x.1) (sym at), none_before (Some e.0) (λ k h. h))
 
-    -- the entry lies past the range
+    -- the entry is past the range
     pub entry_is_past : (hi : Option (List ℕ)) → is_below e.0 hi ≡ false → HasNone (lookup es) lo hi
     entry_is_past hi u = none_before hi (λ k h. below_past e.0 k hi u h)

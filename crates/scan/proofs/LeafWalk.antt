@@ -14,13 +14,13 @@ use Rattle.scan.proofs.Joins.{HasWalked, walk_start, walk_on, walk_full, walk_ov
 use Rattle.scan.proofs.LeafFirst.{all_before, entry_is_first, entry_is_past, its_count, key_at}
 
 module _ {V : Type 0} (es : List (List ℕ × V)) (lo : List ℕ) (hi : Option (List ℕ)) (limit : ℕ) where
-  -- the walk stands before entry i, and behind all entries before it
+  -- the walk is before entry i, and after all entries before it
   pub record IsTaken (i : ℕ) (old new : List (List ℕ × V)) : Type 0 where
     pub from : List ℕ
     pub count : IsCount es (Some from) i
     pub walked : HasWalked (lookup es) lo hi limit from old new
 
-  -- where it begins
+  -- the start of a walk
   pub take_start : (i : ℕ) (old new : List (List ℕ × V)) → IsCount es (Some lo) i → new ≡ old → IsTaken i old new
   take_start i old new c e = record { from = lo; count = c; walked = walk_start (lookup es) lo hi limit lo old new refl e }
 
@@ -34,7 +34,7 @@ module _ {V : Type 0} (es : List (List ℕ × V)) (lo : List ℕ) (hi : Option (
     take_all l = walk_over (lookup es) lo hi limit x.from old new x.walked (all_before es x.from i x.count hi l)
 
     module _ (e : List ℕ × V) (rises : Rises [] None es) (bound : i < length es) (at : e ≡ get_or es i e) where
-      -- the entry lies past the range
+      -- the entry is past the range
       pub next_past : is_below e.0 hi ≡ false → AddsScan (lookup es) lo hi limit old new
       next_past u = walk_over (lookup es) lo hi limit x.from old new x.walked (entry_is_past es x.from i x.count e rises bound at hi u)
 

@@ -1,4 +1,4 @@
--- A pending list laid over pairs from below.
+-- A pending list applied to pairs from below.
 use Rattle.std.proofs.Common.{◌≡◌, ℕ, ◌+◌, ◌-◌, ◌<◌, ◌≤◌, ◌⊎◌, inl, inr, ⊎_elim, ◌++◌, true, false, List, [], ◌∷◌, length, get_or, slice_index_or, append-nil, refl, ap, sym, ◌∙◌, subst, Option, Some, None, cond, arith, Bor}
 use Rattle.std.specs.Prelude.{All, Contains, IfSome, IfNone}
 use Rattle.std.specs.Option.{option_to_list, option_copied, is_some}
@@ -25,7 +25,7 @@ use Rattle.scan.proofs.ReadaheadFacts.{short_law}
 -- ---- all pairs of a range
 
 module _ {V : Type 0} (f : List ℕ → Option V) where
-  -- a scan that found fewer than were asked for
+  -- a scan that found fewer pairs than its limit
   pub all_fewer : (lo : List ℕ) (hi : Option (List ℕ)) (n : ℕ) (ps : List (List ℕ × V)) → IsScan f lo hi n ps → length ps < n → AreAll f lo hi ps
   all_fewer lo hi n ps s l = record {
     few = omega arith;
@@ -34,7 +34,7 @@ module _ {V : Type 0} (f : List ℕ → Option V) where
     complete = λ k v w e. inl (short_law f lo hi n ps s l k v w e);
   }
 
-  -- or as many, up to behind the last
+  -- or as many, up to the key after the last
   pub all_full : (lo : List ℕ) (hi : Option (List ℕ)) (n : ℕ) (ps : List (List ℕ × V)) (i : ℕ) (p : List ℕ × V) → IsScan f lo hi n ps → i + 1 ≡ length ps → p ≡ get_or ps i p → AreAll f lo (Some (next_key p.0)) ps
   all_full lo hi n ps i p s l at =
       let last : (d : List ℕ × V) → (get_or ps i d).0 ≡ p.0 = λ d. ap (λ (x : List ℕ × V). x.0) (get_or_default ps i d p (omega (arith, l)) ∙ sym at) in
@@ -89,12 +89,12 @@ module _ {V : Type 0} (f : List ℕ → Option V) where
     complete = λ k v w e. let h = both (reaches q k) (is_below k hi) w in s.complete k v (in_range lo k hi (le_le lo q k low h.0) h.1) e;
   }
 
-  -- from a later key on, before which none of them stands
+  -- from a later key on, before which there is none of them
   pub later_all : (lo q : List ℕ) (hi : Option (List ℕ)) (ps : List (List ℕ × V)) → AreAll f lo hi ps → reaches lo q ≡ true → StartsFrom (Some q) ps → AreAll f q hi ps
   later_all lo q hi [] s low h = from_later lo q hi [] s low (λ j d l. absurd (omega (arith, l)))
   later_all lo q hi (p ∷ ps) s low h = from_later lo q hi (p ∷ ps) s low (λ j d l. le_le q p.0 (get_or (p ∷ ps) j d).0 (reaches-from_not_before p.0 q h) (all_from f lo hi (length (p ∷ ps) + 1) p ps s j d l))
 
-  -- none before an end before which none of them stands
+  -- none before an end before which there is none of them
   pub none_until : (lo : List ℕ) (hi stop : Option (List ℕ)) (ps : List (List ℕ × V)) → AreAll f lo hi ps → ((k : List ℕ) → is_below k stop ≡ true → is_below k hi ≡ true) → StartsFrom stop ps → HasNone f lo stop
   none_until lo hi stop [] s inside h k w = let q = both (reaches lo k) (is_below k stop) w in none_of_all lo hi s k (in_range lo k hi q.0 (inside k q.1))
   none_until lo hi stop (p ∷ ps) s inside h k w = let q = both (reaches lo k) (is_below k stop) w in (first_of_all lo hi p ps s).2 k (in_range lo k (Some p.0) q.0 (below_past p.0 k stop h q.1))
@@ -146,7 +146,7 @@ module _ {V : Type 0} (f : List ℕ → Option V) (lo : List ℕ) (hi stop : Opt
 -- ---- the value at a key
 
 module _ {V : Type 0} (f : List ℕ → Option V) (q : List ℕ) (hi : Option (List ℕ)) (low : is_below q hi ≡ true) where
-  -- none stands there
+  -- there is none
   pub none_there : (ps : List (List ℕ × V)) → AreAll f q hi ps → StartsFrom (Some (next_key q)) ps → f q ≡ None
   none_there ps s h = none_until f q hi (Some (next_key q)) ps s (λ k b. begins_before_end k q hi (reaches-from_before_next k q b) low) h q (in_range q q (Some (next_key q)) (reaches-refl q) (before-next q))
 
@@ -168,7 +168,7 @@ pub adds_key : {V : Type 0} (f : List ℕ → Option V) (q : List ℕ) (limit : 
 adds_key f q limit old new None e l n = adds_none f q (Some (next_key q)) limit old new (n ∙ append-nil old) (λ k w. ap f (sym (one_before_next k q w)) ∙ e)
 adds_key f q limit old new (Some v) e l n = adds_one f q (Some (next_key q)) limit old new (q, v) (in_range q q (Some (next_key q)) (reaches-refl q) (before-next q), e, none_start f q) l n
 
--- a key stands behind another, or before the one next to it
+-- a key is after another, or before the one next to it
 pub starts_past : (q k : List ℕ) → before q k ≡ true → before k (next_key q) ≡ false
 starts_past q k h = not_before_from_reaches (next_key q) k (reaches-next q k ∙ h)
 
@@ -194,7 +194,7 @@ taken_value f q next hi (Some v) old new e low some none s =
     let t : AreAll f q hi ((some.0, v) ∷ new) = subst (AreAll f q hi) some.1 s in
     (some_there f q hi low (some.0, v) new t b, some_gone f q hi low (some.0, v) new t b)
 
--- fewer ends of messages lie ahead behind the next key with messages
+-- after the next key with messages, fewer ends of messages are ahead
 pub point_falls : {U V : Type 0} (ms : List (Msg U V)) (at q k : List ℕ) → reaches at q ≡ true → has_point ms q ≡ true → reaches (next_key q) k ≡ true → ahead k (all_ends ms) < ahead at (all_ends ms)
 point_falls ms at q k low h r = by_bool (before (next_key q) k) (ahead k (all_ends ms) < ahead at (all_ends ms))
     (λ b. let less = fewer (next_key q) k (all_ends ms) b in let falls = first in omega (arith, less, falls))
@@ -206,7 +206,7 @@ point_falls ms at q k low h r = by_bool (before (next_key q) k) (ahead k (all_en
 -- ---- the merge
 
 module _ {U V : Type 0} (means : U → Option V → Option V) (ms : List (Msg U V)) (child : List ℕ → Option V) (from : List ℕ) (end : Option (List ℕ)) (limit : ℕ) (below old : List (List ℕ × V)) where
-  -- it has come to the key `at`
+  -- it has reached the key `at`
   pub record IsMerging (at : List ℕ) (new rest : List (List ℕ × V)) : Type 0 where
     pub walked : HasWalked (applied means ms child) from end limit at old new
     pub all : AreAll child at end rest
@@ -233,7 +233,7 @@ module _ {U V : Type 0} (means : U → Option V → Option V) (ms : List (Msg U 
           (λ k w. below_next k q end (both (reaches at k) (before k q) w).1 at_q.1)
           (gap (Some q) newer (λ k b. below_next k q end b at_q.1) next.2 m.added)
 
-      -- enough pairs stand before the next key
+      -- enough pairs are before the next key
       pub merging_full : limit ≤ length newer → IsMerged means ms child from end limit below old newer
       merging_full l = record {
         added = walk_full (applied means ms child) from end limit q old newer before_q l;
@@ -272,18 +272,18 @@ module _ {U V : Type 0} (means : U → Option V → Option V) (ms : List (Msg U 
 -- ---- a slot
 
 module _ {U V : Type 0} (means : U → Option V → Option V) (ms : List (Msg U V)) (child : List ℕ → Option V) (from : List ℕ) (stop : Option (List ℕ)) where
-  -- where range-deletes hold all keys, nothing of the child is left
+  -- if range-deletes cover all keys, nothing of the child is left
   pub adds_cleared : (limit : ℕ) (old new : List (List ℕ × V)) → ((k : List ℕ) → within from stop k ≡ true → is_cleared ms k ≡ is_cleared ms from) → is_cleared ms from ≡ true → ((f : List ℕ → Option V) → AreAll f from stop [] → LeavesGaps means ms f from stop → IsMerged means ms f from stop limit [] old new) → AddsScan (applied means ms child) from stop limit old new
   adds_cleared limit old new alike t merged =
       let none : List ℕ → Option V = λ k. None in
       let m : IsMerged means ms none from stop limit [] old new = merged none (scan_none none from stop 1 (λ k w. refl)) (λ k w h. left_by_ranges means ms k None h ∙ (elim (is_cleared ms k) as (λ b. cond b None (none k) ≡ none k) [ true ↦ refl | false ↦ refl ])) in
       adds_moved (applied means ms child) (applied means ms none) from stop stop limit old new (λ k w. w) (λ k w. w) (λ k w. forgets means ms k (child k) None (alike k w ∙ t)) m.added
 
-  -- where they hold none, the child's values stay between the keys with messages
+  -- if they cover none, the child's values remain between the keys with messages
   pub gaps_clear : ((k : List ℕ) → within from stop k ≡ true → is_cleared ms k ≡ false) → LeavesGaps means ms child from stop
   gaps_clear clear k w h = left_by_ranges means ms k (child k) h ∙ ap (λ b. cond b None (child k)) (clear k w)
 
-  -- and everywhere, where no key has messages
+  -- and everywhere, if no key has messages
   pub adds_pointless : (limit : ℕ) (old new : List (List ℕ × V)) → ((k : List ℕ) → within from stop k ≡ true → is_cleared ms k ≡ false) → IsNextPoint ms from stop None → AddsScan child from stop limit old new → AddsScan (applied means ms child) from stop limit old new
   adds_pointless limit old new clear none a = adds_moved (applied means ms child) child from stop stop limit old new (λ k w. w) (λ k w. w) (λ k w. gaps_clear clear k w (none k w)) a
 
@@ -297,7 +297,7 @@ module _ {V : Type 0} (f : List ℕ → Option V) (lo : List ℕ) (hi : Option (
   last_within : (reaches lo p.0 ≡ true) × (is_below p.0 hi ≡ true)
   last_within = both (reaches lo p.0) (is_below p.0 hi) (ap (λ (x : List ℕ × V). within lo hi x.0) at ∙ (s.sound i p l).0)
 
-  -- behind one of the pairs
+  -- after one of the pairs
   pub next_up : reaches lo (next_key p.0) ≡ true
   next_up = le_le lo p.0 (next_key p.0) last_within.0 (reaches-from_before p.0 (next_key p.0) (before-next p.0))
 
@@ -308,13 +308,13 @@ module _ {V : Type 0} (f : List ℕ → Option V) (lo : List ℕ) (hi : Option (
   next_within k w = in_range lo k hi (both (reaches lo k) (before k (next_key p.0)) w).0 (next_in k w)
 
 module _ {U V : Type 0} (means : U → Option V → Option V) (ms : List (Msg U V)) (child : List ℕ → Option V) (from : List ℕ) (stop : Option (List ℕ)) (limit : ℕ) (below old new : List (List ℕ × V)) where
-  -- the messages were laid over all pairs of the child up to `next`
+  -- the messages were applied to all pairs of the child up to `next`
   pub record IsRound (next : List ℕ) : Type 0 where
     pub reached : reaches from next ≡ true
     pub inside : (k : List ℕ) → within from (Some next) k ≡ true → is_below k stop ≡ true
     pub merged : IsMerged means ms child from (Some next) limit below old new
 
-  -- which came as they were asked for
+  -- which were returned as requested
   pub round_is : (n : ℕ) → IsScan child from stop n below → (i : ℕ) (p : List ℕ × V) → i + 1 ≡ length below → p ≡ get_or below i p → ((k : List ℕ) → within from stop k ≡ true → is_cleared ms k ≡ false) → (next : List ℕ) → next ≡ next_key p.0 → ((f : List ℕ → Option V) → AreAll f from (Some next) below → LeavesGaps means ms f from (Some next) → IsMerged means ms f from (Some next) limit below old new) → IsRound next
   round_is n s i p l at clear next e apply_pass =
       let b : i < length below = omega (arith, l) in

@@ -24,7 +24,7 @@ not_two q a b x y h =
     let far : before a b ≡ false = ap (before a) (sym one) ∙ not_before_from_reaches a a (reaches-refl a) in
     absurd (cc)
 
--- where each key of a range has this value, the first has it
+-- if each key of a range has this value, the first has it
 first_of_one : {V : Type 0} (f : List ℕ → Option V) (from : List ℕ) (stop : Option (List ℕ)) → is_below from stop ≡ true → (w : Option V) → ((k : List ℕ) → within from stop k ≡ true → f k ≡ w) → IsFirst f from stop (pair_of from w)
 first_of_one f from stop some None e = e
 first_of_one f from stop some (Some v) e = let here = in_range from from stop (reaches-refl from) some in (here, e from here, none_start f from)
@@ -64,7 +64,7 @@ module _ {U V : Type 0} (means : U → Option V → Option V) where
     pub made_is : (k : List ℕ) → within from stop k ≡ true → made k ≡ effects means ms from (child k)
     made_is k h = effects-alike ms from k (child k) (alike k h)
 
-    -- the messages tell the value
+    -- the messages determine the value
     pub first_of_resolved : (w : Option V) → ((o : Option V) → effects means ms from o ≡ w) → IsFirst made from stop (pair_of from w)
     first_of_resolved w resolution = first_of_one made from stop some w (λ k h. made_is k h ∙ resolution (child k))
 
@@ -77,11 +77,11 @@ module _ {U V : Type 0} (means : U → Option V → Option V) where
     first_of_none n = first_of_one made from stop some (effects means ms from None) (λ k h. made_is k h ∙ ap (effects means ms from) (n k h))
 
     module _ (p : List ℕ × V) (below : IsFirst child from stop (Some p)) where
-      -- behind the first key of the stretch
+      -- after the first key of the segment
       later_none : (k : List ℕ) → within from stop k ≡ true → before from k ≡ true → effects means ms from None ≡ None
       later_none k h b = ⊎_elim (λ r. r None) (λ r. r None) (leaves_or_takes ms from k b (alike k h))
 
-      -- where the pair goes, all goes
+      -- if the messages remove the pair, they remove the value at every key of the segment
       taken : (k : List ℕ) (o : Option V) → within from stop k ≡ true → before from k ≡ true → effects means ms from (Some p.1) ≡ None → effects means ms from o ≡ None
       taken k o h b e = ⊎_elim (λ r. absurd (none-some p.1 (sym e ∙ r (Some p.1)))) (λ r. r o) (leaves_or_takes ms from k b (alike k h))
 
@@ -93,7 +93,7 @@ module _ {U V : Type 0} (means : U → Option V → Option V) where
           let inside : within from stop k ≡ true = in_range from k stop q.0 (below_next k p.0 stop q.1 r.1) in
           made_is k inside ∙ ap (effects means ms from) (below.2 k h) ∙ later_none p.0 below.0 (le_lt from k p.0 q.0 q.1)
 
-      -- and where it goes none at its key
+      -- and if they remove it, there is none at its key
       none_at : effects means ms from (Some p.1) ≡ None → effects means ms from (child from) ≡ None
       none_at e = by_bool (before from p.0) (effects means ms from (child from) ≡ None)
           (λ b. taken p.0 (child from) below.0 b e)

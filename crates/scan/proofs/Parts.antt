@@ -1,4 +1,4 @@
--- A scan as far as it has come.
+-- A scan up to its current position.
 use Rattle.std.proofs.Common.{◌≡◌, ℕ, ◌≤◌, ◌++◌, true, false, List, [], ◌∷◌, length, get_or, ap, sym, ◌∙◌, subst, Option, Some, arith, ◌⊎◌, inl, inr}
 use Rattle.std.specs.Prelude.{All, Contains}
 use Rattle.std.proofs.lemmas.Option.{none-some, same_Some}
@@ -12,7 +12,7 @@ use Rattle.scan.specs.Pairs.{HasNone, IsFirst, IsRising, IsScan}
 use Rattle.message.proofs.NextKey.{by_bool, in_range, one_key, before-next, reaches-from_before_next}
 
 module _ {V : Type 0} (f : List ℕ → Option V) (lo : List ℕ) (hi : Option (List ℕ)) where
-  -- these are the pairs of the range that stand before `from`
+  -- these are the pairs of the range before `from`
   pub record IsPart (from : List ℕ) (ps : List (List ℕ × V)) : Type 0 where
     pub reached : reaches lo from ≡ true
     pub sound : All (λ p. (within lo hi p.0 ≡ true) × (f p.0 ≡ Some p.1)) ps
@@ -38,7 +38,7 @@ module _ {V : Type 0} (f : List ℕ → Option V) (lo : List ℕ) (hi : Option (
   part_start from ps e n = subst (λ (k : List ℕ). IsPart k ps) (sym e) (subst (λ (qs : List (List ℕ × V)). IsPart lo qs) (sym n) part_none)
 
   module _ (from : List ℕ) (ps : List (List ℕ × V)) (x : IsPart from ps) where
-    -- the pairs of the range up to the pair that comes next
+    -- the pairs of the range up to the next one
     more_complete : (p : List ℕ × V) → IsFirst f from hi (Some p) → (k : List ℕ) (v : V) → within lo hi k ≡ true → before k (next_key p.0) ≡ true → f k ≡ Some v → Contains (ps ++ p ∷ []) (k, v)
     more_complete p h k v w b e = by_bool (before k from) (Contains (ps ++ p ∷ []) (k, v))
         (λ t. Contains-append_left ps (p ∷ []) (k, v) (x.complete k v w t e))
@@ -76,7 +76,7 @@ module _ {V : Type 0} (f : List ℕ → Option V) (lo : List ℕ) (hi : Option (
           (λ t. absurd (none-some v (sym (h k (in_range from k hi (reaches-from_not_before k from t) (both (reaches lo k) (is_below k hi) w).1)) ∙ e)));
     }
 
-    -- the list has as many pairs as wanted
+    -- the list has reached its limit
     pub scan_full : (limit : ℕ) → length ps ≡ limit → IsScan f lo hi limit ps
     scan_full limit l = record {
       few = omega (arith, l);

@@ -13,7 +13,7 @@ use Rattle.message.proofs.KeyOrder.{both}
 use Rattle.scan.specs.Pairs.{IsRising, IsScan, EndsAt, HasAll}
 use Rattle.message.proofs.NextKey.{in_range, before-next, reaches-next}
 
--- two lists, where each element of the one is as R says to each of the other
+-- two lists, if R relates each element of the first to each of the second
 pub pairs_append : {X : Type 0} (R : X → X → Type 0) (xs ys : List X) → AllPairs R xs → AllPairs R ys → All (λ x. All (R x) ys) xs → AllPairs R (xs ++ ys)
 pairs_append R [] ys a b c = b
 pairs_append R (x ∷ xs) ys a b c = AllPairs-cons R x (xs ++ ys)
@@ -21,7 +21,7 @@ pairs_append R (x ∷ xs) ys a b c = AllPairs-cons R x (xs ++ ys)
     (pairs_append R xs ys (λ i j d l m. a (suc i) (suc j) d (omega arith) (omega arith)) b (λ i d l. c (suc i) d (omega arith)))
 
 module _ {V : Type 0} where
-  -- each pair stands at or before the last one, so before the next key
+  -- each pair is at or before the last one, so before the next key
   before_next : (front : List (List ℕ × V)) (k : List ℕ) (v : V) → IsRising (front ++ (k, v) ∷ []) → All (λ p. before p.0 (next_key k) ≡ true) (front ++ (k, v) ∷ [])
   before_next front k v rising = All-push (λ p. before p.0 (next_key k) ≡ true) front (k, v)
       (λ i d l.
@@ -34,7 +34,7 @@ module _ {V : Type 0} where
       (reaches-from_before k (next_key k) (before-next k)))
       (before-next k)
 
-  -- a scan with fewer pairs than were asked for
+  -- a scan with fewer pairs than its limit
   pub short_law : (f : List ℕ → Option V) (lo : List ℕ) (hi : Option (List ℕ)) (n : ℕ) (ps : List (List ℕ × V)) → IsScan f lo hi n ps → length ps < n → HasAll f lo hi ps
   short_law f lo hi n ps s short k v w e = elim (s.complete k v w e) [
     | inl c ↦ c
@@ -48,7 +48,7 @@ module _ {V : Type 0} where
     last_there : Contains ps (k, ends.1)
     last_there = subst (λ (x : List (List ℕ × V)). Contains x (k, ends.1)) (sym ends.2) (Contains-push ends.0 (k, ends.1))
 
-    -- the range behind the last key lies in the whole range
+    -- the range after the last key is within the whole range
     goes_on : (q : List ℕ) → within (next_key k) hi q ≡ true → within lo hi q ≡ true
     goes_on q w =
         let last : within lo hi k ≡ true = (All-contains (λ (p : List ℕ × V). (within lo hi p.0 ≡ true) × (f p.0 ≡ Some p.1)) ps (k, ends.1) s.sound last_there).0 in
@@ -56,7 +56,7 @@ module _ {V : Type 0} where
         let on : (reaches (next_key k) q ≡ true) × (is_below q hi ≡ true) = both (reaches (next_key k) q) (is_below q hi) w in
         in_range lo q hi (le_le lo k q low (le_le k (next_key k) q (reaches-from_before k (next_key k) (before-next k)) on.0)) on.1
 
-    -- what is missing in the first piece stands in the second, or behind all
+    -- what is missing in the first batch is in the second, or after all
     join_complete : (q : List ℕ) (v : V) → within lo hi q ≡ true → f q ≡ Some v → Contains (ps ++ qs) (q, v) ⊎ ((length (ps ++ qs) ≡ n + m) × All (λ p. before p.0 q ≡ true) (ps ++ qs))
     join_complete q v w e = elim (s.complete q v w e) [
       | inl c ↦ inl (Contains-append_left ps qs (q, v) c)
@@ -69,7 +69,7 @@ module _ {V : Type 0} where
           ]
     ]
 
-    -- a scan, followed by the scan behind its last key
+    -- a scan, followed by the scan after its last key
     pub join_law : IsScan f lo hi (n + m) (ps ++ qs)
     join_law = record {
       few = omega (arith, length-append ps qs, s.few, t.few);
@@ -82,7 +82,7 @@ module _ {V : Type 0} where
       complete = join_complete;
     }
 
-  -- a scan behind which nothing was found
+  -- a scan after which nothing was found
   pub last_law : (f : List ℕ → Option V) (lo : List ℕ) (hi : Option (List ℕ)) (n m : ℕ) (ps : List (List ℕ × V)) (k : List ℕ) → IsScan f lo hi n ps → EndsAt ps k → IsScan f (next_key k) hi m [] → 0 < m → HasAll f lo hi ps
   last_law f lo hi n m ps k s ends t some =
       short_law f lo hi (n + m) ps (subst (λ (x : List (List ℕ × V)). IsScan f lo hi (n + m) x) (append-nil ps) (join_law f lo hi n m ps [] k s ends t)) (omega (arith, s.few, some))

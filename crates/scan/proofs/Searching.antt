@@ -23,16 +23,16 @@ use Rattle.scan.proofs.Ahead.{ahead, ahead_falls, search_ends, range_end_is, slo
 use Rattle.scan.proofs.SlotRange.{number_inside, value_in_slot}
 
 module _ {U V : Type 0} (means : U → Option V → Option V) where
-  -- nothing is found from lo up to `from`, where a search stands
+  -- nothing is found from lo up to `from`, the position of a search
   pub record HasPassed (n : PNode U V) (lo from : List ℕ) : Type 0 where
     pub reached : reaches lo from ≡ true
     pub none : HasNone (value means n) lo (Some from)
 
-  -- where it begins
+  -- the start of a search
   pub at_start : (n : PNode U V) (lo from : List ℕ) → from ≡ lo → reaches lo lo ≡ true → HasPassed n lo from
   at_start n lo from e r = subst (λ (k : List ℕ). HasPassed n lo k) (sym e) (record { reached = r; none = none_start (value means n) lo })
 
-  -- the search stands at `from` in slot i, which is s, and its stretch goes up to `stop`
+  -- the search is at `from` in slot i, which is s, and its segment ends at `stop`
   pub record IsAt (items : List (Slot U V)) (n : PNode U V) (hi : Option (List ℕ)) (from : List ℕ) (i : ℕ) (s : Slot U V) (stop : Option (List ℕ)) : Type 0 where
     pub seen : inner (seen_slots items) ≡ n
     pub bound : i < length items
@@ -42,7 +42,7 @@ module _ {U V : Type 0} (means : U → Option V → Option V) where
     pub inside : (k : List ℕ) → is_below k stop ≡ true → is_below k (earlier_end hi (end_of None (seen_slots items) i)) ≡ true
     pub an_end : IfSome stop (λ d. (earlier_end hi (end_of None (seen_slots items) i) ≡ Some d) ⊎ Contains (all_ends s.pending.0) d)
 
-  -- the same in the words of the code: xs and ys are the slots, and `end` is where the slot ends, or the range
+  -- the same in terms of the code: xs and ys are the slots, and `end` is the end of the slot, or of the range
   pub stands_at : {items xs ys : List (Slot U V)} {n : PNode U V} {hi : Option (List ℕ)} {from : List ℕ} {i : ℕ} {s : Slot U V} {end : Option (List ℕ)} (stop : Option (List ℕ))
       → xs ≡ items → ys ≡ items → inner (seen_slots items) ≡ n → i < length xs → i ≡ slot_number (seen_slots xs) from → s ≡ get_or items i s → end ≡ earlier_end hi (end_of None (seen_slots ys) i)
       → is_below from stop ≡ true → ((k : List ℕ) → is_below k stop ≡ true → is_below k end ≡ true) → IfSome stop (λ d. (end ≡ Some d) ⊎ Contains (all_ends s.pending.0) d) → IsAt items n hi from i s stop
@@ -58,7 +58,7 @@ module _ {U V : Type 0} (means : U → Option V → Option V) where
         an_end = subst (λ e. IfSome stop (λ d. (e ≡ Some d) ⊎ Contains (all_ends s.pending.0) d)) same an_end;
       }
 
-  -- a key below the end lies below the end of its slot
+  -- a key before the end is before the end of its slot
   pub from_below : {items xs ys : List (Slot U V)} (hi : Option (List ℕ)) (from : List ℕ) {i : ℕ} {end : Option (List ℕ)} → xs ≡ items → ys ≡ items → i ≡ slot_number (seen_slots xs) from → is_below from hi ≡ true → end ≡ earlier_end hi (end_of None (seen_slots ys) i) → is_below from end ≡ true
   from_below {items} {xs} {ys} hi from {i} {end} ex ey number h ee =
       let e : i ≡ slot_number (seen_slots items) from = number ∙ ap (λ (zs : List (Slot U V)). slot_number (seen_slots zs) from) ex in
@@ -71,7 +71,7 @@ module _ {U V : Type 0} (means : U → Option V → Option V) where
         let all : IsSearchable (inner (seen_slots items)) = subst (λ (m : PNode U V). IsSearchable m) (sym x.seen) h in
         subst (λ (z : Slot U V). IsSearchable z.child.value) (sym x.slot) (searchable_child items i s x.bound all.1)
 
-    -- and lies lower than the node
+    -- and is lower than the node
     pub child_lower : depth s.child.value < depth n
     child_lower = subst (λ (m : PNode U V). depth s.child.value < depth m) x.seen (subst (λ (z : Slot U V). depth z.child.value < depth (inner (seen_slots items))) (sym x.slot) (depth_child items i s x.bound))
 
@@ -98,7 +98,7 @@ module _ {U V : Type 0} (means : U → Option V → Option V) where
         let p = both (reaches lo k) (is_below k hi) w in
         none_join (value means n) lo from None passed.none (subst (λ o. HasNone (value means n) from o) e (first_of_node None h)) k (in_range lo k None p.0 refl)
 
-    -- it has none, and the search goes on where the stretch ends
+    -- it has none, and the search continues at the end of the segment
     pub goes_on : (lo : List ℕ) → HasPassed n lo from → (next : List ℕ) → stop ≡ Some next → IsFirst (slot_value means s) from stop None → HasPassed n lo next
     goes_on lo passed next e h =
         let after : is_below from (Some next) ≡ true = subst (λ o. is_below from o ≡ true) e x.after in
@@ -107,7 +107,7 @@ module _ {U V : Type 0} (means : U → Option V → Option V) where
           none = none_join (value means n) lo from (Some next) passed.none (subst (λ o. HasNone (value means n) from o) e (first_of_node None h));
         }
 
-    -- a walk of the slot is one of the node, and goes on where the stretch ends
+    -- a walk of the slot is one of the node, and continues at the end of the segment
     pub walked_on : (lo : List ℕ) (limit : ℕ) (old new newer : List (List ℕ × V)) → HasWalked (value means n) lo hi limit from old new → AddsScan (slot_value means s) from stop limit new newer → (next : List ℕ) → stop ≡ Some next → HasWalked (value means n) lo hi limit next old newer
     walked_on lo limit old new newer walked a next e =
         let after : is_below from (Some next) ≡ true = subst (λ o. is_below from o ≡ true) e x.after in
@@ -115,7 +115,7 @@ module _ {U V : Type 0} (means : U → Option V → Option V) where
         (λ k w. (below_ends k (subst (λ o. is_below k o ≡ true) (sym e) (both (reaches from k) (is_below k (Some next)) w).1)).0)
         (subst (λ o. AddsScan (value means n) from o limit new newer) e (adds_moved (value means n) (slot_value means s) from stop stop limit new newer (λ k w. w) (λ k w. w) value_there a))
 
-    -- or is the rest of the range, where the stretch has no end
+    -- or is the rest of the range, if the segment has no end
     pub walked_out : (lo : List ℕ) (limit : ℕ) (old new newer : List (List ℕ × V)) → HasWalked (value means n) lo hi limit from old new → AddsScan (slot_value means s) from stop limit new newer → stop ≡ None → AddsScan (value means n) lo hi limit old newer
     walked_out lo limit old new newer walked a e =
         walk_end (value means n) lo hi limit from old new walked newer (adds_moved (value means n) (slot_value means s) from stop hi limit new newer

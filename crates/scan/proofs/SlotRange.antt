@@ -31,7 +31,7 @@ module _ {U V : Type 0} where
   number_inside_by true lo ms n ss k e h = rw add-one h
   number_inside_by false lo ms n ss k e h = ends_after ss k e
 
-  -- the slot that holds a key ends behind the key
+  -- the slot of a key ends after the key
   pub number_inside : (ss : PSlots U V) (k : List ℕ) → is_below k (end_of None ss (slot_number ss k)) ≡ true
   number_inside none k = refl
   number_inside (more lo ms n ss) k = number_inside_by (begins_by ss k) lo ms n ss k refl (number_inside ss k)
@@ -40,7 +40,7 @@ module _ {U V : Type 0} where
   number_same_by true lo ms n ss c k e h same u = ap (λ b. cond b (slot_number ss k + 1) 0) (begins_later ss c k h e) ∙ ap (λ i. i + 1) (same (rw add-one at u))
   number_same_by false lo ms n ss c k e h same u = ap (λ b. cond b (slot_number ss k + 1) 0) (begins_after ss k u)
 
-  -- from a key up to the end of its slot each key lies in that slot
+  -- from a key up to the end of its slot each key is in that slot
   number_same : (ss : PSlots U V) (c k : List ℕ) → reaches c k ≡ true → is_below k (end_of None ss (slot_number ss c)) ≡ true → slot_number ss k ≡ slot_number ss c
   number_same none c k h u = refl
   number_same (more lo ms n ss) c k h u = number_same_by (begins_by ss c) lo ms n ss c k refl h (number_same ss c k h) u

@@ -1,4 +1,4 @@
--- A pending list laid over pairs that were taken from below. f and child are any functions from keys to values.
+-- A pending list applied to pairs from below. f and child are any functions from keys to values.
 use Rattle.std.specs.Prelude.{◌≡◌, ℕ, ◌+◌, ◌<◌, ◌≤◌, ◌⊎◌, true, false, List, [], ◌∷◌, Option, Some, MatchOption, length}
 use Rattle.pathkey.specs.Keys.{is_below}
 use Rattle.message.specs.declared.msg.Msg.{Msg}
@@ -14,7 +14,7 @@ module _ {V : Type 0} where
   abbrev pub AreAll : (List ℕ → Option V) → List ℕ → Option (List ℕ) → List (List ℕ × V) → Type 0
   AreAll f lo hi ps = IsScan f lo hi (length ps + 1) ps
 
-  -- the first pair does not stand before the end
+  -- the first pair is not before the end
   abbrev pub StartsFrom : Option (List ℕ) → List (List ℕ × V) → Type 0
   StartsFrom stop [] = Unit {0}
   StartsFrom stop (p ∷ ps) = is_below p.0 stop ≡ false
@@ -30,12 +30,12 @@ module _ {V : Type 0} where
   Moves stop limit old new rest left = (f : List ℕ → Option V) (lo : List ℕ) (hi : Option (List ℕ)) →
       AreAll f lo hi rest → ((k : List ℕ) → is_below k stop ≡ true → is_below k hi ≡ true) → IsMoved f lo hi stop limit old new left
 
-  -- this holds of each function of which the pairs are all from a key on, and of the end of the range, which is past the key
+  -- this holds of each function whose pairs are these from a key on, and of the end of the range, which is past the key
   abbrev pub OfAllFrom : List ℕ → List (List ℕ × V) → ((List ℕ → Option V) → Option (List ℕ) → Type 0) → Type 0
   OfAllFrom key rest P = (child : List ℕ → Option V) (end : Option (List ℕ)) → AreAll child key end rest → is_below key end ≡ true → P child end
 
 module _ {U V : Type 0} where
-  -- from `from` up to and without `end` stands a key with a message for it alone
+  -- from `from` up to but excluding `end` there is a key with a message of its own
   abbrev pub HasPoint : List (Msg U V) → List ℕ → Option (List ℕ) → Type 0
   HasPoint ms from end = (q : List ℕ) × (within from end q ≡ true) × (has_point ms q ≡ true)
 
@@ -47,8 +47,8 @@ module _ {U V : Type 0} where
   abbrev pub LeavesGaps : (U → Option V → Option V) → List (Msg U V) → (List ℕ → Option V) → List ℕ → Option (List ℕ) → Type 0
   LeavesGaps means ms child from end = (k : List ℕ) → within from end k ≡ true → has_point ms k ≡ false → applied means ms child k ≡ child k
 
-  -- the messages were laid over all pairs of the child, `below`, and where that gave fewer than `limit`, at least as many as
-  -- those came, or a message was for one key
+  -- the messages were applied to all pairs of the child, `below`; if that gave fewer than `limit`, there were at least as
+  -- many of those, or a key has a message of its own
   pub record IsMerged (means : U → Option V → Option V) (ms : List (Msg U V)) (child : List ℕ → Option V) (from : List ℕ) (end : Option (List ℕ)) (limit : ℕ) (below old new : List (List ℕ × V)) : Type 0 where
     pub added : AddsScan (applied means ms child) from end limit old new
     pub more : length new < limit → (length old + length below ≤ length new) ⊎ HasPoint ms from end
@@ -58,7 +58,7 @@ module _ {U V : Type 0} where
   Merges means ms from end limit below old new = (child : List ℕ → Option V) →
       AreAll child from end below → LeavesGaps means ms child from end → IsMerged means ms child from end limit below old new
 
-  -- a walk of a slot stands at `next`, past a key with a message for it alone, and wants more pairs
+  -- the walk of a slot continues at `next`, after a key with a message of its own, and needs more pairs
   pub record GoesOn (means : U → Option V → Option V) (s : Slot U V) (from : List ℕ) (stop : Option (List ℕ)) (limit : ℕ) (old new : List (List ℕ × V)) (next : List ℕ) : Type 0 where
     pub reached : reaches from next ≡ true
     pub inside : (k : List ℕ) → within from (Some next) k ≡ true → is_below k stop ≡ true
@@ -66,7 +66,7 @@ module _ {U V : Type 0} where
     pub passed : HasPoint s.pending.0 from (Some next)
     pub room : length new < limit
 
-  -- a round ends the walk of a slot, or answers the key where it goes on
+  -- a round ends the walk of a slot, or returns the key where it continues
   abbrev pub EndsOrGoesOn : (U → Option V → Option V) → Slot U V → List ℕ → Option (List ℕ) → ℕ → List (List ℕ × V) → List (List ℕ × V) → Option (List ℕ) → Type 0
   EndsOrGoesOn means s from stop limit old new answer =
       MatchOption answer (AddsScan (slot_value means s) from stop limit old new) (λ next. GoesOn means s from stop limit old new next)

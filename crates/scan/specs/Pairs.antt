@@ -1,4 +1,4 @@
--- What the searches of a range of keys find. f is any function from keys to values, as what a tree means at each key.
+-- The results of searches in a range of keys. f is any function from keys to values, for example the values of a tree.
 use Rattle.std.specs.Prelude.{◌≡◌, ℕ, ◌-◌, ◌<◌, ◌≤◌, ◌⊎◌, Bool, true, List, [], ◌∷◌, ◌++◌, Option, Some, None, MatchOption, length, drop, eqb, All, AllPairs, Contains}
 use Rattle.std.specs.List.{starts_with, prefix_len}
 use Rattle.std.specs.Option.{option_to_list}
@@ -10,7 +10,7 @@ module _ {V : Type 0} where
   abbrev pub HasNone : (List ℕ → Option V) → List ℕ → Option (List ℕ) → Type 0
   HasNone f lo hi = (k : List ℕ) → within lo hi k ≡ true → f k ≡ None
 
-  -- this is the first pair that f has from lo up to and without hi; or none, where f has none there
+  -- this is the first pair of f from lo up to but excluding hi; or none, if f has none there
   abbrev pub IsFirst : (List ℕ → Option V) → List ℕ → Option (List ℕ) → Option (List ℕ × V) → Type 0
   IsFirst f lo hi None = HasNone f lo hi
   IsFirst f lo hi (Some p) = (within lo hi p.0 ≡ true) × (f p.0 ≡ Some p.1) × HasNone f lo (Some p.0)
@@ -19,15 +19,15 @@ module _ {V : Type 0} where
   abbrev pub IsRising : List (List ℕ × V) → Type 0
   IsRising ps = AllPairs (λ p q. before p.0 q.0 ≡ true) ps
 
-  -- these are the first `limit` pairs that f has from lo up to and without hi, or all where there are fewer: each is a
-  -- pair of f in the range, they rise, and no pair of the range is missing unless there are `limit` before it
+  -- these are the first `limit` pairs of f from lo up to but excluding hi, or all if there are fewer: each is a pair of
+  -- f in the range, they are sorted, and no pair of the range is missing unless there are `limit` before it
   pub record IsScan (f : List ℕ → Option V) (lo : List ℕ) (hi : Option (List ℕ)) (limit : ℕ) (ps : List (List ℕ × V)) : Type 0 where
     pub few : length ps ≤ limit
     pub sound : All (λ p. (within lo hi p.0 ≡ true) × (f p.0 ≡ Some p.1)) ps
     pub rising : IsRising ps
     pub complete : (k : List ℕ) (v : V) → within lo hi k ≡ true → f k ≡ Some v → Contains ps (k, v) ⊎ ((length ps ≡ limit) × All (λ p. before p.0 k ≡ true) ps)
 
-  -- a list has become a longer one: behind its pairs stands a scan for as many as it lacked of `limit`
+  -- a list was extended: its pairs are followed by a scan for as many as were missing up to `limit`
   abbrev pub AddsScan : (List ℕ → Option V) → List ℕ → Option (List ℕ) → ℕ → List (List ℕ × V) → List (List ℕ × V) → Type 0
   AddsScan f lo hi limit old new = (ps : List (List ℕ × V)) × (new ≡ old ++ ps) × IsScan f lo hi (limit - length old) ps
 
@@ -39,20 +39,20 @@ module _ {V : Type 0} where
   abbrev pub HasAll : (List ℕ → Option V) → List ℕ → Option (List ℕ) → List (List ℕ × V) → Type 0
   HasAll f lo hi ps = (k : List ℕ) (v : V) → within lo hi k ≡ true → f k ≡ Some v → Contains ps (k, v)
 
-  -- the pairs are a scan of what stands from a key on up to hi, and where it is said of all, no pair is missing
+  -- the pairs are a scan of the range from a key up to hi, and if `all`, no pair is missing
   abbrev pub AreFrom : (List ℕ → Option V) → List ℕ → Option (List ℕ) → Bool → List (List ℕ × V) → Type 0
   AreFrom f from hi all ps = (n : ℕ) × IsScan f from hi n ps × (all ≡ true → length ps < n)
 
-  -- the same from a key on that stands at lo or before it
+  -- the same from a key at or before lo
   abbrev pub AreAhead : (List ℕ → Option V) → List ℕ → Option (List ℕ) → Bool → List (List ℕ × V) → Type 0
   AreAhead f lo hi all ps = (from : List ℕ) × (reaches from lo ≡ true) × AreFrom f from hi all ps
 
-  -- this is the first pair from lo up to hi, if there is one, and the pairs are those behind it
+  -- this is the first pair from lo up to hi, if there is one, and the pairs are those after it
   abbrev pub IsGiven : (List ℕ → Option V) → List ℕ → Option (List ℕ) → Option (List ℕ × V) → Bool → List (List ℕ × V) → Type 0
   IsGiven f lo hi None all ps = HasNone f lo hi
   IsGiven f lo hi (Some p) all ps = IsFirst f lo hi (Some p) × AreFrom f (next_key p.0) hi all ps
 
-  -- this is that first pair; or there is none at hand, and any other stands from lo on, unless it is said that all are known
+  -- this is that first pair; or none was read ahead, and any other is at or after lo, unless `all` says that none is left
   abbrev pub GivesFirst : (List ℕ → Option V) → List ℕ → Option (List ℕ) → Option (List ℕ × V) → Bool → List (List ℕ × V) → Type 0
   GivesFirst f lo hi taken all ps = MatchOption taken (AreAhead f lo hi all []) (λ p. IsGiven f lo hi (Some p) all ps)
 
@@ -72,7 +72,7 @@ module _ {V : Type 0} where
 abbrev pub IsEndOf : List ℕ → List ℕ → Type 0
 IsEndOf end front = (k : List ℕ) → reaches front k ≡ true → before k end ≡ starts_with eqb k front
 
--- whatever the old pairs are a scan of, behind `front`: the first was taken out of them that stands behind all that begin with it
+-- whatever the old pairs are a scan of, after `front`: the first was removed that is after all keys that begin with it
 abbrev pub TakesPast : {V : Type 0} → List ℕ → Bool → List (List ℕ × V) → Option (List ℕ × V) → Bool → List (List ℕ × V) → Type 0
 TakesPast {V} front all old taken all' new = (f : List ℕ → Option V) (hi : Option (List ℕ)) (end : List ℕ) →
     IsEndOf end front → AreFrom f (next_key front) hi all old → GivesFirst f end hi taken all' new

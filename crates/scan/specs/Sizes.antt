@@ -4,12 +4,12 @@ use Rattle.std.specs.Option.{option_to_list}
 use Rattle.message.specs.Ranges.{before}
 use Rattle.scan.specs.Pairs.{from_unpassed}
 
--- a count, raised by m where it is said so, and to 2^64 - 1 at most
+-- a count, raised by m if the flag is set, but at most to 2^64 - 1
 abbrev pub raised : Bool → ℕ → ℕ → ℕ
 raised said m count = cond said (min (count + m) (2 ^ 64 - 1)) count
 
 module _ {V : Type 0} where
-  -- how many pairs the next piece may have once those were passed that pass the test: one where any was, else as many as before
+  -- the size of the next batch after the pairs that pass the test were skipped: one if there was any, otherwise as before
   abbrev pub size_past : (List ℕ → Bool) → List (List ℕ × V) → ℕ → ℕ
   size_past test [] n = n
   size_past test (p ∷ ps) n = cond (test p.0) 1 n
@@ -19,7 +19,7 @@ module _ {V : Type 0} where
   wants_more all [] = not all
   wants_more all (p ∷ ps) = false
 
-  -- the tree is walked for the first pair from lo on: none of those at hand stands there, and there may be others
+  -- the tree is walked for the first pair from lo on: none of those read ahead is there, and there may be others
   abbrev pub is_walked : List ℕ → Bool → List (List ℕ × V) → Bool
   is_walked lo all ps = wants_more all (from_unpassed (λ k. before k lo) ps)
 
@@ -27,10 +27,10 @@ module _ {V : Type 0} where
   abbrev pub walked_for : List ℕ → List (List ℕ × V) → ℕ → ℕ
   walked_for lo ps n = max (size_past (λ k. before k lo) ps n) 1
 
-  -- how many pairs the next piece may have once the first pair from lo on was asked for: twice as many as the last, and 256 at most
+  -- the size of the next batch after the first pair from lo on was requested: twice as many as the last, and 256 at most
   abbrev pub size_after : List ℕ → Bool → List (List ℕ × V) → ℕ → ℕ
   size_after lo all ps n = cond (is_walked lo all ps) (min (2 * walked_for lo ps n) 256) (size_past (λ k. before k lo) ps n)
 
-  -- a piece of n pairs, or of fewer where no other is left: the one that was given, and those at hand
+  -- a batch of n pairs, or of fewer if no other is left: the one that was returned, and those read ahead
   abbrev pub IsPiece : ℕ → Option (List ℕ × V) → Bool → List (List ℕ × V) → Type 0
   IsPiece n given all ps = (length (option_to_list given ++ ps) ≤ n) × (all ≡ false → length (option_to_list given ++ ps) ≡ n)

@@ -48,8 +48,8 @@ pub fn apply_pass<'m, U: Update>(
     Ok(())
 }
 
-/// The next key before `end` that has a message for it alone, if there is one. The search starts at `at`, unless the walk goes
-/// along the entries.
+/// The next key before `end` that has a message of its own, if there is one. The search starts at `at`, unless the walk
+/// advances along the entries.
 fn next_from<'a: 'b, 'b, U: Update>(
     ahead: &mut PointCursor<'a, U>,
     at: &'b Key,

@@ -1,4 +1,4 @@
-//! Laws of scans, each proved once for those who rely on it. The function does nothing.
+//! Laws of scans. The function does nothing at run time.
 ghost use Rattle.scan.specs.Laws.{JoinLaw, LastLaw, ShortLaw};
 
 /// A range may be read in batches, each beginning after the last key of the one before: the batches are one scan of the range. If

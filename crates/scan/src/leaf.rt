@@ -1,4 +1,5 @@
-//! The entries of a range in a leaf: the first, or as many as are wanted.
+//! The entries of a range in a leaf: the first one, or up to a limit. It relies on the leaf's order: keys are sorted
+//! and unique.
 ghost use Rattle.std.specs.Prelude.{IfOk, OnOk, [], None};
 ghost use Rattle.std.specs.Option.{option_copied};
 ghost use Rattle.node.specs.Lawful.{Rises};

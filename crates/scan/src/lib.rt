@@ -1,9 +1,9 @@
 //! The first pairs of a range of keys, in key order, with the messages pending on the paths to the leaves applied.
 //!
-//! A search goes from one segment of keys to the next: up to the next pivot, or to where the next message begins or ends, each
-//! message affects all keys or none. A segment under a range-delete is skipped at once, with all older messages for its keys, and
-//! in any other the first pair of the child decides. A scan of more pairs is one walk: it reads the pairs of a child at once, and
-//! applies the messages of the slot to them.
+//! A search advances from one segment of keys to the next. A segment ends at the next pivot, or at the next end of a message, so
+//! each message affects all of its keys or none. A segment under a range-delete is skipped at once, with all older messages for
+//! its keys; in any other the first pair of the child decides. A scan of more pairs is one walk: it reads the pairs of a child in
+//! batches, and applies the messages of the slot to them.
 #![tactic(auto)]
 
 ghost use Rattle.std.specs.Prelude.{IfOk};

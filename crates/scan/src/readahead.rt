@@ -1,4 +1,7 @@
 //! The pairs of a range one after the other, read from the tree in batches.
+//!
+//! The pairs read ahead are the next ones after the last requested key, without a gap; a flag says whether they are all
+//! that remain.
 ghost use Rattle.std.specs.Prelude.{◌≡◌, ◌+◌, ◌-◌, ◌*◌, ◌^◌, ℕ, [], List, Bool, true, false, eqb, max, min, IfOk, IfNone};
 ghost use Rattle.std.specs.Fn.{ComputesKey};
 ghost use Rattle.std.specs.List.{starts_with};

@@ -1,4 +1,6 @@
 //! The search for the first pair of a range, from the root down.
+//!
+//! No pair of the range is before the position of the search.
 ghost use Rattle.std.specs.Prelude.{◌≡◌, IfOk, true};
 ghost use Rattle.std.specs.Option.{option_copied};
 ghost use Rattle.pathkey.specs.Keys.{is_below};
@@ -19,7 +21,7 @@ use std::alloc::Global;
 
 /// The first pair below a node from `lo` up to but excluding `hi`.
 ///
-/// It goes from one segment to the next, and ends at the first that has a pair.
+/// It advances from one segment to the next, and ends at the first that has a pair.
 #[cycle(first)]
 pub fn first<U: Update>(
     alloc: Global,

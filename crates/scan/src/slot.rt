@@ -1,4 +1,5 @@
-//! What the messages of a slot make of a segment of its child.
+//! The effect of a slot's messages on a segment of its child. Within a segment each message affects all keys or none,
+//! so the first pair of the child decides for all of it.
 ghost use Rattle.std.specs.Prelude.{◌≡◌, ◌<◌, IfOk, None, length};
 ghost use Rattle.std.specs.Option.{option_copied};
 ghost use Rattle.message.specs.Ranges.{earlier_end};
@@ -14,7 +15,7 @@ use pathkey::{Key, NoMemory};
 use pending::Pending;
 use std::alloc::Global;
 
-/// Where the slot with this index ends, or `hi` if that is earlier.
+/// The end of the slot with this index, or `hi` if that is earlier.
 pub fn slot_end<'a, U: Update>(
     slots: &'a [Slot<U>],
     i: usize,

@@ -1,7 +1,7 @@
-//! The walk of a range, from the root down: one descent serves a whole slot.
+//! The walk of a range, from the root down: one descent for each slot.
 //!
 //! The pairs that the messages leave unchanged are read from the child in one walk, and the keys with messages of their own are
-//! inserted between them.
+//! inserted between them. The output always consists of the pairs of the range before the position of the walk.
 ghost use Rattle.std.specs.Prelude.{◌≡◌, ◌<◌, List, ℕ, OnOk, IfOk, length, true, false};
 ghost use Rattle.std.specs.Option.{option_copied};
 ghost use Rattle.message.specs.PointKeys.{is_cleared};
@@ -24,7 +24,7 @@ use std::alloc::Global;
 
 /// Pushes the pairs below a node from `lo` up to but excluding `hi`, until there are `limit` pairs.
 ///
-/// It goes from slot to slot, and in a slot to where its range-deletes next begin or end. If an allocation fails, some pairs may
+/// It advances from slot to slot, and within a slot to the next end of a range-delete. If an allocation fails, some pairs may
 /// have been pushed.
 #[cycle(walk)]
 pub fn walk<U: Update>(
@@ -66,7 +66,8 @@ pub fn walk<U: Update>(
     Ok(())
 }
 
-/// Pushes the pairs of a slot in a range where its range-deletes cover all keys or none, until there are `limit` pairs.
+/// Pushes the pairs of a slot in a range of which its range-deletes cover all keys or none, until there are `limit`
+/// pairs.
 ///
 /// The child is not read if they cover all.
 #[cycle(walk)]
@@ -93,8 +94,8 @@ fn walk_slot<U: Update>(
     walk_rounds(alloc, slot, from, stop, limit, pairs)
 }
 
-/// Pushes the pairs of a slot in a range where no range-delete covers a key, until there are `limit` pairs, in rounds: messages
-/// may remove pairs, so that more of the child's are requested.
+/// Pushes the pairs of a slot in a range of which no range-delete covers a key, until there are `limit` pairs, in rounds:
+/// messages may remove pairs, so that more of the child's are requested.
 #[cycle(walk)]
 fn walk_rounds<U: Update>(
     alloc: Global,
@@ -116,8 +117,8 @@ fn walk_rounds<U: Update>(
     Ok(())
 }
 
-/// One round: it reads as many pairs of the child as are wanted, and applies the messages to them. If that gives fewer, and the
-/// child may have more, it returns the key where the next round begins.
+/// One round: it reads as many pairs of the child as are still missing, and applies the messages to them. If the result has
+/// fewer, and the child may have more, it returns the key where the next round begins.
 #[cycle(walk)]
 fn round<U: Update>(
     alloc: Global,

@@ -1,18 +1,20 @@
-//! Calls by texts and buffers of more than a block, with ample memory: no contract can say that memory is found.
-use crate::asked::{USUAL, freeze, new_volume};
+//! Tests of calls by texts and buffers of more than a block, with ample memory: no contract states that allocations
+//! succeed.
 use crate::pieces::{Piece, built};
+use crate::requests::{USUAL, freeze, new_volume};
 use ffi_calls::{create, frozen_readdir, load, print, read, readdir, stat, write};
 use images::LoadFault;
 use reference::Meta;
 use std::alloc::Global;
 use volume::{Frozen, Volume};
 
-/// Whether the file is made. No function that asks ensures anything, so that no proof of a test reads the contract of a call.
+/// Whether the file is created. The helpers have no postconditions, so that the proofs of the tests do not unfold the
+/// contract of a call.
 fn makes(alloc: Global, volume: &mut Volume) -> bool {
     create(alloc, volume, b"/f", 1).is_ok()
 }
 
-/// Whether bytes are written into the file, from its third on.
+/// Whether bytes are written to the file, from its third on.
 fn writes(alloc: Global, volume: &mut Volume, bytes: &[u8]) -> bool {
     write(alloc, volume, b"/f", 2, bytes, 3).is_ok()
 }
@@ -22,22 +24,22 @@ fn count_read(alloc: Global, volume: &Volume, room: &mut [u8]) -> Option<usize> 
     read(alloc, volume, b"/f", 2, room).ok()
 }
 
-/// What is told of the file.
+/// The metadata of the file.
 fn reported(alloc: Global, volume: &Volume) -> Option<Meta> {
     stat(alloc, volume, b"/f").ok()
 }
 
-/// How many bytes the listing of the root takes.
+/// The size of the listing of the root.
 fn size_listed(alloc: Global, volume: &Volume, room: &mut [u8]) -> Option<usize> {
     readdir(alloc, volume, b"/", room).ok()
 }
 
-/// How many bytes the listing of the root takes in a tree that stands still.
+/// The size of the listing of the root in a frozen tree.
 fn size_frozen(alloc: Global, tree: &Frozen, room: &mut [u8]) -> Option<usize> {
     frozen_readdir(alloc, tree, b"/", room).ok()
 }
 
-/// How many bytes its image takes.
+/// The size of its image.
 fn size_printed(alloc: Global, tree: &Frozen, room: &mut [u8]) -> Option<usize> {
     print(alloc, tree, room).ok()
 }
@@ -47,10 +49,10 @@ fn loaded(alloc: Global, text: &[u8]) -> Result<Volume, LoadFault> {
     load(alloc, USUAL, text)
 }
 
-/// How many bytes are written, and read back.
+/// The number of bytes that are written, and read back.
 const LONG: usize = 10_000;
 
-/// So many bytes, each of another value than the one before.
+/// That many bytes, each different from the one before.
 fn long_bytes(alloc: Global) -> Option<Vec<u8>> {
     let mut bytes = Vec::new(alloc);
     for place in 0..LONG {
@@ -59,13 +61,13 @@ fn long_bytes(alloc: Global) -> Option<Vec<u8>> {
     Some(bytes)
 }
 
-/// Whether the bytes are read back, in a buffer with room for more.
+/// Whether the bytes are read back, in a larger buffer.
 fn reads(alloc: Global, volume: &Volume, bytes: &[u8]) -> bool {
     let mut room = [0u8; 12_000];
     count_read(alloc, volume, &mut room) == Some(bytes.len()) && room.starts_with(bytes)
 }
 
-/// Whether the file has the bytes behind its first two, and the moment of their writing.
+/// Whether the file has the bytes after its first two, and the mtime of their write.
 fn has(alloc: Global, volume: &Volume, bytes: &[u8]) -> bool {
     let file = Meta::File {
         len: 10_002,
@@ -102,7 +104,7 @@ fn more_bytes_than_a_block_are_written_and_read(rt: HostRuntime) {
 /// An image with 1,000 directories, of more than two blocks.
 const DIRECTORIES: [Piece; 2] = [Piece::Text("d /\n"), Piece::Numbered("d /a", 1_000, 2_000)];
 
-/// An image with 1,000 directories, and behind it a line that is none of an image.
+/// An image with 1,000 directories, followed by a line that is not one of an image.
 const SPOILED: [Piece; 3] = [
     Piece::Text("d /\n"),
     Piece::Numbered("d /a", 1_000, 2_000),
@@ -121,7 +123,7 @@ fn lists(alloc: Global, tree: &Frozen) -> bool {
     size_frozen(alloc, tree, &mut room) == Some(7_000) && room.starts_with(b"da1000\0da1001\0")
 }
 
-/// Whether the root of a volume is listed, and the tree that it freezes is shown.
+/// Whether the root of a volume is listed, and its frozen tree passes the checks.
 fn shows(alloc: Global, volume: &Volume) -> bool {
     let mut room = [0u8; 8_000];
     if size_listed(alloc, volume, &mut room) != Some(7_000) {
@@ -133,7 +135,7 @@ fn shows(alloc: Global, volume: &Volume) -> bool {
     }
 }
 
-/// Whether a text is loaded, and what it has is shown.
+/// Whether a text is loaded, and its volume passes the checks.
 fn loads(alloc: Global, text: &[u8]) -> bool {
     match loaded(alloc, text) {
         Ok(volume) => shows(alloc, &volume),
@@ -141,7 +143,7 @@ fn loads(alloc: Global, text: &[u8]) -> bool {
     }
 }
 
-/// Whether the image of 1,000 directories is loaded, and what it has is shown.
+/// Whether the image of 1,000 directories is loaded, and its volume passes the checks.
 fn loads_pieces(alloc: Global) -> bool {
     match built(alloc, &DIRECTORIES) {
         Some(text) => loads(alloc, text.as_slice()),
@@ -154,12 +156,12 @@ fn a_long_text_is_loaded_listed_and_printed(rt: HostRuntime) {
     assert!(rt; loads_pieces(rt.alloc()));
 }
 
-/// Why a text is not loaded.
+/// The error of loading a text.
 fn fault(alloc: Global, text: &[u8]) -> Option<LoadFault> {
     loaded(alloc, text).err()
 }
 
-/// Whether a text in pieces is refused at the line behind the root and the directories.
+/// Whether loading a text in pieces fails at the line after the root and the directories.
 fn refuses_pieces(alloc: Global) -> bool {
     match built(alloc, &SPOILED) {
         Some(text) => fault(alloc, text.as_slice()) == Some(LoadFault::Bad(1_002)),

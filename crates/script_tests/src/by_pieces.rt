@@ -1,34 +1,35 @@
-//! Images that go by pieces: what is loaded and printed, and which line a bad text is refused at, wherever it is cut.
+//! Tests of images in pieces: the volume that is loaded, the text that is printed, and the line at which a bad text
+//! fails, wherever it is cut.
 ghost use Rattle.std.specs.Prelude.{◌<◌};
 
-use crate::asked::{USUAL, freeze};
 use crate::pieces::{Piece, built};
+use crate::requests::{USUAL, freeze};
 use crate::streams::has_image;
 use images::{ImageLoader, ImagePrinter, LoadFault};
 use std::alloc::Global;
 use volume::{Frozen, Volume};
 
-/// A loader that took nothing. No function that asks ensures anything, so that no proof of a test reads what an image is.
+/// A new loader. The helpers have no postconditions, so that the proofs of the tests do not unfold what an image is.
 fn new_loader(alloc: Global) -> Result<ImageLoader, LoadFault> {
     ImageLoader::new(alloc, USUAL)
 }
 
-/// Whether a loader takes a piece, and why not.
+/// Whether a loader accepts a piece, and the error.
 fn take(alloc: Global, loader: &mut ImageLoader, piece: &[u8]) -> Result<(), LoadFault> {
     loader.feed(alloc, piece)
 }
 
-/// What the loader gives at the end.
+/// The result of the loader at the end.
 fn end(loader: ImageLoader) -> Result<Volume, LoadFault> {
     loader.end()
 }
 
-/// How many bytes of an image a printing writes next.
+/// The number of bytes of an image that a printer writes next.
 fn next(alloc: Global, printing: &mut ImagePrinter, room: &mut [u8]) -> Option<usize> {
     printing.next(alloc, room).ok()
 }
 
-/// Whether a loader takes a text in pieces of so many bytes, and why not.
+/// Whether a loader accepts a text in pieces of that many bytes, and the error.
 fn take_pieces(
     alloc: Global,
     loader: &mut ImageLoader,
@@ -54,7 +55,7 @@ fn loaded(alloc: Global, text: &[u8], size: usize) -> Result<Volume, LoadFault>
     }
 }
 
-/// What is left of a text behind what a printing writes next into a room, if the text begins so.
+/// The rest of a text after what a printer writes next into a buffer, if the text begins so.
 fn behind<'a>(
     alloc: Global,
     printing: &mut ImagePrinter,
@@ -65,7 +66,7 @@ fn behind<'a>(
     text.strip_prefix(room.get(..count)?)
 }
 
-/// Whether what a printing writes into a room of some bytes, again and again, is a text.
+/// Whether a text is what a printer writes into a buffer, again and again.
 fn writes(alloc: Global, printing: &mut ImagePrinter, room: &mut [u8], text: &[u8]) -> bool {
     let mut rest = text;
     // No text here has more pieces.
@@ -79,7 +80,7 @@ fn writes(alloc: Global, printing: &mut ImagePrinter, room: &mut [u8], text: &[u
     false
 }
 
-/// Whether a tree's image is a text, printed into a room of so many bytes.
+/// Whether a tree's image is this text, printed into a buffer of that many bytes.
 fn prints(alloc: Global, tree: Frozen, size: usize, text: &[u8]) -> bool {
     let mut room = [0u8; 4_096];
     let Some(room) = room.get_mut(..size) else {
@@ -91,7 +92,7 @@ fn prints(alloc: Global, tree: Frozen, size: usize, text: &[u8]) -> bool {
     }
 }
 
-/// Whether a volume has an image, at once and in pieces of so many bytes.
+/// Whether a volume has an image, at once and in pieces of that many bytes.
 fn shows(alloc: Global, volume: &Volume, size: usize, text: &[u8]) -> bool {
     match freeze(volume) {
         Ok(tree) => prints(alloc, tree, size, text) && has_image(alloc, volume, text),
@@ -99,8 +100,8 @@ fn shows(alloc: Global, volume: &Volume, size: usize, text: &[u8]) -> bool {
     }
 }
 
-/// Whether an image is loaded in pieces of so many bytes, and printed in such again.
-fn goes(alloc: Global, text: &[u8], size: usize) -> bool
+/// Whether an image is loaded in pieces of that many bytes, and printed in such pieces again.
+fn is_round_trip(alloc: Global, text: &[u8], size: usize) -> bool
     requires { 0 < size }
 {
     match loaded(alloc, text, size) {
@@ -119,35 +120,35 @@ const IMAGES: [&[u8]; 5] = [
 ];
 
 #[test]
-fn goes_in_pieces_of_any_size(rt: HostRuntime) {
+fn round_trips_in_pieces_of_any_size(rt: HostRuntime) {
     for (number, text) in IMAGES.iter().enumerate() {
-        assert!(rt; goes(rt.alloc(), text, 1), "{number} by 1");
-        assert!(rt; goes(rt.alloc(), text, 7), "{number} by 7");
-        assert!(rt; goes(rt.alloc(), text, 4_096), "{number} by 4,096");
+        assert!(rt; is_round_trip(rt.alloc(), text, 1), "{number} by 1");
+        assert!(rt; is_round_trip(rt.alloc(), text, 7), "{number} by 7");
+        assert!(rt; is_round_trip(rt.alloc(), text, 4_096), "{number} by 4,096");
     }
 }
 
-/// A file of 20 full blocks, between two others, whose lines have more bytes than are printed in one go.
+/// A file of 20 full blocks, between two others, whose lines have more bytes than are printed at once.
 const LONG: [Piece; 3] = [
     Piece::Text("D / 1\nF /a 1 2\nb 0 01\nF /b 81920 3\n"),
     Piece::Blocks(20),
     Piece::Text("F /c 2 4\nb 0 0203\n"),
 ];
 
-/// Whether a text in pieces goes in pieces of 4,096 bytes.
-fn goes_long(alloc: Global, pieces: &[Piece]) -> bool {
+/// Whether a text in pieces is loaded and printed in pieces of 4,096 bytes.
+fn is_long_round_trip(alloc: Global, pieces: &[Piece]) -> bool {
     match built(alloc, pieces) {
-        Some(text) => goes(alloc, text.as_slice(), 4_096),
+        Some(text) => is_round_trip(alloc, text.as_slice(), 4_096),
         None => false,
     }
 }
 
 #[test]
-fn a_long_image_goes_in_pieces(rt: HostRuntime) {
-    assert!(rt; goes_long(rt.alloc(), &LONG));
+fn a_long_image_round_trips_in_pieces(rt: HostRuntime) {
+    assert!(rt; is_long_round_trip(rt.alloc(), &LONG));
 }
 
-/// Texts that are no images, and the first line with which they are none.
+/// Texts that are not images, and the number of their first bad line.
 const SPOILED: [(&[u8], u64); 6] = [
     (b"", 1),
     (b"D / 0", 1),
@@ -157,7 +158,7 @@ const SPOILED: [(&[u8], u64); 6] = [
     (b"D / 0\nD /b 0\nD /a 0\nx\n", 3),
 ];
 
-/// Whether a text in pieces of so many bytes is refused at this line.
+/// Whether loading a text in pieces of that many bytes fails at this line.
 fn is_refused(alloc: Global, text: &[u8], size: usize, line: u64) -> bool
     requires { 0 < size }
 {
@@ -179,12 +180,12 @@ fn is_refused_at_the_same_line(rt: HostRuntime) {
     }
 }
 
-/// Whether a loader refuses a piece at the second line.
+/// Whether a loader fails at the second line, with a piece.
 fn refuses(alloc: Global, loader: &mut ImageLoader, piece: &[u8]) -> bool {
     take(alloc, loader, piece) == Err(LoadFault::Bad(2))
 }
 
-/// Whether it refuses there at the end.
+/// Whether it fails there at the end.
 fn refuses_at_end(loader: ImageLoader) -> bool {
     match end(loader) {
         Ok(_) => false,
@@ -192,7 +193,7 @@ fn refuses_at_end(loader: ImageLoader) -> bool {
     }
 }
 
-/// Whether a loader that refused a piece refuses all that follows at the same line.
+/// Whether a loader that failed fails with all that follows, at the same line.
 fn stays_refused(alloc: Global, mut loader: ImageLoader) -> bool {
     let both = refuses(alloc, &mut loader, b"D / 0\nx\n")
         && refuses(alloc, &mut loader, b"D / 0\n");

@@ -1,8 +1,8 @@
-//! Command lines, and what they ask for.
+//! Tests of command lines, and the options that they set.
 use shell::{Options, read_words};
 use std::alloc::Global;
 
-/// A command line and what it asks for.
+/// A command line and its options.
 struct Row {
     words: &'static [&'static str],
     /// Flushers, steps, fanout, pending and leaf.
@@ -99,29 +99,30 @@ const TAKEN: &[Row] = &[
     },
 ];
 
-/// Reads a command line. It ensures nothing, so that no proof of a test reads what a command line means.
+/// Parses a command line. It has no postcondition, so that the proofs of the tests do not unfold what a command line
+/// means.
 fn read<'a>(alloc: Global, words: &'a [&'a str]) -> Option<Options<'a>> {
     read_words(alloc, words).ok()
 }
 
-/// The numbers of what a command line asks for.
-fn numbers_of(asked: &Options<'_>) -> [u16; 5] {
+/// The numbers of the options.
+fn numbers_of(options: &Options<'_>) -> [u16; 5] {
     [
-        u16::from(asked.flushers),
-        asked.steps,
-        asked.fanout,
-        asked.pending,
-        asked.leaf,
+        u16::from(options.flushers),
+        options.steps,
+        options.fanout,
+        options.pending,
+        options.leaf,
     ]
 }
 
-/// Whether the command line asks for what the row says.
+/// Whether the command line sets the options of the row.
 fn is_taken(alloc: Global, row: &Row) -> bool {
     match read(alloc, row.words) {
-        Some(asked) => {
-            numbers_of(&asked) == row.numbers
-                && [asked.image, asked.strict, asked.explain] == row.switches
-                && asked.script == row.script
+        Some(options) => {
+            numbers_of(&options) == row.numbers
+                && [options.image, options.strict, options.explain] == row.switches
+                && options.script == row.script
         }
         None => false,
     }

@@ -1,11 +1,11 @@
-//! Compaction ends, also in a small tree in which no step that it finds has room.
-use crate::asked::{SMALL, new_volume};
+//! Tests that compaction ends, also in a small tree in which no step that it finds fits.
+use crate::requests::{SMALL, new_volume};
 use ffi_calls::{compact, create, mkdir, rename, rmtree};
 use pathkey::Errno;
 use std::alloc::Global;
 use volume::Volume;
 
-/// What is done to a volume.
+/// A change of a volume.
 #[derive(Clone, Copy)]
 enum Change {
     Create(&'static str),
@@ -15,7 +15,8 @@ enum Change {
     Compact(u32),
 }
 
-/// Changes behind which messages are pending and no step has room. They were found by chance, and made as few as possible.
+/// Changes after which messages are pending and no step fits. They were found by a random search, and then made as few as
+/// possible.
 const CHANGES: &[Change] = &[
     Change::Create("/g15"),
     Change::Create("/d2"),
@@ -58,7 +59,7 @@ const CHANGES: &[Change] = &[
     Change::Rmtree("/d0"),
 ];
 
-/// Makes a change; why it is refused, if it is.
+/// Makes a change; returns the error, if it fails.
 fn make(alloc: Global, volume: &mut Volume, change: Change) -> Result<(), Errno> {
     match change {
         Change::Create(path) => create(alloc, volume, path.as_bytes(), 0),
@@ -82,7 +83,7 @@ fn make_all(alloc: Global, volume: &mut Volume) -> bool {
     true
 }
 
-/// Whether compaction ends behind the changes before its steps do, and then does no more.
+/// Whether compaction after the changes ends before its steps do, and then does no more.
 fn ends(alloc: Global) -> bool {
     match new_volume(alloc, SMALL) {
         Ok(mut volume) => {

@@ -1,9 +1,7 @@
-//! Tests of scripts and images over typed readers and writers: those that fail in the middle, paces, words of a line, replies, and command
-//! lines as they are read; of images by pieces; and of calls by texts, long buffers, and the end of compaction.
+//! Tests of scripts and images with readers and writers that fail in the middle, of flush policies, words of a line, replies, and command
+//! lines; of images in pieces; and of calls by texts, long buffers, and the end of compaction.
 #![tactic(auto)]
 
-#[cfg(test)]
-mod asked;
 #[cfg(test)]
 mod buffers;
 #[cfg(test)]
@@ -20,6 +18,8 @@ mod paces;
 mod pieces;
 #[cfg(test)]
 mod replies;
+#[cfg(test)]
+mod requests;
 #[cfg(test)]
 mod streams;
 #[cfg(test)]

@@ -1,19 +1,20 @@
-//! Why an image is not loaded, beside what stands in it.
-use crate::asked::USUAL;
+//! Tests of the error of loading an image, which depends on its text.
+use crate::requests::USUAL;
 use crate::streams::Source;
 use images::{LoadFault, load_image};
 use node::Shape;
 use std::alloc::Global;
 use std::io::Read;
 
-/// Why what a reader gives is not loaded. It ensures nothing, so that no proof of a test reads what an image is.
+/// The error of loading what a reader returns. It has no postcondition, so that the proofs of the tests do not unfold
+/// what an image is.
 fn fault_of<R: Read>(alloc: Global, shape: Shape, reader: &mut R) -> Option<LoadFault> {
     load_image(alloc, shape, reader).err()
 }
 
 const IMAGE: &[u8] = b"d /\nf /f 9000\nb 0 ffffffffff\n";
 
-/// Fewer messages may wait than a node has slots.
+/// Fewer messages may be pending than a node has slots.
 const NARROW: Shape = Shape {
     fanout: 8,
     pending: 4,

@@ -1,13 +1,14 @@
-//! Scripts with steps that a pace picks: what it is told of them, and that the answers and the tree are the same with them.
-use crate::asked::{SMALL, USUAL, new_volume};
+//! Tests of scripts with steps that a flush policy chooses: the replies that it receives, and that the answers and the tree
+//! are the same with them.
 use crate::pieces::{Piece, built};
+use crate::requests::{SMALL, USUAL, new_volume};
 use crate::streams::has_image;
 use node::{Place, StepKind, StepReply, TreeStep};
 use shell::{Pace, Tidy, run_script};
 use std::alloc::Global;
 use volume::{Index, Step, Volume};
 
-/// Runs a script. It ensures nothing, so that no proof of a test reads what a script means.
+/// Runs a script. It has no postcondition, so that the proofs of the tests do not unfold what a script means.
 fn run<P: Pace>(
     alloc: Global,
     volume: &mut Volume,
@@ -18,7 +19,7 @@ fn run<P: Pace>(
     run_script(alloc, volume, &mut script, out, pace).is_ok()
 }
 
-/// Whether a script is answered so.
+/// Whether a script has these answers.
 fn answers<P: Pace>(
     alloc: Global,
     volume: &mut Volume,
@@ -40,11 +41,11 @@ fn first_leaf() -> TreeStep {
     }
 }
 
-/// Picks the flush of the leaf below the first slot of the metadata's root once, after the first line.
+/// Chooses the flush of the leaf below the first slot of the metadata's root once, after the first line.
 #[derive(Drop)]
 struct Once {
     turns: u16,
-    /// What the step has answered.
+    /// The reply to the step.
     reported: Option<StepReply>,
 }
 
@@ -67,7 +68,7 @@ impl Pace for Once {
     }
 }
 
-/// What the one step of a script of two lines has answered, if the lines are answered so.
+/// The reply to the one step of a script of two lines, if the lines have these answers.
 fn reported_once(alloc: Global, volume: &mut Volume) -> Option<StepReply> {
     let mut pace = Once {
         turns: 1,
@@ -85,7 +86,7 @@ fn reported_once(alloc: Global, volume: &mut Volume) -> Option<StepReply> {
     pace.reported
 }
 
-/// What the one step of a script of two lines on a new volume has answered, if the lines are answered so.
+/// The reply to the one step of a script of two lines on a new volume, if the lines have these answers.
 fn new_reported_once(alloc: Global) -> Option<StepReply> {
     match new_volume(alloc, USUAL) {
         Ok(mut volume) => reported_once(alloc, &mut volume),
@@ -94,17 +95,17 @@ fn new_reported_once(alloc: Global) -> Option<StepReply> {
 }
 
 #[test]
-fn pace_is_reported_what_its_step_did(rt: HostRuntime) {
+fn policy_receives_the_reply_of_its_step(rt: HostRuntime) {
     assert!(rt; matches!(new_reported_once(rt.alloc()), Some(StepReply::Did(1..))));
 }
 
-/// The program's pace after the last line alone.
+/// The program's flush policy, after the last line only.
 #[derive(Drop)]
 struct AtEnd {
-    /// How many lines come before the last one.
+    /// The number of lines before the last one.
     before: u32,
     tidy: Tidy,
-    /// How many steps were done.
+    /// The number of steps that were done.
     done: u32,
 }
 
@@ -129,20 +130,21 @@ impl Pace for AtEnd {
     }
 }
 
-/// A folder of 300 files that goes at once, and comes again with one.
+/// A directory of 300 files that is removed at once, and created again with one file.
 const FILES: &[Piece] = &[
     Piece::Text("mkdir /d\n"),
     Piece::Numbered("create /d/f", 0, 300),
     Piece::Text("rmtree /d\nmkdir /d\ncreate /d/n\nreaddir /d\n"),
 ];
 
-/// What those lines are answered.
+/// The answers to those lines.
 const FILES_ANSWERS: &[Piece] = &[Piece::Times("ok\n", 304), Piece::Text("names 1\nf n\n")];
 
-/// So many steps behind so many lines.
+/// That many steps after that many lines.
 type Steps = (u32, u16);
 
-/// How many of the steps were done, if the directory that is made again is answered so and leaves the one file.
+/// The number of steps that were done, if the answers are as expected and the directory that is created again has the
+/// one file.
 fn done_in(
     alloc: Global,
     volume: &mut Volume,
@@ -164,7 +166,7 @@ fn done_in(
     }
 }
 
-/// How many of the steps were done on a new volume, if the script is answered so and leaves the one file.
+/// The number of steps that were done on a new volume, if the answers are as expected and the one file remains.
 fn done_in_new(alloc: Global, script: &[u8], wanted: &[u8], steps: Steps) -> Option<u32> {
     match new_volume(alloc, SMALL) {
         Ok(mut volume) => done_in(alloc, &mut volume, script, wanted, steps),
@@ -172,7 +174,7 @@ fn done_in_new(alloc: Global, script: &[u8], wanted: &[u8], steps: Steps) -> Opt
     }
 }
 
-/// How many of the steps were done behind the directory's script, if its lines are answered so.
+/// The number of steps that were done after the directory's script, if its answers are these.
 fn done_so(alloc: Global, wanted: &[u8], steps: Steps) -> Option<u32> {
     match built(alloc, FILES) {
         Some(script) => done_in_new(alloc, script.as_slice(), wanted, steps),
@@ -180,7 +182,7 @@ fn done_so(alloc: Global, wanted: &[u8], steps: Steps) -> Option<u32> {
     }
 }
 
-/// How many of the steps are done behind the directory's script, if its lines are answered as they should be.
+/// The number of steps that are done after the directory's script, if its answers are as expected.
 fn done_behind(alloc: Global, steps: Steps) -> Option<u32> {
     match built(alloc, FILES_ANSWERS) {
         Some(wanted) => done_so(alloc, wanted.as_slice(), steps),
@@ -188,8 +190,8 @@ fn done_behind(alloc: Global, steps: Steps) -> Option<u32> {
     }
 }
 
-/// Steps behind the directory's lines, and how many of them are done at least and at most. In small nodes most flushes wait for room,
-/// which one step a line has to make before it can go on.
+/// Steps after the directory's lines, and the least and greatest number of them that are done. In small nodes most flushes do not fit
+/// at first: one step for each line has to make space before it can continue.
 const STEPS: &[(Steps, u32, u32)] = &[
     ((304, 0), 0, 0),
     ((300, 1_000), 100, u32::MAX),

@@ -1,4 +1,4 @@
-//! Texts that are told by their pieces, where they are long.
+//! Long texts that are built of pieces.
 use std::alloc::Global;
 use std::io::Write;
 
@@ -6,20 +6,20 @@ use std::io::Write;
 #[derive(Clone, Copy)]
 pub enum Piece {
     Text(&'static str),
-    /// A text so many times.
+    /// A text, repeated that many times.
     Times(&'static str, u32),
-    /// A line for each number from one up to and without another: a text, and the number behind it.
+    /// A line for each number from one up to but excluding another: a text, followed by the number.
     Numbered(&'static str, u32, u32),
-    /// The lines of so many blocks of a file, full of bytes 255.
+    /// The lines of that many blocks of a file, full of bytes 255.
     Blocks(u32),
 }
 
-/// Appends a text; whether there was memory.
+/// Appends a text; `false` if an allocation fails.
 fn put_text(text: &mut Vec<u8>, piece: &str) -> bool {
     text.extend_from_slice(piece.as_bytes()).is_ok()
 }
 
-/// Appends a text so many times.
+/// Appends a text that many times.
 fn put_times(text: &mut Vec<u8>, piece: &str, count: u32) -> bool {
     for _ in 0..count {
         if !put_text(text, piece) {
@@ -79,7 +79,7 @@ fn put(text: &mut Vec<u8>, pieces: &[Piece]) -> bool {
     true
 }
 
-/// The text of pieces; none where memory is refused.
+/// The text of pieces; `None` if an allocation fails.
 pub fn built(alloc: Global, pieces: &[Piece]) -> Option<Vec<u8>> {
     let mut text = Vec::new(alloc);
     if put(&mut text, pieces) {

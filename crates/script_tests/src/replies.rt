@@ -1,4 +1,4 @@
-//! The texts of replies and of what ends a script early.
+//! Tests of the texts of replies and of the causes that end a script early.
 use pathkey::Errno;
 use reference::{FileBytes, Kind, Listing, Reply};
 use shell::{ScriptFault, write_reply};
@@ -13,24 +13,25 @@ fn is_text_of(alloc: Global, fault: ScriptFault, wanted: &str) -> bool {
 }
 
 #[test]
-fn tells_each_fault(rt: HostRuntime) {
+fn reports_each_fault(rt: HostRuntime) {
     assert!(rt; is_text_of(rt.alloc(), ScriptFault::Memory, "betr: no memory"));
     assert!(rt; is_text_of(rt.alloc(), ScriptFault::Read, "betr: read failed"));
     assert!(rt; is_text_of(rt.alloc(), ScriptFault::Write, "betr: write failed"));
 }
 
-/// Writes a reply; `false` where memory is refused. It ensures nothing, so that no proof of a test reads what a reply's text is.
+/// Writes a reply; `false` if an allocation fails. It has no postcondition, so that the proofs of the tests do not unfold what a
+/// reply's text is.
 fn wrote(text: &mut Vec<u8>, reply: &Reply) -> bool {
     write_reply(text, reply).is_ok()
 }
 
-/// Whether this is the text that is written of a reply.
+/// Whether this is the text of a reply.
 fn is_written(alloc: Global, reply: &Reply, wanted: &str) -> bool {
     let mut text = Vec::new(alloc);
     wrote(&mut text, reply) && text.as_slice() == wanted.as_bytes()
 }
 
-/// Whether this is the text of a reply, which is used up.
+/// Whether this is the text of a reply, which is consumed.
 fn is_reported(alloc: Global, reply: Reply, wanted: &str) -> bool {
     is_written(alloc, &reply, wanted)
 }
@@ -43,7 +44,7 @@ fn are_reported(alloc: Global, bytes: &[u8], wanted: &str) -> bool {
     }
 }
 
-/// Puts a kind and a name behind the entries; `false` where memory is refused.
+/// Appends a kind and a name to the entries; `false` if an allocation fails.
 fn add(alloc: Global, entries: &mut Vec<(Kind, Vec<u8>)>, kind: Kind, name: &[u8]) -> bool {
     match Vec::from_slice(alloc, name) {
         Ok(name) => entries.push((kind, name)).is_ok(),

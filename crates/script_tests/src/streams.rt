@@ -1,8 +1,9 @@
-//! Scripts over readers and writers that fail in the middle: what was done, answered and left by then.
+//! Tests of scripts with readers and writers that fail in the middle: what was executed, answered and stored until
+//! then.
 ghost use Rattle.std.specs.Prelude.{Some};
 
-use crate::asked::{SMALL, USUAL, freeze, new_volume, waiting};
 use crate::pieces::{Piece, built};
+use crate::requests::{SMALL, USUAL, freeze, new_volume, waiting};
 use images::{ImageFault, print_image};
 use node::Shape;
 use shell::{ScriptFault, Tidy, run_script};
@@ -11,7 +12,7 @@ use std::io;
 use std::io::{Read, Write};
 use volume::{Frozen, Index, Volume};
 
-/// Gives a text, and then ends or fails; the first read may be one that a signal came between.
+/// Returns a text, and then ends or fails; the first read may be interrupted by a signal.
 #[derive(Drop)]
 pub struct Source<'a> {
     pub text: &'a [u8],
@@ -34,8 +35,8 @@ impl<'a> Read for Source<'a> {
     }
 }
 
-/// Takes one byte at a time, and none once it holds `most`; counts its flushes, of which the one with the number `fails` fails. The
-/// first write may be one that a signal came between.
+/// Accepts one byte at a time, and none once it has `most`; counts its flushes, of which the one with the number `fails` fails. The
+/// first write may be interrupted by a signal.
 #[derive(Drop)]
 struct Sink {
     got: Vec<u8>,
@@ -74,8 +75,8 @@ impl Write for Sink {
     }
 }
 
-/// Runs a script with no steps after its lines; why it ends early, if it does. It ensures nothing, so that no proof of a test
-/// reads what a script means; nor do the next three.
+/// Runs a script with no steps after its lines; returns why it ends early, if it does. It has no postcondition, so that the
+/// proofs of the tests do not unfold what a script means; nor do the next three functions.
 fn run<R: Read, W: Write>(
     alloc: Global,
     volume: &mut Volume,
@@ -85,7 +86,7 @@ fn run<R: Read, W: Write>(
     run_script(alloc, volume, reader, writer, &mut Tidy::new(0)).err()
 }
 
-/// Prints the image of a tree; why not to its end, if it does not.
+/// Prints the image of a tree; returns the error, if it fails.
 fn print<W: Write>(alloc: Global, frozen: &Frozen, writer: &mut W) -> Option<ImageFault> {
     print_image(alloc, frozen, writer).err()
 }
@@ -96,7 +97,7 @@ pub fn prints(alloc: Global, frozen: &Frozen, image: &[u8]) -> bool {
     print(alloc, frozen, &mut out).is_none() && out.as_slice() == image
 }
 
-/// Whether a tree's image is printed up to so many bytes where no more are taken.
+/// Whether a tree's image is printed up to that many bytes if no more are accepted.
 fn prints_beginning(alloc: Global, frozen: &Frozen, image: &[u8], most: usize) -> bool {
     let mut out = Sink {
         got: Vec::new(alloc),
@@ -109,7 +110,7 @@ fn prints_beginning(alloc: Global, frozen: &Frozen, image: &[u8], most: usize) -
         && image.get(..most) == Some(out.got.as_slice())
 }
 
-/// Whether the live tree has this image: all of it is printed, and to a writer that takes no more than half of it a beginning.
+/// Whether the live tree has this image: all of it is printed, and a prefix to a writer that accepts no more than half of it.
 pub fn has_image(alloc: Global, volume: &Volume, image: &[u8]) -> bool {
     match freeze(volume) {
         Ok(frozen) => {
@@ -120,26 +121,26 @@ pub fn has_image(alloc: Global, volume: &Volume, image: &[u8]) -> bool {
     }
 }
 
-/// A script over a reader and a writer, and what comes of it.
+/// A script with a reader and a writer, and its result.
 #[derive(Clone, Copy)]
 pub struct Stream<'a> {
-    /// What can be read, whether reading it further fails, and whether a signal comes between the first read and the first write.
+    /// The text of the reader, whether reading further fails, and whether a signal interrupts the first read and the first write.
     pub script: &'a [u8],
     pub fails: bool,
     pub signal: bool,
-    /// How many bytes are written at most.
+    /// The maximal number of bytes that are written.
     pub most: usize,
-    /// The number of the flush that fails; 0 where none does.
+    /// The number of the flush that fails; 0 if none does.
     pub unflushed: u32,
     /// Why the script ends early.
     pub fault: Option<Fault>,
     /// What was written.
     pub answers: &'a [u8],
-    /// How many flushes there were, if that is asked.
+    /// The number of flushes, if it is checked.
     pub flushes: Option<u32>,
-    /// How many messages wait then in the metadata, that of the root directory among them, if that is asked.
+    /// The number of pending messages in the metadata then, including that of the root directory, if it is checked.
     pub waiting: Option<u128>,
-    /// The image of the tree then, if that is asked.
+    /// The image of the tree then, if it is checked.
     pub image: Option<&'a str>,
 }
 
@@ -150,7 +151,7 @@ pub enum Fault {
     Write,
 }
 
-/// A script that is run to its end, and answered so.
+/// A script that runs to its end with these answers.
 pub fn whole<'a>(script: &'a [u8], answers: &'a [u8]) -> Stream<'a> {
     Stream {
         script,
@@ -176,7 +177,7 @@ fn is_fault(reported: &Option<ScriptFault>, wanted: Option<Fault>) -> bool {
     }
 }
 
-/// Whether a volume is left so.
+/// Whether a volume is as expected afterwards.
 fn is_left(alloc: Global, volume: &Volume, stream: &Stream<'_>) -> bool {
     if let Some(wanted) = stream.waiting {
         if waiting(volume, Index::Meta) != wanted {
@@ -189,7 +190,7 @@ fn is_left(alloc: Global, volume: &Volume, stream: &Stream<'_>) -> bool {
     }
 }
 
-/// Whether a script ends so.
+/// Whether a script has the expected result.
 pub fn ends_so(alloc: Global, volume: &mut Volume, stream: &Stream<'_>) -> bool {
     let mut reader = Source {
         text: stream.script,
@@ -212,7 +213,7 @@ pub fn ends_so(alloc: Global, volume: &mut Volume, stream: &Stream<'_>) -> bool 
         && is_left(alloc, volume, stream)
 }
 
-/// Whether a script on a new volume ends so.
+/// Whether a script on a new volume has the expected result.
 fn new_ends_so(alloc: Global, shape: Shape, stream: &Stream<'_>) -> bool {
     match new_volume(alloc, shape) {
         Ok(mut volume) => ends_so(alloc, &mut volume, stream),
@@ -220,10 +221,10 @@ fn new_ends_so(alloc: Global, shape: Shape, stream: &Stream<'_>) -> bool {
     }
 }
 
-/// A script, what it is answered, and the image of the tree after it.
+/// A script, its answers, and the image of the tree after it.
 type Left = (&'static str, &'static str, &'static str);
 
-/// A script that goes on where the one before it ended, what it is answered, and how many messages wait after it.
+/// A script that continues where the one before it ended, its answers, and the number of pending messages after it.
 const WAITING: &[(&str, &str, u128)] = &[
     ("", "", 1),
     ("mkdir /a\n", "ok\n", 2),
@@ -233,11 +234,12 @@ const WAITING: &[(&str, &str, u128)] = &[
         "file 0 0\nnames 1\nf x\nfault EEXIST\nfault ENOTEMPTY\n",
         3,
     ),
-    // what makes a directory gives way to what removes it
+    // removing the directory makes the message that creates it redundant
     ("mkdir /b\nrmdir /b\n", "ok\nok\n", 4),
 ];
 
-/// After how many scripts as many messages wait as their rows say, before the first where it is otherwise.
+/// The number of scripts after which as many messages are pending as their rows say, before the first where it is
+/// otherwise.
 fn waiting_so(alloc: Global, volume: &mut Volume) -> usize {
     for (number, row) in WAITING.iter().enumerate() {
         let mut stream = whole(row.0.as_bytes(), row.1.as_bytes());
@@ -249,7 +251,8 @@ fn waiting_so(alloc: Global, volume: &mut Volume) -> usize {
     WAITING.len()
 }
 
-/// After how many scripts on a new volume as many messages wait as their rows say, before the first where it is otherwise.
+/// The number of scripts on a new volume after which as many messages are pending as their rows say, before the first
+/// where it is otherwise.
 fn waiting_in_new(alloc: Global) -> usize {
     match new_volume(alloc, SMALL) {
         Ok(mut volume) => waiting_so(alloc, &mut volume),
@@ -262,7 +265,7 @@ fn a_done_call_waits_as_one_message(rt: HostRuntime) {
     assert_eq!(rt; waiting_in_new(rt.alloc()), WAITING.len());
 }
 
-/// What can be read before the read that fails, what was answered by then, and how many messages wait.
+/// The text before the read that fails, the answers until then, and the number of pending messages.
 const CUT: &[(&str, &str, u128)] = &[
     ("mkdir /a\nstat /a\nmkdir /b", "ok\ndir 0 0\n", 2),
     ("mkdir /a\nstat /a\nmkdir /", "ok\ndir 0 0\n", 2),
@@ -273,7 +276,7 @@ const CUT: &[(&str, &str, u128)] = &[
     ("", "", 1),
 ];
 
-/// Whether a script that cannot be read to its end stops as the row says.
+/// Whether a script that cannot be read to its end has the result of the row.
 fn stops_at_read(alloc: Global, row: &(&str, &str, u128)) -> bool {
     let mut stream = whole(row.0.as_bytes(), row.1.as_bytes());
     stream.fails = true;
@@ -289,10 +292,10 @@ fn stops_at_a_failing_read(rt: HostRuntime) {
     }
 }
 
-/// What a script of four lines is answered where everything is written.
+/// The answers to a script of four lines if everything is written.
 const ANSWERS: &[u8] = b"ok\ndir 0 0\nfault EEXIST\nok\n";
 
-/// Whether a script stops where no more than so many bytes are written, and then has done so many lines.
+/// Whether a script ends if no more than that many bytes are written, and that many lines were executed then.
 fn stops_at_write(alloc: Global, most: usize) -> bool {
     let answers = ANSWERS.get(..most).unwrap_or(b"");
     let mut stream = whole(b"mkdir /a\nstat /a\nmkdir /a\nmkdir /b\n", answers);
@@ -311,11 +314,11 @@ fn stops_at_a_failing_write(rt: HostRuntime) {
     }
 }
 
-/// How many empty lines are read, and with how many flushes: a piece of 65,536 bytes is read at once, and a last read gives none. So
-/// many pieces, and so many flushes.
+/// The number of empty lines, and the number of flushes: a piece of 65,536 bytes is read at once, and a last read returns none. Each
+/// piece has one flush.
 const FLUSHES: &[(u32, u32)] = &[(0, 2), (1, 3), (65_536, 3), (65_537, 4), (131_073, 5)];
 
-/// Whether a script of so many empty lines is read with so many flushes.
+/// Whether a script of that many empty lines has that many flushes.
 fn lines_flush(alloc: Global, length: u32, wanted: u32) -> bool {
     match built(alloc, &[Piece::Times("\n", length)]) {
         Some(script) => {
@@ -334,10 +337,10 @@ fn flushes_before_each_read(rt: HostRuntime) {
     }
 }
 
-/// The number of the flush that fails, what was answered before it, and how many messages wait.
+/// The number of the flush that fails, the answers before it, and the number of pending messages.
 const UNFLUSHED: &[(u32, &str, u128)] = &[(1, "", 1), (2, "ok\n", 2), (3, "ok\nok\n", 3)];
 
-/// Whether a script whose answers cannot be flushed stops as the row says.
+/// Whether a script whose answers cannot be flushed has the result of the row.
 fn stops_at_flush(alloc: Global, row: &(u32, &str, u128)) -> bool {
     let mut stream = whole(b"mkdir /a\nmkdir /b", row.1.as_bytes());
     stream.unflushed = row.0;
@@ -353,19 +356,19 @@ fn stops_at_a_failing_flush(rt: HostRuntime) {
     }
 }
 
-/// Whether a script goes on after a signal at the first read and at the first write.
-fn goes_on(alloc: Global) -> bool {
+/// Whether a script continues after a signal at the first read and at the first write.
+fn continues(alloc: Global) -> bool {
     let mut stream = whole(b"mkdir /a\nstat /a\n", b"ok\ndir 0 0\n");
     stream.signal = true;
     new_ends_so(alloc, SMALL, &stream)
 }
 
 #[test]
-fn goes_on_after_a_signal(rt: HostRuntime) {
-    assert!(rt; goes_on(rt.alloc()));
+fn continues_after_a_signal(rt: HostRuntime) {
+    assert!(rt; continues(rt.alloc()));
 }
 
-/// Whether a script of which no more than this can be read is answered so, and leaves a tree of this image.
+/// Whether a script of which no more than this can be read has these answers, and leaves a tree of this image.
 fn stops_behind<'a>(alloc: Global, given: &'a [u8], answers: &'a [u8], image: &'a str) -> bool {
     let mut stream = whole(given, answers);
     stream.fails = true;
@@ -374,7 +377,7 @@ fn stops_behind<'a>(alloc: Global, given: &'a [u8], answers: &'a [u8], image: &'
     new_ends_so(alloc, USUAL, &stream)
 }
 
-/// Whether a script of which no more than these answers are taken stops there, with a tree of this image.
+/// Whether a script of which no more than these answers are accepted ends there, with a tree of this image.
 fn stops_after<'a>(alloc: Global, script: &'a [u8], written: &'a [u8], image: &'a str) -> bool {
     let mut stream = whole(script, written);
     stream.most = written.len();
@@ -389,13 +392,13 @@ fn keeps_the_whole_lines_before_what_fails(rt: HostRuntime) {
     assert!(rt; stops_after(rt.alloc(), b"mkdir /a\nmkdir /b\n", b"o", "D / 0\nD /a 0\n"));
 }
 
-/// A script, and what it is answered.
+/// A script, and its answers.
 const SNAPSHOT: &[u8] =
     b"mkdir /a\ncreate /a/x\nsnapshot s\nrmtree /a\nreaddir@s /a\nstat /a\nrestore s\nreaddir /a\n";
 
 const TOLD: &[u8] = b"ok\nok\nok\nok\nnames 1\nf x\nfault ENOENT\nok\nnames 1\nf x\n";
 
-/// Each of its lines, what that is answered, and the image of the tree after it.
+/// Each of its lines, its answer, and the image of the tree after it.
 const DONE: &[Left] = &[
     ("mkdir /a\n", "ok\n", "D / 0\nD /a 0\n"),
     ("create /a/x\n", "ok\n", "D / 0\nD /a 0\nF /a/x 0 0\n"),
@@ -411,7 +414,7 @@ const DONE: &[Left] = &[
     ),
 ];
 
-/// At how many places the script stops as the lines before say, where it cannot be read further.
+/// At how many positions the script ends as the lines before say, if it cannot be read further.
 fn stops_everywhere(alloc: Global) -> usize {
     let mut place = 0usize;
     let mut reported = 0usize;
@@ -435,7 +438,7 @@ fn stops_at_each_byte_that_cannot_be_read(rt: HostRuntime) {
     assert_eq!(rt; stops_everywhere(rt.alloc()), SNAPSHOT.len());
 }
 
-/// At how many of the bytes of its answers the script stops as its lines say, where no more is taken.
+/// At how many of the bytes of its answers the script ends as its lines say, if no more are accepted.
 fn fails_everywhere(alloc: Global) -> usize {
     let mut reported = 0usize;
     for row in DONE {
@@ -459,7 +462,7 @@ const CUT_SCRIPT: &[u8] =
 
 const CUT_IMAGE: &str = "D / 0\nF /f 9000 0\nb 0 ffffffffff\n";
 
-/// Up to how many bytes each beginning of the image is printed where no more are taken.
+/// The length up to which each prefix of the image is printed if no more bytes are accepted.
 fn prints_beginnings(alloc: Global, frozen: &Frozen) -> usize {
     for most in 0..CUT_IMAGE.len() {
         if !prints_beginning(alloc, frozen, CUT_IMAGE.as_bytes(), most) {
@@ -469,7 +472,7 @@ fn prints_beginnings(alloc: Global, frozen: &Frozen) -> usize {
     CUT_IMAGE.len()
 }
 
-/// Up to how many bytes each beginning of the image is printed, once the script has run on this volume.
+/// The length up to which each prefix of the image is printed, after the script has run on this volume.
 fn prints_beginnings_in(alloc: Global, volume: &mut Volume) -> usize {
     let mut stream = whole(CUT_SCRIPT, b"ok\ncount 10\nok\nok\n");
     stream.image = Some(CUT_IMAGE);
@@ -482,7 +485,7 @@ fn prints_beginnings_in(alloc: Global, volume: &mut Volume) -> usize {
     }
 }
 
-/// Up to how many bytes each beginning of the image is printed, once the script has run on a new volume.
+/// The length up to which each prefix of the image is printed, after the script has run on a new volume.
 fn new_print_beginnings(alloc: Global) -> usize {
     match new_volume(alloc, SMALL) {
         Ok(mut volume) => prints_beginnings_in(alloc, &mut volume),

@@ -1,4 +1,4 @@
-//! Numbers and bytes as words of a line.
+//! Tests of numbers and bytes as words of a line.
 use std::alloc::Global;
 use textio::values::{read_bytes, read_number};
 
@@ -21,7 +21,7 @@ const NUMBERS: &[(&str, Option<u64>)] = &[
     ("\u{661}", None),
 ];
 
-/// Reads a number. It ensures nothing, so that no proof of a test reads what a word means.
+/// Parses a number. It has no postcondition, so that the proofs of the tests do not unfold what a word means.
 fn number_of(word: &[u8]) -> Option<u64> {
     read_number(word)
 }
@@ -33,7 +33,7 @@ fn reads_numbers(rt: HostRuntime) {
     }
 }
 
-/// Whether a word is read as these bytes.
+/// Whether a word is parsed as these bytes.
 fn is_read_as(alloc: Global, word: &[u8], wanted: &[u8]) -> bool {
     match read_bytes(alloc, word) {
         Ok(Some(bytes)) => bytes.as_slice() == wanted,
@@ -41,7 +41,7 @@ fn is_read_as(alloc: Global, word: &[u8], wanted: &[u8]) -> bool {
     }
 }
 
-/// Whether a word is found to write no bytes.
+/// Whether a word is parsed as no bytes.
 fn is_no_bytes(alloc: Global, word: &[u8]) -> bool {
     match read_bytes(alloc, word) {
         Ok(bytes) => bytes.is_none(),

@@ -1,4 +1,4 @@
--- One line: what it asks for, and what it is answered.
+-- One line: its request, and its answer.
 use Rattle.std.proofs.Common.{◌≡◌, ◌∙◌, ◌++◌, inl, inr, ℕ, ◌<◌, Bool, true, false, List, [], ◌∷◌, length, refl, sym, ap, subst, append-nil, arith}
 use Rattle.std.specs.Prelude.{IfErr, IsErr, IsErrAnd, OnErr, Option, Result, Ok, Err, not, ◌&&◌}
 use Rattle.std.specs.Io.KnownBytes.{Appends, Keeps}
@@ -28,7 +28,7 @@ pub answers_kept : (means : States) (Wrote : List ℕ → Type 0) (q wanted : Re
 answers_kept means Wrote q wanted text is answers wrote first m =
     (text, first, subst (λ (r : Request). Answers first r text first) (sym is) (answers first), m, wrote)
 
--- a moment was set
+-- a timestamp was set
 pub answers_moment : (means : Worlds) (before at : ℕ) (Wrote : List ℕ → Type 0) (q : Request) → q ≡ Moment at → Wrote (reply_text Done)
     → Leads (Meant means before) (Meant means at) (λ first. Answers first q) Wrote
 answers_moment means before at Wrote q is wrote first m =
@@ -68,7 +68,7 @@ answers_look means means' at Wrote q name l r is tells wrote first m =
     let reported = tells first.world m.0 in
     (reply_text r, first, subst (λ (x : Request). Answers first x (reply_text r) first) (sym is) (r, reported.0, refl, refl), (reported.1, m.1), wrote)
 
--- what a line asks for was read and answered
+-- the request of a line was read and answered
 pub line_done : (means means' : States) (Wrote : List ℕ → Type 0) (line : List ℕ) (q : Request) → IsReadAs (request_of line) q
     → Leads means means' (λ first. Answers first q) Wrote → Leads means means' (λ first. Does first line) Wrote
 line_done means means' Wrote line q read f first m =
@@ -79,14 +79,14 @@ line_done means means' Wrote line q read f first m =
     does (inl is) first out after answers = inl (subst (λ (r : Request). Answers first r out after) is answers)
     does (inr lacks) first out after answers = inr (lacks.1, subst (λ (r : Request). Answers first r out after) lacks.0 answers)
 
--- what was meant after a line is meant after the steps that follow it
+-- a state that is possible after a line is possible after the steps that follow it
 pub then_kept : (means : States) (mid means' : Worlds) (at : ℕ) (step : State → List ℕ → State → Type 0) (Wrote : List ℕ → Type 0)
     → Leads means (Meant mid at) step Wrote → ((w : World) → mid w → means' w) → Leads means (Meant means' at) step Wrote
 then_kept means mid means' at step Wrote f kept first m =
     let (out, after, did, m', wrote) = f first m in
     (out, after, did, (kept after.world m'.0, m'.1), wrote)
 
--- whatever the moment at the end
+-- whatever the timestamp at the end
 pub left_at_end : (means : States) (means' : Worlds) (at : ℕ) (step : State → List ℕ → State → Type 0) (Wrote : List ℕ → Type 0)
     → Leads means (Meant means' at) step Wrote → Leads means (Left means') step Wrote
 left_at_end means means' at step Wrote f first m =
@@ -95,7 +95,7 @@ left_at_end means means' at step Wrote f first m =
 
 -- ---- what a watch makes of a line
 
--- it lets the run go on: where that is strict the reply is no fault
+-- the run may continue: if it is strict, the reply is not a fault
 pub line_answered : (means means' : States) (old new : Option (List ℕ)) (line : List ℕ) (strict go : Bool) (v : Verdict) → go ≡ not (strict && fails v) → go ≡ true
     → Leads means means' (λ first. Does first line) (Judges v old new) → Leads means means' (λ first. Answered strict first line) (Appends old new)
 line_answered means means' old new line strict go v rule goes f first m =
@@ -146,7 +146,7 @@ pub none_done : (D : Line) (means : States) (Wrote : List ℕ → Type 0) (line 
 none_done D means Wrote [] none wrote first m = ([], first, (refl, refl), m, wrote)
 none_done D means Wrote (x ∷ line) none wrote first m = absurd (omega (arith, none))
 
--- and the writer failed behind it
+-- and the writer failed after it
 pub flush_ends : (means means' : States) (old kept new : Option (List ℕ)) (lines : List (List ℕ)) (strict : Bool)
     → Leads means means' (λ first. Lines (Answered strict) first lines) (Appends old kept) → Keeps kept new
     → Leads means means' (Halts (IsHalt strict halt.Write) lines) (Appends old new)

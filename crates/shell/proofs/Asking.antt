@@ -1,4 +1,4 @@
--- What lines ask, case by case.
+-- The requests of lines, case by case.
 use Rattle.std.proofs.Common.{◌≡◌, ℕ, List, [], ◌∷◌, ◌++◌, length, ◌≤◌, nat_lt, ◌==◌, Bool, true, false, ◌&&◌, cond, codes, arith, refl, ap, sym, ◌∙◌, ◌⊎◌, inl, inr, None, Result, Ok, Err}
 use Rattle.std.specs.List.{list_all}
 use Rattle.std.specs.Char.{is_ascii_digit}
@@ -26,7 +26,7 @@ too_many_words a b c d (x ∷ rest) = elim (x == 32) as (λ t. command_of (a ∷
     go [] = refl
     go (n ∷ p) = refl
 
--- a look into a snapshot is a call, or the refusal of one
+-- a read of a snapshot is a call, or its error
 past_is_asked : (s : List ℕ) (l : Result ReadCall Errno) → IsAsked (past s l)
 past_is_asked s l = go (snap_parsed s) l
   where
@@ -35,11 +35,11 @@ past_is_asked s l = go (snap_parsed s) l
     go (Ok name) (Err e) = tt
     go (Err e) l = tt
 
--- memory was wanting where a look was read
+-- an allocation failed while a read was parsed
 abbrev lacking : Result ReadCall Errno
 lacking = Err ENOMEM
 
--- a refused look is the name's refusal, or its own
+-- a read fails with the name's error, or its own
 past_refused : (s : List ℕ) (wanted : Result ReadCall Errno) → IsReadAs (past s wanted) (past s (Err ENOMEM))
 past_refused s wanted = go (snap_parsed s) wanted
   where
@@ -55,7 +55,7 @@ look_read s wanted l q looked (inr lacks) = inr (lacks, past_is_asked s wanted)
 look_read s wanted l q (inl is) (inl read) = inl (read ∙ ap (past s) is)
 look_read s wanted l q (inr is) (inl read) = rw (read ∙ ap (past s) is) (past_refused s wanted)
 
--- ---- moments
+-- ---- timestamps
 -- two words or more
 abbrev TwoWords : List (List ℕ) → Type 0
 TwoWords [] = ⊥
@@ -120,7 +120,7 @@ no_moment (a ∷ b ∷ []) h = refl
 no_moment (a ∷ b ∷ c ∷ []) h = refl
 no_moment (a ∷ b ∷ c ∷ d ∷ ws) h = refl
 
--- what stands behind `at` and a space is the moment
+-- the word after `at` and a space is the timestamp
 pub moment_asked : (word : List ℕ) → command_of (words_of (codes "at " ++ word)) ≡ with_value Moment (number_of word)
 moment_asked word = go (one_word word)
   where

@@ -1,4 +1,4 @@
--- What some command lines mean, computed from the definition.
+-- The options of some command lines, computed from the definition.
 use Rattle.std.proofs.Common.{refl, codes, true, false, List, [], ◌∷◌, Some, None, ◌≡◌}
 use Rattle.clap.specs.Words.{Text, fault_of, takes}
 use Rattle.clap.specs.declared.error.kind.ErrorKind.TheVariants.{DisplayVersion}

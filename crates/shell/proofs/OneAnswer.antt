@@ -1,4 +1,4 @@
--- Where memory is never wanting, the answers to a script and the world after it follow from its lines.
+-- If no allocation fails, the answers to a script and the world after it follow from its lines.
 use Rattle.std.proofs.Common.{◌≡◌, ◌≢◌, ◌⊎◌, ℕ, List, [], ◌∷◌, ◌++◌, ◌==◌, true, false, cond, refl, sym, ap, subst, ◌∙◌, inl, inr, append-nil, append_assoc, codes, length}
 use Rattle.std.specs.List.{All, flat_map}
 use Rattle.std.proofs.lemmas.List.Elements.{All-head, All-tail}
@@ -73,7 +73,7 @@ ended_does w line text w' (inr (asked, a)) = ended_answer w (Refused ENOMEM) tex
 
 -- ---- the lines of an output after its first answer
 
--- the line does not tell of want of memory
+-- the line does not report an allocation failure
 abbrev IsOther : List ℕ → Type 0
 IsOther line = line ≢ codes "fault ENOMEM"
 
@@ -91,7 +91,7 @@ all_behind : {X : Type 0} (P : X → Type 0) (xs ys : List X) → All P (xs ++ y
 all_behind P [] ys all = all
 all_behind P (x ∷ xs) ys all = all_behind P xs ys (All-tail P x (xs ++ ys) all)
 
--- nothing is wanting behind an ended text, where nothing is in the whole
+-- there is no allocation failure in the text after an ended text, if there is none in the whole
 lacks_behind : (text rest : List ℕ) → IsEnded text → LacksNothing (text ++ rest) → LacksNothing rest
 lacks_behind text rest (inl none) lacks = subst (λ (l : List ℕ). LacksNothing (l ++ rest)) none lacks
 lacks_behind text rest (inr (front, is)) lacks =
@@ -100,7 +100,7 @@ lacks_behind text rest (inr (front, is)) lacks =
     let all = subst (All IsOther) (ap lines_of whole ∙ lines) lacks in
     all_behind IsOther ns (lines_of rest) (All-tail IsOther n (ns ++ lines_of rest) all)
 
--- want of memory is seen in the output
+-- an allocation failure is visible in the output
 lack_seen : (text rest : List ℕ) → text ≡ reply_text (Fault ENOMEM) → LacksNothing (text ++ rest) → ⊥
 lack_seen text rest is lacks = All-head IsOther (codes "fault ENOMEM") (lines_of rest) (subst (λ (l : List ℕ). LacksNothing (l ++ rest)) is lacks) refl
 
@@ -128,7 +128,7 @@ abbrev IsSettled : Answer → Type 0
 IsSettled (Replied r) = ⊥
 IsSettled (Settled s) = Unit {0}
 
--- the answer to a snapshot call that memory was there for
+-- the answer to a snapshot call for which no allocation failed
 settles : (w : World) (e : Event) (r : Snapped) (text rest : List ℕ) → Fits w e (Settled r) → text ≡ reply_text (settled_reply r) → LacksNothing (text ++ rest) → r ≡ settled_in (outcome w e).1
 settles w e r text rest (inl is) reported lacks = ap settled_in is
 settles w e r text rest (inr lack) reported lacks = absurd (lack_seen text rest (reported ∙ ap (λ (x : Snapped). reply_text (settled_reply x)) (ap settled_in (lack_is w e r lack))) lacks)
@@ -145,7 +145,7 @@ settled_once w e text text' rest rest' v v' (r, fits, is, then) (r', fits', is',
     let same : r ≡ r' = settles w.world e r text rest fits is l ∙ sym (settles w.world e r' text' rest' fits' is' l') in
     (is ∙ ap (λ (x : Snapped). reply_text (settled_reply x)) same ∙ sym is', then ∙ ap (λ (x : Snapped). in_world w (next w.world e (Settled x))) same ∙ sym then')
 
--- what a look tells that memory was there for
+-- the reply to a read for which no allocation failed
 reported : (w : World) (s : List ℕ) (l : ReadCall) (r : Reply) (text rest : List ℕ) → Tells w s l r → text ≡ reply_text r → LacksNothing (text ++ rest) → r ≡ reported_of (map.get w.snapshots s) l
 reported w s l r text rest (inl is) written lacks = is
 reported w s l r text rest (inr is) written lacks = absurd (lack_seen text rest (written ∙ ap reply_text is) lacks)

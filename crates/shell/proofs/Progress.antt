@@ -1,4 +1,4 @@
--- How a script goes on: line by line, piece by piece, and where it ends.
+-- How a script continues: line by line, piece by piece, and how it ends.
 use Rattle.std.proofs.Common.{Bool, ◌≡◌, ◌⊎◌, ℕ, ◌≤◌, ◌<◌, ◌==◌, nat_lt, List, [], ◌∷◌, ◌++◌, length, true, false, refl, sym, ap, ◌∙◌, subst, inl, inr, append_assoc, append-nil, arith}
 use Rattle.std.proofs.lemmas.Bool.{ne_eqb, cases_lt, lt-ltb}
 use Rattle.pathkey.specs.Texts.{onto_first}
@@ -41,7 +41,7 @@ lines_after (l ∷ ls) rest free =
     ∙ lines_at l (text_of_lines ls ++ rest) free.0
     ∙ ap (λ t. l ∷ t) (lines_after ls rest free.1)
 
--- what has no line feed is the last line, where it is not empty
+-- a text without a line feed is the last line, if it is not empty
 pub lines_last : (l : List ℕ) → IsFree l → lines_of l ≡ last_line l
 lines_last [] free = refl
 lines_last (x ∷ l) free =
@@ -97,7 +97,7 @@ pub lines_weaker : (D E : Line) → ((a : State) (line reply : List ℕ) (b : St
 lines_weaker D E f [] a b out did = did
 lines_weaker D E f (l ∷ ls) a b out (after, reply, rest, does, is, did) = (after, reply, rest, f a l reply after does, is, lines_weaker D E f ls after b rest did)
 
--- and of where they end early
+-- and of an early end
 pub stopped_weaker : (D E : Line) (H I : Cut) → ((a : State) (line reply : List ℕ) (b : State) → D a line reply b → E a line reply b)
     → ((part rest : List ℕ) → H part rest → I part rest)
     → (first : State) (text written : List ℕ) (after : State) → Stopped D H first text written after → Stopped E I first text written after
@@ -119,7 +119,7 @@ stopped_weaker D E H I f g first text written after s = record {
 
 -- ---- the line so far
 
--- what a line that is too long asks for
+-- the request of a line that is too long
 too_long : (xs : List ℕ) → 65536 < length xs → request_of xs ≡ Overlong
 too_long xs long =
     let e : nat_lt 65536 (length xs) ≡ true = lt-ltb 65536 (length xs) long in
@@ -136,7 +136,7 @@ does_held held items a b reply holds does = go (cases_lt 65536 (length held))
         subst P same does
     go (inr short) = subst (λ (l : List ℕ). Does a l reply b) (holds.short short) does
 
--- and where no answer may be a fault
+-- and if no answer may be a fault
 pub answered_held : (strict : Bool) (held items : List ℕ) (a b : State) (reply : List ℕ) → Holds held items → Answered strict a items reply b → Answered strict a held reply b
 answered_held strict held items a b reply holds (does, passes) = (does_held held items a b reply holds does, passes)
 
@@ -251,7 +251,7 @@ at_most_one : (l : List ℕ) → length (last_line l) ≤ 1
 at_most_one [] = omega arith
 at_most_one (x ∷ l) = omega arith
 
--- where an early end leaves a script that was read to its end
+-- the state after an early end of a script that was read to its end
 pub stopped_at_end : (D : Line) (H : Cut) (text : List ℕ) (first before after : State) (out left part rest : List ℕ) → Went D [] text first out left before → IsFree left
     → Script before (last_line left) (part ++ rest) after → H part rest → Stopped D H first text (out ++ part) after
 stopped_at_end D H text first before after out left part rest w free last how = record {
@@ -324,7 +324,7 @@ script_of_one D line other a b out f (after, reply, rest, does, is, end) = (afte
 abbrev pub Carries : Line → Type 0
 Carries D = (held items : List ℕ) (a b : State) (reply : List ℕ) → Holds held items → D a items reply b → D a held reply b
 
--- a last line of which no more is held than shows that it is too long
+-- a last line of which no more is kept than shows that it is too long
 pub script_held : (D : Line) → Carries D → (held items : List ℕ) (a b : State) (out : List ℕ) → Holds held items → Lines D a (last_line items) out b
     → Lines D a (last_line held) out b
 script_held D carries held items a b out holds did = go (cases_lt 65536 (length held))

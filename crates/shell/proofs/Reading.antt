@@ -1,4 +1,4 @@
--- The loop over the pieces of a text: what holds at its head, and what each way out of it comes to.
+-- The loop over the pieces of a text: its invariant, and the result of each exit.
 use Rattle.std.proofs.Common.{Bool, ◌≡◌, ◌++◌, ℕ, List, [], subst}
 use Rattle.std.specs.Prelude.{Option}
 use Rattle.std.specs.Io.KnownBytes.{Appends, Consumes, IsAtEnd, Keeps}
@@ -99,7 +99,7 @@ piece_fails D H meant means means' had has now old mid kept new items piece so l
       Appends-trans _ _ _ _ _ (Appends-kept _ _ _ _ wrote flushed) wrote',
     )
 
--- ---- what an early end comes to
+-- ---- the result of an early end
 
 -- the writer was flushed at the end, and may have failed
 pub cut_at_end : (D : Line) (H : Cut) (meant means : States) (had old kept new : Option (List ℕ))

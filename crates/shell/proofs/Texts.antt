@@ -18,11 +18,11 @@ entry_text e = entry_line (e.0, e.1.items)
 pub entries_text : (entries : List (Kind × Vec ℕ Global)) → flat_map entry_line (pairs_of entries) ≡ flat_map entry_text entries
 entries_text entries = flat_map-map entry_line (λ e. (e.0, e.1.items)) entries
 
--- there are as many of them
+-- there are equally many of them
 pub length_of_pairs : (entries : List (Kind × Vec ℕ Global)) → length (pairs_of entries) ≡ length entries
 length_of_pairs entries = length-map entries (λ e. (e.0, e.1.items))
 
--- the same text came behind what waited
+-- the same text was put after the buffered text
 pub gathers_same : (a b : Option (List ℕ)) (x y t u : List ℕ) → t ≡ u → Gathers a x t b y → Gathers a x u b y
 gathers_same a b x y t u same (part, cut, written) = (part, ap (λ l. x ++ l) (sym same) ∙ cut, written)
 

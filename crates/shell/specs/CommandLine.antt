@@ -1,4 +1,4 @@
--- The command line of `betr`, and what its words mean.
+-- The command line of `betr`, and the options in its words.
 use Rattle.std.specs.Prelude.{◌≡◌, ℕ, Bool, false, true, List, [], ◌∷◌, Option, Some, pos, codes}
 use Rattle.std.specs.Option.{option_map_or}
 use Rattle.std.specs.Str.{bytes_eq}
@@ -53,7 +53,7 @@ rules = number_rule (codes "flushers") 0 8
     ∷ new_rule (codes "SCRIPT")
     ∷ []
 
--- the program by its name, with the option that asks for the release and no other
+-- the program with its name, and only the option that prints the release
 abbrev pub bare_betr : App
 bare_betr =
     let app = new_app (codes "betr") in
@@ -82,7 +82,7 @@ abbrev pub betr_of_numbers : App
 betr_of_numbers =
     record bare_betr { top = record bare_betr.top { rules = number_rules } }
 
--- ---- what words mean
+-- ---- options
 
 -- what `clap` makes of the words
 unfoldable pub rows : List Text → List Row
@@ -92,7 +92,7 @@ rows words = matches_of betr words
 abbrev pub decimal : Text → ℕ
 decimal text = digits_value 10 (without_leading_plus text)
 
--- the number that the words give the option `id`, or `default` where they give none
+-- the number of the option `id` in the words, or `default` if they do not have it
 abbrev pub number : Text → ℕ → List Text → ℕ
 number id default words = option_map_or decimal (one_of id (rows words)) default
 

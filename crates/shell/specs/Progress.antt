@@ -1,4 +1,4 @@
--- How far a script has come within its text.
+-- How much of its text a script has executed.
 use Rattle.std.specs.Prelude.{◌≡◌, ℕ, List, [], ◌∷◌, ◌++◌, ⊤}
 use Rattle.shell.specs.Script.{Cut, Line, Lines, Script, State}
 use Rattle.textio.specs.Held.{IsFree}
@@ -36,7 +36,7 @@ pub record FailedIn (D : Line) (H : Cut) (held piece : List ℕ) (first : State)
   pub how : H part rest
   pub is : written ≡ replies ++ part
 
--- a last line without its line feed, which counts where it is not empty
+-- a last line without its line feed, if it is not empty
 abbrev pub last_line : List ℕ → List (List ℕ)
 last_line [] = []
 last_line (x ∷ xs) = (x ∷ xs) ∷ []

@@ -9,12 +9,12 @@ use Rattle.reference.specs.declared.reply.Reply.TheVariants.{Done, Count, Data, 
 use Rattle.reference.specs.declared.reply.Kind.{Kind}
 use Rattle.reference.specs.declared.reply.Kind.TheVariants.{Dir, File}
 
--- what stands before the length and the moment that `stat` tells
+-- the word before the length and the mtime in the reply to `stat`
 abbrev pub stat_word : Kind → List ℕ
 stat_word Dir = codes "dir "
 stat_word File = codes "file "
 
--- what stands before a name that `readdir` tells
+-- the word before a name in the reply to `readdir`
 abbrev pub name_word : Kind → List ℕ
 name_word Dir = codes "d "
 name_word File = codes "f "

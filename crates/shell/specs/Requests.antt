@@ -1,4 +1,4 @@
--- What a line of a script asks for.
+-- The request of a line of a script.
 use Rattle.std.specs.Prelude.{◌≡◌, ◌⊎◌, ⊤, ℕ, nat_lt, List, [], ◌∷◌, length, codes, bytes_eq, Option, Some, None, Result, Ok, Err, ◌==◌, if◌then◌else◌}
 use Rattle.pathkey.specs.Names.{Path}
 use Rattle.pathkey.specs.SnapNames.{snap_parsed}
@@ -13,39 +13,39 @@ use Rattle.shell.specs.declared.request.ReadCall.TheVariants as look
 use Rattle.shell.specs.declared.request.Request.{Request}
 use Rattle.shell.specs.declared.request.Request.TheVariants.{Silent, Overlong, Malformed, Refused, Moment, Wanted, Snapshot, DropSnapshot, Restore, Past}
 
--- the call on a path, or why the path is refused
+-- the call on a path, or the path's error
 abbrev pub on_path : (Path → Call) → Result Path Errno → Request
 on_path call (Ok p) = Wanted (call p)
 on_path call (Err e) = Refused e
 
--- what is asked for with the value of a word, where the word has one
+-- the request with the value of a word, if it has one
 abbrev pub with_value : {A : Type 0} → (A → Request) → Option A → Request
 with_value ask (Some a) = ask a
 with_value ask None = Malformed
 
--- what is asked for with what a word names, or why the word is refused
+-- the request with the parsed word, or the word's error
 abbrev pub with_named : {A : Type 0} → (A → Request) → Result A Errno → Request
 with_named ask (Ok a) = ask a
 with_named ask (Err e) = Refused e
 
--- the look at a path, or why the path is refused
+-- the read of a path, or the path's error
 abbrev pub looking : (Path → ReadCall) → Result Path Errno → Result ReadCall Errno
 looking at (Ok p) = Ok (at p)
 looking at (Err e) = Err e
 
--- a look into a snapshot: its name is refused before what is looked at
+-- a read of a snapshot: the error of its name is reported before that of the path
 abbrev pub past : List ℕ → Result ReadCall Errno → Request
 past s l = with_named (λ name. with_named (Past name) l) (snap_parsed s)
 
--- the looks of two words: the call and the snapshot's name, and the path
+-- the reads of two words: the call and the snapshot's name, and the path
 abbrev pub past_path_command : List ℕ × List ℕ → List ℕ → Request
 past_path_command name p =
     if bytes_eq name.0 (codes "stat") then past name.1 (looking look.Stat (path_of p))
     else if bytes_eq name.0 (codes "readdir") then past name.1 (looking look.Readdir (path_of p))
     else Malformed
 
--- the commands of a snapshot's name, and that of a moment; the name stands behind an `@` where another tree than the live one is
--- asked
+-- the commands of a snapshot's name, and that of a timestamp; if another tree than the live one is read, its name is after an
+-- `@`
 abbrev pub named_command : List ℕ → List ℕ → Request
 named_command name s =
     if bytes_eq name (codes "snapshot") then with_named Snapshot (snap_parsed s)
@@ -70,13 +70,13 @@ path_command name p =
 abbrev pub truncate_command : List ℕ → List ℕ → Request
 truncate_command p len = with_value (λ n. on_path (λ path. Truncate path n) (path_of p)) (number_of len)
 
--- a move between two paths, or why one of them is refused, the first before the second
+-- a rename between two paths, or the error of the first that is not a path
 abbrev pub rename_of : Result Path Errno → Result Path Errno → Result Call Errno
 rename_of (Ok o) (Ok n) = Ok (Rename o n)
 rename_of (Ok o) (Err e) = Err e
 rename_of (Err e) n = Err e
 
--- the call, or why it is refused
+-- the call, or its error
 abbrev pub asked : Result Call Errno → Request
 asked (Ok c) = Wanted c
 asked (Err e) = Refused e
@@ -92,7 +92,7 @@ third_command name p third =
 abbrev pub write_command : List ℕ → List ℕ → List ℕ → Request
 write_command p off hex = with_value (λ at. with_value (λ bytes. on_path (λ path. Write path at bytes) (path_of p)) (bytes_of hex)) (number_of off)
 
--- to read from an offset on at most so many bytes
+-- to read at most so many bytes from an offset on
 abbrev pub read_command : List ℕ → List ℕ → List ℕ → Request
 read_command p off count = with_value (λ at. with_value (λ n. on_path (λ path. Read path at n) (path_of p)) (number_of count)) (number_of off)
 
@@ -121,17 +121,17 @@ abbrev pub short_request : List ℕ → Request
 short_request [] = Silent
 short_request (b ∷ line) = if b == 35 then Silent else command_of (words_of (b ∷ line))
 
--- what a line asks for: one of more than 65,536 bytes is not looked at
+-- the request of a line: one of more than 65,536 bytes is not parsed
 abbrev pub request_of : List ℕ → Request
 request_of line = if nat_lt 65536 (length line) then Overlong else short_request line
 
--- the line is a command: it asks for something, or its words are refused with a number
+-- the line is a command: a request, or words that fail with an errno
 abbrev pub IsAsked : Request → Type 0
 IsAsked Silent = ⊥
 IsAsked Overlong = ⊥
 IsAsked Malformed = ⊥
 IsAsked _ = ⊤
 
--- the request was read as it stands; or memory was wanting, which refuses a call
+-- the request was parsed; or an allocation failed, which is the reply of a command
 abbrev pub IsReadAs : Request → Request → Type 0
 IsReadAs wanted read = (read ≡ wanted) ⊎ ((read ≡ Refused ENOMEM) × IsAsked wanted)

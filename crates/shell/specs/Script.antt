@@ -1,4 +1,4 @@
--- What a script means: what its lines are answered, and what they make of a world.
+-- The specification of scripts: the answers to their lines, and their effect on the world.
 use Rattle.std.specs.Prelude.{◌≡◌, ◌≢◌, ◌⊎◌, ◌≤◌, All, Bool, true, false, ℕ, List, [], ◌∷◌, ◌++◌, ⊤, length, codes, Option, Some, None, Ok, Err}
 use Rattle.std.specs.FinMap as map
 use Rattle.pathkey.specs.declared.errno.Errno.TheVariants.{ENOENT, ENOMEM}
@@ -20,12 +20,12 @@ use Rattle.shell.specs.Verdicts.{is_fault}
 use Rattle.shell.specs.declared.verdict.Halt.{Halt}
 use Rattle.shell.specs.declared.verdict.Halt.TheVariants as halt
 
--- what a script goes on from: a world, and the moment of the calls that follow
+-- the state of a script: a world, and the timestamp of the calls that follow
 pub record State : Type 0 where
   pub world : World
   pub at : ℕ
 
--- another world at the same moment
+-- another world with the same timestamp
 abbrev pub in_world : State → World → State
 in_world s w = record s { world = w }
 
@@ -34,26 +34,26 @@ abbrev pub settled_reply : Snapped → Reply
 settled_reply (Ok done) = Done
 settled_reply (Err e) = Fault e
 
--- a snapshot call is answered in a world, and what a script goes on from
+-- the answer to a snapshot call, and the state after it
 abbrev pub Settles : State → Event → List ℕ → State → Type 0
 Settles s e text s' = (r : Snapped) × Fits s.world e (Settled r) × (text ≡ reply_text (settled_reply r)) × (s' ≡ in_world s (next s.world e (Settled r)))
 
--- the file call that a look is
+-- the file call of a read
 abbrev pub call_of : ReadCall → Call
 call_of (look.Read p off n) = Read p off n
 call_of (look.Stat p) = AskStat p
 call_of (look.Readdir p) = Readdir p
 
--- what a look into a snapshot is answered, whatever the moment: there may be none of that name
+-- the reply to a read of a snapshot, whatever the timestamp: ENOENT if there is none of that name
 abbrev pub reported_of : Option Tree → ReadCall → Reply
 reported_of None l = Fault ENOENT
 reported_of (Some t) l = (does 0 t (call_of l)).1
 
--- the reply is that of the snapshot's tree, or want of memory
+-- the reply is that of the snapshot's tree, or ENOMEM
 abbrev pub Tells : World → List ℕ → ReadCall → Reply → Type 0
 Tells w s l r = (r ≡ reported_of (map.get w.snapshots s) l) ⊎ (r ≡ Fault ENOMEM)
 
--- what a request is answered, and what a script goes on from after it
+-- the answer to a request, and the state after it
 abbrev pub Answers : State → Request → List ℕ → State → Type 0
 Answers s Silent text s' = (text ≡ []) × (s' ≡ s)
 Answers s Overlong text s' = (text ≡ codes "error line\n") × (s' ≡ s)
@@ -66,15 +66,15 @@ Answers s (DropSnapshot name) text s' = Settles s (DropNamed name) text s'
 Answers s (Restore name) text s' = Settles s (RestoreSnapshot name) text s'
 Answers s (Past name l) text s' = (r : Reply) × Tells s.world name l r × (text ≡ reply_text r) × (s' ≡ s)
 
--- a line is answered as what it asks for; or, where it asks for a call, by want of memory, and nothing changes
+-- a line is answered as its request; or, if that is a command, with ENOMEM, and nothing changes
 abbrev pub Does : State → List ℕ → List ℕ → State → Type 0
 Does w line text w' = Answers w (request_of line) text w' ⊎ (IsAsked (request_of line) × Answers w (Refused ENOMEM) text w')
 
--- what a line is answered, and what a script goes on from after it
+-- the answer to a line, and the state after it
 abbrev pub Line : Type 1
 Line = State → List ℕ → List ℕ → State → Type 0
 
--- a line is answered; where a run is strict, by no fault and no error
+-- a line is answered; if a run is strict, by no fault and no error
 abbrev pub Answered : Bool → Line
 Answered strict s line text s' = Does s line text s' × (strict ≡ true → is_fault text ≡ false)
 
@@ -88,11 +88,11 @@ Lines D first (line ∷ lines) out last = (w : State) × (text : List ℕ) × (r
 abbrev pub Script : State → List (List ℕ) → List ℕ → State → Type 0
 Script = Lines Does
 
--- no line of the output tells of want of memory
+-- no line of the output reports an allocation failure
 abbrev pub LacksNothing : List ℕ → Type 0
 LacksNothing out = All (λ line. line ≢ codes "fault ENOMEM") (lines_of out)
 
--- where no line was answered by want of memory, the output and what a script goes on from follow from what it began with and the text
+-- if no line was answered with ENOMEM, the output and the final state follow from the initial state and the text
 abbrev pub OneAnswerLaw : Type 0
 OneAnswerLaw = (w : State) (text out out' : List ℕ) (after after' : State) → Script w (lines_of text) out after → Script w (lines_of text) out' after'
     → LacksNothing out → LacksNothing out' → (out ≡ out') × (after ≡ after')
@@ -105,13 +105,13 @@ Cut = List ℕ → List ℕ → Type 0
 abbrev pub IsCut : Cut
 IsCut part rest = ⊤
 
--- anything of it where a write failed; where a strict run ended all of it, which is a fault or an error
+-- any part of it if a write failed; all of it if a strict run ended, and then it is a fault or an error
 abbrev pub IsHalt : Bool → Halt → Cut
 IsHalt strict halt.Write part rest = ⊤
 IsHalt strict halt.Fault part rest = (strict ≡ true) × (rest ≡ []) × (is_fault part ≡ true)
 
--- where an early end leaves a script: the lines `done` and the line `last`, if there is one, were done,
--- and all answers to `done` and a beginning of the answer to `last` were written
+-- the state after an early end: the lines `done` and the line `last`, if there is one, were executed, and all answers
+-- to `done` and a prefix of the answer to `last` were written
 pub record Stopped (D : Line) (H : Cut) (first : State) (text written : List ℕ) (after : State) : Type 0 where
   pub done : List (List ℕ)
   pub last : List (List ℕ)

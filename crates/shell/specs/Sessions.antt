@@ -1,4 +1,4 @@
--- What is asked of a state that means worlds.
+-- What is required of a state that abstracts to worlds.
 use Rattle.reference.specs.Worlds.{World, Event, Answer, Fits, next}
 use Rattle.reference.specs.declared.reply.Reply.{Reply}
 use Rattle.volume.specs.HistoryOf.{Tells}
@@ -7,10 +7,10 @@ use Rattle.shell.specs.declared.request.ReadCall.{ReadCall}
 use Rattle.shell.specs.Runs.{Worlds}
 use Rattle.shell.specs.Script.{call_of}
 
--- the answer fits each world that was meant, and the next one is meant
+-- the answer fits each possible world, and the next one is possible then
 abbrev pub Goes : Worlds → Worlds → Event → Answer → Type 0
 Goes meant means e a = (w : World) → meant w → Fits w e a × means (next w e a)
 
--- the reply to a look is that of the tree that is meant, or want of memory
+-- the reply to a read is that of the tree, or ENOMEM
 abbrev pub IsReported : ReadCall → Reply → FsRoot → Type 0
 IsReported look r i = Tells (call_of look) r i

@@ -1,4 +1,6 @@
-//! Parses a line of a script.
+//! Parses a line of a script as a request. `docs/FORMATS.md` has the format of scripts.
+//!
+//! Every line has exactly one request; a line that is no command is `Malformed`, `Overlong` or `Silent`.
 ghost use Rattle.std.specs.Prelude.{◌≡◌, ◌⊎◌, Err, MatchResult};
 ghost use Rattle.pathkey.specs.declared.errno.Errno.TheVariants.{ENOMEM};
 ghost use Rattle.textio.specs.Lines.{words_of};

@@ -1,4 +1,4 @@
-//! The writer of a drawing: its text so far, and the number of the next box.
+//! The writer of a drawing: its text so far, and the number of the next box. Box numbers are unique within a drawing.
 ghost use Rattle.std.specs.Prelude.{◌≡◌, IfOk};
 ghost use Rattle.shell.specs.Drawing.{IsBegun, IsDrawing};
 

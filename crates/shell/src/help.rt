@@ -1,4 +1,4 @@
-//! What help says besides the options.
+//! The text of the help besides the options.
 
 /// The release that `--version` prints. `include/doorvervain.h` states it too, and `tests/release` checks that they agree.
 pub const RELEASE: &str = "0.2.0";

@@ -1,4 +1,4 @@
-//! A reader or a writer that remembers why it failed.
+//! A reader or a writer that remembers the error of its last failure, since `shell` reports only that it failed.
 use std::io;
 use std::io::{ErrorKind, Read, Write};
 

@@ -1,4 +1,5 @@
-//! Tree steps between the lines of a script.
+//! The trait of flush policies: which tree steps are done between the lines of a script. Steps never change the world,
+//! so no policy changes a reply.
 ghost use Rattle.reference.specs.Worlds.{World};
 ghost use Rattle.volume.specs.Volumes.{Means};
 

@@ -1,4 +1,4 @@
-//! The request of a line of a script.
+//! The request of a line of a script: one of its cases for each command.
 
 use pathkey::{Errno, Path, SnapName};
 use reference::Call;

@@ -1,4 +1,7 @@
 //! Runs a script: reads it piece by piece, executes each line, and writes its reply.
+//!
+//! The replies written so far are those of the executed lines, in order; a run that ends early has written a prefix of
+//! its last reply.
 ghost use Rattle.std.specs.Prelude.{◌≡◌, ◌≢◌, ◌≤◌, ◌<◌, ◌+◌, ◌∷◌, ℕ, List, [], length, vec_capacity, IfErr, IfOk, OnOk, OnErr};
 ghost use Rattle.std.specs.Io.KnownBytes.{Appends, Keeps};
 ghost use Rattle.textio.specs.Parts.{AppendsPart};
@@ -87,8 +90,8 @@ pub enum Ending {
 }
 
 // Runs all lines of the reader on a session, as `run_script` does on a volume. If the watch is strict, it stops after the
-// first line that is answered by a fault or an error. A session that is shared with others means no world that a contract
-// could name, and then nothing is promised.
+// first line that is answered by a fault or an error. The world of a session that is shared with others is not
+// determined, so nothing is promised about it.
 pub(crate) fn run_lines<S: Session, R: Read, W: Write, P: Pace, V: Watch>(
     alloc: Global,
     session: &mut S,

@@ -1,4 +1,4 @@
-//! What the lines of a script are executed on: a volume, or a client of an engine whose volume is shared.
+//! Sessions, on which the lines of a script are executed: a volume, or a client of an engine whose volume is shared.
 ghost use Rattle.reference.specs.Worlds.{World, TakeSnapshot, DropSnapshot, RestoreSnapshot, Ask, Replied, Settled, Fits, next};
 ghost use Rattle.shell.specs.Script.{Tells};
 ghost use Rattle.shell.specs.Sessions.{Goes, IsReported};

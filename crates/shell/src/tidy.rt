@@ -1,5 +1,5 @@
-//! The pace of the program: if enough messages are pending, it flushes the fullest slot, and does the steps that make room
-//! for that. Nodes on the flush's path that removals left nearly empty are merged first.
+//! The flush policy of the program: if enough messages are pending, it flushes the fullest slot, and does the steps that
+//! make space for that. Nodes on the flush's path that removals left nearly empty are merged first.
 //!
 //! No claim depends on its choices.
 use crate::pace::Pace;
@@ -19,10 +19,10 @@ pub struct Tidy {
     turns: u16,
     /// The step that was picked last.
     last: Option<Step>,
-    /// The number of consecutive steps without room, up to the last one. It is kept from line to line, so that the steps that
-    /// make room are also reached with one step for each line.
+    /// The number of consecutive steps that did not fit, up to the last one. It is kept from line to line, so that the steps
+    /// that make space are also reached with one step for each line.
     stuck: u8,
-    /// Whether the last steps reshape nodes before a flush. If they have no room, the flush is tried without that.
+    /// Whether the last steps reshape nodes before a flush. If they do not fit, the flush is tried without that.
     reshapes: bool,
     /// Whether nothing was found to do since the last line.
     is_idle: bool,
@@ -43,8 +43,8 @@ impl Tidy {
         }
     }
 
-    /// Chooses the step that makes room for the last one, if that had none. Otherwise chooses the flush of the fullest slot,
-    /// or the step that is better done before it.
+    /// Chooses the step that makes space for the last one, if that did not fit. Otherwise chooses the flush of the fullest
+    /// slot, or the step that is better done before it.
     fn choose_step(&mut self, volume: &Volume) -> Option<Step> {
         match self.last {
             Some(step) if self.stuck > 0 => self.choose_other(volume, step),
@@ -52,8 +52,8 @@ impl Tidy {
         }
     }
 
-    /// Chooses the step that makes room for this step. If none is known, and the step was to reshape nodes before a flush,
-    /// chooses the flush itself.
+    /// Chooses the step that makes space for this step. If none is known, and the step was to reshape nodes before a
+    /// flush, chooses the flush itself.
     fn choose_other(&mut self, volume: &Volume, step: Step) -> Option<Step> {
         let other = volume.make_room(step);
         if other.is_some() || !self.reshapes {

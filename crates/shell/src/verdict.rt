@@ -1,4 +1,4 @@
-//! How a line of a script was answered, and why no more lines are executed.
+//! The outcome of a line of a script, and why a run ends.
 ghost use Rattle.std.specs.Prelude.{◌≡◌};
 ghost use Rattle.shell.specs.Verdicts.{fails, is_refusal};
 

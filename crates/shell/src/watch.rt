@@ -1,4 +1,4 @@
-//! Watches the lines of a script as they are answered, and may end a run.
+//! The trait of observers, which see each line of a script with its answer, and may end a run.
 ghost use Rattle.std.specs.Prelude.{◌≡◌, ◌&&◌, Bool, false, not};
 ghost use Rattle.shell.specs.Verdicts.{fails};
 

@@ -6,8 +6,8 @@ use message::{Update, UpdateTarget};
 use pathkey::NoMemory;
 use std::alloc::Global;
 
-/// Writes a digit behind the last two digits of a number, so that the order of two updates shows; the digit 9 takes the
-/// number away.
+/// An update for tests: appends a digit to the last two digits of a number, so that the order of two updates shows; the
+/// digit 9 removes the number.
 #[derive(Drop)]
 pub struct Digit(pub u64);
 

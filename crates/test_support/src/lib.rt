@@ -1,5 +1,5 @@
-//! Samples that the tests of several crates share: an update, messages in plain numbers, a plain row under the same
-//! messages, file calls and replies as a table can hold them, rows that are asked one by one, and numbers that look random.
+//! Support for the tests of several crates: an update, messages in plain numbers, a reference map under the same messages,
+//! file calls and replies that constant tables can contain, tables that are checked row by row, and pseudo-random numbers.
 #![tactic(auto)]
 
 pub mod ask;

@@ -1,4 +1,4 @@
-//! Messages, keys and ranges in plain numbers: a number stands for the key of that one byte.
+//! Messages, keys and ranges in plain numbers: a number is the key of that one byte.
 use crate::digit::{Digit, written_behind};
 use crate::random::Random;
 use message::Msg;
@@ -15,7 +15,7 @@ pub enum Plain {
     Del(u8),
     /// The keys from the first up to and without the second lose theirs; without a second, all from the first on.
     DelRange(u8, Option<u8>),
-    /// A digit is written behind the value.
+    /// Appends a digit to the value.
     Edit(u8, u64),
 }
 
@@ -67,7 +67,7 @@ impl Plain {
     }
 }
 
-/// Whether the key stands before the end; where there is none, every key does.
+/// Whether the key is before the end; without an end every key is.
 pub fn is_before(at: u8, end: Option<u8>) -> bool {
     match end {
         None => true,
@@ -80,7 +80,7 @@ pub fn key(alloc: Global, number: u8) -> Result<Key, NoMemory> {
     Key::from_bytes(alloc, &[number])
 }
 
-/// The first byte of a key, or 0 where it has none.
+/// The first byte of a key, or 0 if it is empty.
 pub fn number(key: &Key) -> u8 {
     key.as_bytes().first().copied().unwrap_or(0)
 }
@@ -119,7 +119,7 @@ pub fn are(msgs: &[Msg<Digit>], plain: &[Plain]) -> bool {
     true
 }
 
-/// Whether the list holds these messages, the oldest first; `false` where memory is refused.
+/// Whether the list contains exactly these messages, the oldest first; `false` if an allocation fails.
 pub fn waits(alloc: Global, list: &Pending<Digit>, plain: &[Plain]) -> bool {
     match list.copy_front(alloc, list.len()) {
         Ok(msgs) => are(msgs.as_slice(), plain),

@@ -1,12 +1,12 @@
 //! Numbers that look random, and are the same at each run.
 ghost use Rattle.std.specs.Prelude.{◌<◌};
 
-/// Each number comes from the one before (a linear congruential generator).
+/// A linear congruential generator.
 #[derive(Drop)]
 pub struct Random(pub u32);
 
 impl Random {
-    /// A number below `end`, or 0 where that is 0.
+    /// A number below `end`, or 0 if that is 0.
     pub fn below(&mut self, end: u32) -> u32
         ensures { 0 < end → result < end }
     {

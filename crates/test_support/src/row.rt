@@ -18,14 +18,14 @@ impl Row {
         self.0[at as usize]
     }
 
-    /// Lays the message on the value at each key.
+    /// Applies the message to the value at each key.
     pub fn lay(&mut self, message: Plain) {
         for at in 0..=u8::MAX {
             self.0[at as usize] = message.value_after(at, self.0[at as usize]);
         }
     }
 
-    /// The first `limit` pairs from the key `lo` up to and without `hi`, or all from `lo` on where that is none.
+    /// The first `limit` pairs from the key `lo` up to but excluding `hi`, or all from `lo` on without `hi`.
     pub fn pairs(
         &self,
         alloc: Global,

@@ -1,9 +1,9 @@
-//! Rows of a table, each asked by itself.
+//! Tables of test cases, each row checked on its own.
 use std::alloc::Global;
 
 /// What a row of a table says.
 pub trait Holds {
-    /// Whether it is so; `false` where memory is refused.
+    /// Whether the case passes; `false` if an allocation fails.
     fn holds(&self, alloc: Global) -> bool;
 }
 

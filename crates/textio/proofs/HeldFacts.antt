@@ -1,4 +1,4 @@
--- The line so far, as bytes come to it.
+-- The current line, when bytes are appended to it.
 use Rattle.std.proofs.Common.{◌≡◌, ◌≢◌, ℕ, ◌+◌, ◌≤◌, ◌<◌, List, [], ◌∷◌, ◌++◌, length, refl, sym, ap, ◌∙◌, inl, inr, append_assoc, arith, length-append}
 use Rattle.std.specs.List.{All}
 use Rattle.std.proofs.lemmas.Bool.{cases_lt}
@@ -41,12 +41,12 @@ hold_more held items new bytes holds free short long = record {
   free = free_more held bytes holds.free (free_of bytes free);
 }
 
--- where nothing is held, the line begins with these bytes
+-- if nothing is buffered, the line begins with these bytes
 pub hold_first : (held items bytes : List ℕ) → Holds held items → All (λ b. b ≢ 10) bytes → length items ≡ 0 → Holds (held ++ bytes) bytes
 hold_first held [] bytes holds free none = hold_more held [] bytes bytes holds free (λ few. refl) (λ many. omega arith)
 hold_first held (x ∷ items) bytes holds free none = absurd (omega arith)
 
--- a text that goes on with a line
+-- a text that continues with a line
 pub line_cut : (text front rest end after : List ℕ) → text ≡ front ++ rest → rest ≡ end ++ 10 ∷ after → text ≡ (front ++ (end ++ 10 ∷ [])) ++ after
 line_cut text front rest end after is cut =
     is ∙ ap (λ t. front ++ t) (cut ∙ sym (append_assoc end (10 ∷ []) after)) ∙ sym (append_assoc front (end ++ 10 ∷ []) after)

@@ -4,12 +4,12 @@ use Rattle.std.specs.Io.KnownBytes.{Appends, Consumes, IsAtEnd}
 use Rattle.std.proofs.KnownBytes.{Appends-trans, Consumes-trans}
 use Rattle.textio.specs.Parts.{AppendsPart, Gathers}
 
--- what holds in any case holds where the answer is an error
+-- what always holds, holds if the result is an error
 pub on_err : {A E : Type 0} (r : Result A E) (P : Type 0) → P → OnErr r P
 on_err (Ok a) P p = tt
 on_err (Err e) P p = p
 
--- what holds in any case holds where the answer is none
+-- what always holds, holds if the result is not an error
 pub on_ok : {A E : Type 0} (r : Result A E) (P : Type 0) → P → OnOk r P
 on_ok (Ok a) P p = p
 on_ok (Err e) P p = tt
@@ -54,7 +54,7 @@ pub gathers_written : (a b c : Option (List ℕ)) (waiting text waits : List ℕ
 gathers_written a b c waiting text waits first second none =
     (waiting ++ text, sym (ap (λ l. (waiting ++ text) ++ l) none ∙ append-nil (waiting ++ text)), Appends-trans a b c waiting text first second)
 
--- one text after another comes behind what waited
+-- one text after another is put after the buffered text
 pub gathers-trans : (a b c : Option (List ℕ)) (x y z first second : List ℕ) → Gathers a x first b y → Gathers b y second c z → Gathers a x (first ++ second) c z
 gathers-trans a b c x y z first second (part, cut, written) (more, then, wrote) = (
   part ++ more,
@@ -62,7 +62,7 @@ gathers-trans a b c x y z first second (part, cut, written) (more, then, wrote) 
   Appends-trans a b c part more written wrote,
 )
 
--- one text came behind what waited, and then a beginning of what waits and of another text was written
+-- one text was put after the buffered text, and then a prefix of the buffered text and of another text was written
 pub gathered_part : (a b c : Option (List ℕ)) (x y first second : List ℕ) → Gathers a x first b y → AppendsPart b c (y ++ second) → AppendsPart a c (x ++ (first ++ second))
 gathered_part a b c x y first second (part, cut, written) wrote =
     subst (AppendsPart a c) (sym (append_assoc part y second) ∙ ap (λ l. l ++ second) (sym cut) ∙ append_assoc x first second) (part_after a b c part (y ++ second) written wrote)

@@ -18,7 +18,7 @@ module _ {X : Type 0} (f : X → List ℕ) (d : X) where
       ap (flat_map f) (take_more xs i d lt) ∙ flat_map-append f (take i xs) (get_or xs i d ∷ [])
       ∙ ap (λ t. flat_map f (take i xs) ++ t) (append-nil (f (get_or xs i d)))
 
-  -- the text of those before an element, of it, and of those behind it
+  -- the text of the elements before one, of that one, and of those after it
   pub texts_around : (xs : List X) (i : ℕ) → i < length xs → (flat_map f (take i xs) ++ f (get_or xs i d)) ++ flat_map f (drop (i + 1) xs) ≡ flat_map f xs
   texts_around xs i lt =
       ap (λ t. t ++ flat_map f (drop (i + 1) xs)) (sym (taken_more xs i lt))
@@ -30,7 +30,8 @@ module _ {X : Type 0} (f : X → List ℕ) (d : X) where
   each_part a b c xs i lt first second =
       subst (AppendsPart a c) (texts_around xs i lt) (part_before a c _ (flat_map f (drop (i + 1) xs)) (part_after a b c _ _ first second))
 
-  -- a part of what waits and of the text of one element, where the texts of those before it came behind what waited
+  -- a part of the buffered text and of the text of one element, after the texts of those before it were put into the
+  -- buffer
   pub each_gathered : (a b c : Option (List ℕ)) (x y : List ℕ) (xs : List X) (i : ℕ) → i < length xs → Gathers a x (flat_map f (take i xs)) b y
       → AppendsPart b c (y ++ f (get_or xs i d)) → AppendsPart a c (x ++ flat_map f xs)
   each_gathered a b c x y xs i lt first second =
@@ -46,19 +47,19 @@ pub cut_more : (all done rest piece behind : List ℕ) (n : ℕ) → all ≡ don
 cut_more all done rest piece behind n split front back =
     split ∙ ap (λ l. done ++ l) (sym (take-append-drop n rest) ∙ ap (λ l. l ++ drop n rest) (sym front) ∙ ap (λ l. piece ++ l) (sym back)) ∙ sym (append_assoc done piece behind)
 
--- the text of what was done, of a piece, and of what is behind it
+-- the text of what was done, of a piece, and of the rest
 pub text_of_pieces : (f : ℕ → List ℕ) (all done piece behind : List ℕ) → all ≡ (done ++ piece) ++ behind
     → (flat_map f done ++ flat_map f piece) ++ flat_map f behind ≡ flat_map f all
 text_of_pieces f all done piece behind cut =
     ap (λ l. l ++ flat_map f behind) (sym (flat_map-append f done piece)) ∙ sym (flat_map-append f (done ++ piece) behind) ∙ ap (flat_map f) (sym cut)
 
--- a text of bytes that stand for themselves is its own percent form
+-- a text in which no byte is escaped is its own percent form
 pub plain_text : (xs : List ℕ) → All IsPlain xs → flat_map percent xs ≡ xs
 plain_text [] all = refl
 plain_text (b ∷ xs) all =
     ap (λ t. t ++ flat_map percent xs) (All-head IsPlain b xs all) ∙ ap (λ t. b ∷ t) (plain_text xs (All-tail IsPlain b xs all))
 
--- bytes were written in percent form, and then bytes that stand for themselves
+-- bytes were written in percent form, and then bytes that are not escaped
 pub plain_more : (a b c : Option (List ℕ)) (done piece rest : List ℕ) (n : ℕ) → Appends a b (flat_map percent done) → piece ≡ take n rest → All IsPlain (take n rest) → Appends b c piece
     → Appends a c (flat_map percent (done ++ piece))
 plain_more a b c done piece rest n before front plain written =

@@ -86,7 +86,7 @@ one_more_fits i n d few h digit =
     let worth = digit_worth d digit in
     omega (arith, worth.0, worth.1)
 
--- and is below the power of ten of so many digits
+-- and is below the power of ten with that many digits
 pub one_more_below : (i n d : ℕ) → n < 10 ^ i → is_ascii_digit d ≡ true → n * 10 + (d - 48) < 10 ^ (i + 1)
 one_more_below i n d h digit =
     let worth = digit_worth d digit in
@@ -121,7 +121,7 @@ hex_decodes word h =
 hex_digit_of : (c : ℕ) → is_hex_digit c ≡ true → is_ascii_hexdigit c ≡ true
 hex_digit_of c h = grind (arith, nat_tests)
 
--- a word that decodes is digits, and not none of them where it has bytes
+-- a word that decodes to bytes is digits, and not empty if there are bytes
 pub decoded_is_hex : (word bytes : List ℕ) → 0 < length word → decode_of word ≡ Ok bytes → is_hex word ≡ true
 decoded_is_hex word bytes some is =
     let ok = decode_of-ok word bytes is in
@@ -146,6 +146,6 @@ pub decoded_itself : (text : List ℕ) → AllByRecursion (λ b. b ≢ 37) text 
 decoded_itself [] h = percent_decode-nil
 decoded_itself (b ∷ text) h = percent_decode_not_percent b text h.0 ∙ ap (λ (rest : List ℕ). b ∷ rest) (decoded_itself text h.1)
 
--- so a plain text is read as it stands
+-- so a plain text is parsed without decoding
 pub plain_path : (text : List ℕ) → is_plain text ≡ true → path_of text ≡ parsed text
 plain_path text h = ap parsed (decoded_itself text (lacks_percent text h))

@@ -6,7 +6,7 @@ abbrev pub IsFree : List ℕ → Type 0
 IsFree [] = ⊤
 IsFree (x ∷ xs) = (x ≢ 10) × IsFree xs
 
--- the line so far, of which no more is held than shows that it is too long
+-- the current line, of which no more is kept than shows that it is too long
 pub record Holds (held items : List ℕ) : Type 0 where
   pub short : length held ≤ 65536 → items ≡ held
   pub long : 65536 < length held → 65536 < length items

@@ -2,7 +2,7 @@
 use Rattle.std.specs.Prelude.{ℕ, List, [], ◌∷◌, ◌++◌, ◌==◌, if◌then◌else◌, Option, Some, None, option_map}
 use Rattle.pathkey.specs.Texts.{pieces}
 
--- the lines of a text, each without its line feed (10); the last one counts without it where it is not empty
+-- the lines of a text, each without its line feed (10); the last one may lack it, if it is not empty
 abbrev pub lines_of : List ℕ → List (List ℕ)
 lines_of text = pieces 10 text
 
@@ -10,12 +10,12 @@ lines_of text = pieces 10 text
 abbrev pub words_of : List ℕ → List (List ℕ)
 words_of line = pieces 32 (line ++ 32 ∷ [])
 
--- a word before and behind its first `@` (64), where it has one
+-- the word before and after its first `@` (64), if it has one
 abbrev pub at_sign : List ℕ → Option (List ℕ × List ℕ)
 at_sign [] = None
 at_sign (b ∷ word) = if b == 64 then Some ([], word) else option_map (λ cut. (b ∷ cut.0, cut.1)) (at_sign word)
 
--- a byte in front, where something follows it
+-- a byte in front, if something follows it
 abbrev pub kept_before : ℕ → List ℕ → List ℕ
 kept_before x [] = []
 kept_before x (y ∷ ys) = x ∷ (y ∷ ys)

@@ -10,16 +10,16 @@ use Rattle.pathkey.specs.Names.{Path}
 use Rattle.pathkey.specs.Texts.{parsed}
 use Rattle.pathkey.specs.declared.errno.Errno.{Errno}
 
--- `0` alone, or decimal digits of which the first is not `0`
+-- `0`, or decimal digits that do not begin with `0`
 abbrev pub is_decimal : List ℕ → Bool
 is_decimal [] = false
 is_decimal (d ∷ ds) = if d == 48 then length (d ∷ ds) == 1 else list_all is_ascii_digit (d ∷ ds)
 
--- the number that digits write, where all of them are decimal and the number is below 2^64
+-- the number with these digits, if all of them are decimal and the number is below 2^64
 abbrev pub number_of_digits : List ℕ → Option ℕ
 number_of_digits ds = if list_all is_ascii_digit ds && nat_lt (digits_value 10 ds) (2 ^ 64) then Some (digits_value 10 ds) else None
 
--- the number that a word writes in decimal, where it writes one below 2^64
+-- the number of a decimal word, if it is one below 2^64
 abbrev pub number_of : List ℕ → Option ℕ
 number_of word = if is_decimal word && nat_lt (digits_value 10 word) (2 ^ 64) then Some (digits_value 10 word) else None
 

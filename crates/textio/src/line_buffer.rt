@@ -1,4 +1,7 @@
-//! The line so far: of a line that is too long no more is held than shows that it is.
+//! Buffers the current line.
+//!
+//! A line that is too long is kept only up to one byte more than the limit, which is enough to know that it is too
+//! long.
 ghost use Rattle.std.specs.Prelude.{◌≡◌, ◌<◌, ◌≤◌, ◌+◌, ◌++◌, length, vec_capacity};
 
 /// The most bytes of a line that is looked at.
@@ -7,7 +10,7 @@ pub const LONGEST_LINE: usize = 65_536;
 /// How many bytes are read at a time.
 pub const READ_SIZE: usize = 65_536;
 
-/// Adds bytes to the line, of a line that is too long no more than show that it is.
+/// Appends bytes to the line; if it becomes too long, only as many as show that.
 pub fn push_limited(line: &mut Vec<u8>, bytes: &[u8])
     requires room { 65536 < vec_capacity line.old }
     ensures short { length line.old.items + length bytes.now ≤ 65536 → line.new.items ≡ line.old.items ++ bytes.now }

@@ -1,15 +1,15 @@
-//! Writes bytes; where a write fails it is known what was written.
+//! Writes bytes. If a write fails, the contract says that a prefix was written.
 ghost use Rattle.std.specs.Prelude.{◌≡◌, ℕ, take, length, ◌≤◌, OnOk, OnErr, IfOk};
 ghost use Rattle.std.specs.Io.KnownBytes.{Appends, Keeps};
 ghost use Rattle.textio.specs.Parts.{AppendsPart};
 
 use std::io::{ErrorKind, Write};
 
-/// The writer failed, or took no byte.
+/// The writer failed, or accepted no byte.
 #[derive(Debug, Drop)]
 pub struct WriteFailed;
 
-// Writes once, and again where a signal interrupted the write.
+// Writes once, and again if a signal interrupted the write.
 fn write_some<W: Write>(writer: &mut W, bytes: &[u8]) -> Result<usize, WriteFailed>
     ensures bound { IfOk result (λ n. n ≤ length bytes.now) }
     ensures ok { IfOk result (λ n. Appends (W.contents writer.old) (W.contents writer.new) (take n bytes.now)) }

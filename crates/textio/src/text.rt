@@ -1,4 +1,4 @@
-//! Writes numbers, and bytes in hexadecimal and in percent form.
+//! Writes numbers, and bytes in hexadecimal and in percent form. `docs/FORMATS.md` defines these forms.
 ghost use Rattle.std.specs.Prelude.{◌≡◌, ◌*◌, ◌≤◌, ◌<◌, ◌↔◌, All, MatchOption, OnOk, OnErr, decimal, flat_map, length, slice_index, take, true};
 ghost use Rattle.std.specs.Io.KnownBytes.{Appends};
 ghost use Rattle.reference.specs.Image.{path_text, percent, two_digits};
@@ -11,7 +11,7 @@ use pathkey::Path;
 use reference::digits::{escape, lower_digits};
 use std::io::Write;
 
-/// Of how many bytes the digits are written in one go.
+/// The number of bytes whose digits are written at once.
 const AT_ONCE: usize = 512;
 
 /// Writes a line of a word and a number, or a beginning of it.
@@ -63,7 +63,7 @@ fn put_digits<W: Write>(writer: &mut W, bytes: &[u8]) -> Result<(), WriteFailed>
     Err(WriteFailed)
 }
 
-/// The same of a few bytes, whose digits are written in one go.
+/// Writes the digits of a few bytes at once.
 fn put_piece<W: Write>(writer: &mut W, bytes: &[u8]) -> Result<(), WriteFailed>
     requires { length bytes.now ≤ 512 }
     ensures ok { OnOk result (Appends (W.contents writer.old) (W.contents writer.new) (flat_map (two_digits 87) bytes.now)) }
@@ -75,7 +75,7 @@ fn put_piece<W: Write>(writer: &mut W, bytes: &[u8]) -> Result<(), WriteFailed>
     put(writer, digits)
 }
 
-/// Lays the two digits of each byte into room for all of them.
+/// Writes the two digits of each byte into a buffer that is large enough.
 fn lay_digits(bytes: &[u8], digits: &mut [u8])
     requires { length digits.old ≡ 2 * length bytes.now }
     ensures { digits.new ≡ flat_map (two_digits 87) bytes.now }
@@ -120,14 +120,14 @@ pub fn put_path<W: Write>(writer: &mut W, path: &Path) -> Result<(), WriteFailed
     Ok(())
 }
 
-/// Whether each byte stands for itself in percent form, so that the form is the name.
+/// Whether the percent form of the name is the name itself, since no byte is escaped.
 pub fn is_plain(name: &[u8]) -> bool
     ensures { (result ≡ true) ↔ All IsPlain name.now }
 {
     first_escaped(name).is_none()
 }
 
-// How many bytes stand before the first that is escaped.
+// The number of bytes before the first that is escaped.
 fn plain_len(bytes: &[u8]) -> usize
     ensures bound { result ≤ length bytes.now }
     ensures plain { All IsPlain (take result bytes.now) }
@@ -135,7 +135,7 @@ fn plain_len(bytes: &[u8]) -> usize
     first_escaped(bytes).unwrap_or(bytes.len())
 }
 
-// The place of the first byte that does not stand for itself in percent form.
+// The index of the first byte that is escaped in percent form.
 fn first_escaped(bytes: &[u8]) -> Option<usize>
     ensures { MatchOption result (All IsPlain bytes.now)
         (λ i. (i < length bytes.now) × ¬ (IsPlain (slice_index bytes.now i)) × All IsPlain (take i bytes.now)) }

@@ -1,4 +1,6 @@
-//! Numbers, bytes and paths as words of a line.
+//! Decodes words of a line as numbers, bytes and paths. `docs/FORMATS.md` defines their forms.
+//!
+//! Decimal and hexadecimal words have one spelling for each value.
 ghost use Rattle.std.specs.Prelude.{◌≡◌, ◌<◌, ◌≤◌, ◌⊎◌, length, Err, IsTrue, IfOk, OnErr, is_some};
 ghost use Rattle.std.specs.List.{list_all};
 ghost use Rattle.std.specs.Char.{is_ascii_digit, is_ascii_hexdigit};
@@ -11,7 +13,7 @@ use pathkey::{Errno, NoMemory, Path};
 use percent_encoding::percent_decode;
 use std::alloc::Global;
 
-/// With so many digits or fewer, a number is below 2^64.
+/// A number with at most this many digits is below 2^64.
 const SAFE_DIGITS: usize = 19;
 
 /// The number that a word writes in decimal: `0`, or digits without a leading zero, below 2^64.
@@ -77,8 +79,8 @@ fn has_hex_digits(word: &[u8]) -> bool
     word.iter().all(|byte| byte.is_ascii_hexdigit())
 }
 
-/// The bytes that a word writes in hexadecimal: an even number of digits, and not none, or a dash for no bytes. None where it
-/// writes none. It fails for want of memory, and only where it does write bytes.
+/// Decodes a word in hexadecimal: an even number of digits, at least two, or a dash for no bytes. `None` for any other word.
+/// Fails only if an allocation fails, and only for a valid word.
 pub fn read_bytes(alloc: Global, word: &[u8]) -> Result<Option<Bytes>, NoMemory>
     ensures read { IfOk result (λ bytes. bytes ≡ bytes_of word.now) }
     ensures written { OnErr result (IsTrue (is_some (bytes_of word.now))) }
@@ -96,7 +98,7 @@ pub fn read_bytes(alloc: Global, word: &[u8]) -> Result<Option<Bytes>, NoMemory>
     }
 }
 
-/// The path that a word names, in percent form. A plain word is read as it stands, and a word without escapes is not copied.
+/// Parses a path in percent form. A plain word is parsed without decoding, and a word without escapes is not copied.
 pub fn read_path(alloc: Global, word: &[u8]) -> Result<Path, Errno>
     ensures { (result ≡ path_of word.now) ⊎ (result ≡ Err ENOMEM) }
 {

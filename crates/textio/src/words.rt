@@ -1,10 +1,10 @@
-//! The lines of a text and the words of a line, as slices.
+//! The lines of a text and the words of a line, as slices. A line ends with a line feed, and one space separates words.
 ghost use Rattle.std.specs.Prelude.{◌≡◌, ◌≢◌, ◌++◌, ◌<◌, [], ◌∷◌, All, MatchOption, length, take, option_map, slice_index};
 ghost use Rattle.textio.specs.Lines.{at_sign, words_of};
 
 use memchr::memchr;
 
-/// The first word of a line, and what follows its space; none where the line is one word.
+/// The first word of a line, and the text after its space; `None` if the line is one word.
 pub fn split_word(line: &[u8]) -> Option<(&[u8], &[u8])>
     ensures { MatchOption result (words_of line.now ≡ line.now ∷ [])
         (λ cut. words_of line.now ≡ cut.0.now ∷ words_of cut.1.now) }
@@ -14,7 +14,7 @@ pub fn split_word(line: &[u8]) -> Option<(&[u8], &[u8])>
     Some((word, &rest[1..]))
 }
 
-/// The first line of a text, and what follows its line feed; none where the text has none.
+/// The first line of a text, and the text after its line feed; `None` if the text has none.
 pub fn split_line(text: &[u8]) -> Option<(&[u8], &[u8])>
     ensures { MatchOption result (All (λ b. b ≢ 10) text.now)
         (λ cut. (text.now ≡ cut.0.now ++ 10 ∷ cut.1.now) × All (λ b. b ≢ 10) cut.0.now) }
@@ -22,7 +22,7 @@ pub fn split_line(text: &[u8]) -> Option<(&[u8], &[u8])>
     cut_at(text, b'\n')
 }
 
-/// A text before and behind its first space; none where it has none.
+/// The text before and after its first space; `None` if it has none.
 pub fn split_space(text: &[u8]) -> Option<(&[u8], &[u8])>
     ensures { MatchOption result (All (λ b. b ≢ 32) text.now)
         (λ cut. (text.now ≡ cut.0.now ++ 32 ∷ cut.1.now) × All (λ b. b ≢ 32) cut.0.now) }
@@ -30,7 +30,7 @@ pub fn split_space(text: &[u8]) -> Option<(&[u8], &[u8])>
     cut_at(text, b' ')
 }
 
-// A text before and behind the first byte that is this one.
+// The text before and after the first byte `wanted`; `None` if it has none.
 fn cut_at(text: &[u8], wanted: u8) -> Option<(&[u8], &[u8])>
     ensures { MatchOption result (All (λ b. b ≢ wanted) text.now)
         (λ cut. (text.now ≡ cut.0.now ++ wanted ∷ cut.1.now) × All (λ b. b ≢ wanted) cut.0.now) }
@@ -40,7 +40,7 @@ fn cut_at(text: &[u8], wanted: u8) -> Option<(&[u8], &[u8])>
     Some((front, &rest[1..]))
 }
 
-/// A word before and behind its first `@`; none where it has none.
+/// The word before and after its first `@`; `None` if it has none.
 pub fn split_at_sign(word: &[u8]) -> Option<(&[u8], &[u8])>
     ensures { option_map (λ cut. (cut.0.now, cut.1.now)) result ≡ at_sign word.now }
 {

@@ -1,4 +1,6 @@
-//! Text that is gathered, so that few bytes at a time are written in one go.
+//! A buffer of 1,024 bytes in front of a writer, so that many short writes become few long ones.
+//!
+//! The text passed to `put` so far is the text that was written, followed by the buffered text.
 ghost use Rattle.std.specs.Prelude.{◌≡◌, ◌++◌, ◌≤◌, ◌+◌, ℕ, List, [], OnOk, OnErr, take, length};
 ghost use Rattle.std.specs.Io.KnownBytes.{Appends};
 ghost use Rattle.textio.specs.Parts.{AppendsPart, Gathers};
@@ -7,11 +9,11 @@ use crate::output::{WriteFailed, put};
 use std::io::Write;
 use std::marker::Model;
 
-/// How many bytes are gathered at most.
+/// The capacity of the buffer in bytes.
 const ROOM: usize = 1_024;
 
-/// Text on its way to a writer, which waits here until it fills the room. It takes no memory of an allocator. What waits is lost where
-/// it is dropped: `write_out` comes first.
+/// Text that waits for a writer until the buffer is full. It allocates no memory. Buffered text is lost if the buffer is dropped
+/// without `write_out`.
 #[derive(Drop)]
 pub struct WriteBuffer {
     room: [u8; ROOM],
@@ -37,8 +39,9 @@ impl WriteBuffer {
         }
     }
 
-    /// Puts bytes behind what waits. What waits is written first where they have no room behind it, and they are written too
-    /// where they are more than the room. On a failure a beginning of all this was written.
+    /// Appends bytes to the buffered text. The buffered text is written first if the bytes do not fit after it, and the
+    /// bytes are written directly if they are more than the buffer's capacity. On an error, a prefix of all this was
+    /// written.
     pub fn put<W: Write>(&mut self, writer: &mut W, bytes: &[u8]) -> Result<(), WriteFailed>
         ensures ok { OnOk result (Gathers (W.contents writer.old) self.old bytes.now (W.contents writer.new) self.new) }
         ensures err { OnErr result (AppendsPart (W.contents writer.old) (W.contents writer.new) (self.old ++ bytes.now)) }
@@ -50,7 +53,7 @@ impl WriteBuffer {
         Ok(())
     }
 
-    // The same where the bytes have no room behind what waits.
+    // The same if the bytes do not fit after the buffered text.
     fn put_past<W: Write>(&mut self, writer: &mut W, bytes: &[u8]) -> Result<(), WriteFailed>
         ensures ok { OnOk result (Gathers (W.contents writer.old) self.old bytes.now (W.contents writer.new) self.new) }
         ensures err { OnErr result (AppendsPart (W.contents writer.old) (W.contents writer.new) (self.old ++ bytes.now)) }
@@ -63,7 +66,7 @@ impl WriteBuffer {
         Ok(())
     }
 
-    // Puts bytes behind what waits, where they have room.
+    // Copies bytes after the buffered text; they fit.
     fn lay(&mut self, bytes: &[u8])
         requires { length self.old + length bytes.now ≤ 1024 }
         ensures { self.new ≡ self.old ++ bytes.now }
@@ -73,7 +76,7 @@ impl WriteBuffer {
         self.used = end;
     }
 
-    /// Writes what waits, or a beginning of it; then nothing waits.
+    /// Writes the buffered text, or on an error a prefix of it; the buffer is then empty.
     pub fn write_out<W: Write>(&mut self, writer: &mut W) -> Result<(), WriteFailed>
         ensures ok { OnOk result (Appends (W.contents writer.old) (W.contents writer.new) self.old) }
         ensures err { OnErr result (AppendsPart (W.contents writer.old) (W.contents writer.new) self.old) }

@@ -1,7 +1,7 @@
-//! Paths, keys and names of snapshots: texts, bytes and order, in tables with the values written out.
+//! Tests of paths, keys and names of snapshots: texts, bytes and order, in tables with the values written out.
 //!
-//! What a row says is asked by functions that ensure nothing, so that no proof of a test reads what a text parses as, and of which each
-//! holds one value with a destructor. They answer by a `bool` or an `Option`; where memory is refused that is `false` or `None`.
+//! The checks are functions without postconditions, so that the proofs of the tests do not unfold what a text parses as; each has at
+//! most one value with a destructor. They return a `bool` or an `Option`, which is `false` or `None` if an allocation fails.
 use pathkey::{
     Errno, Key, KeyRange, NoMemory, Path, SnapName, block_key, blocks_from, dec, enc, rekey,
     subtree,
@@ -26,7 +26,7 @@ fn decoded(alloc: Global, key: &Key) -> Result<Option<Path>, NoMemory> {
     dec(alloc, key)
 }
 
-/// The text `front`, then `unit` so many times, then `end`.
+/// The text `front`, then `unit` that many times, then `end`.
 fn long_text(
     alloc: Global,
     front: &[u8],
@@ -42,7 +42,7 @@ fn long_text(
     Ok(text)
 }
 
-/// Whether the key has these bytes, or there is none of both.
+/// Whether the key has these bytes, or neither exists.
 fn is_key(key: &Option<Key>, want: Option<&[u8]>) -> bool {
     match (key, want) {
         (Some(key), Some(want)) => has_bytes(key, want),
@@ -56,7 +56,7 @@ fn has_bytes(key: &Key, want: &[u8]) -> bool {
     key.as_bytes() == want
 }
 
-/// Whether a key that was made has these bytes.
+/// Whether a key was created and has these bytes.
 fn is_made(made: Result<Key, NoMemory>, want: &[u8]) -> bool {
     match made {
         Ok(key) => has_bytes(&key, want),
@@ -64,7 +64,7 @@ fn is_made(made: Result<Key, NoMemory>, want: &[u8]) -> bool {
     }
 }
 
-/// Whether a path has this key, or there is none of both.
+/// Whether a path has this key, or neither exists.
 fn is_path(path: &Option<Path>, want: Option<&[u8]>) -> bool {
     match (path, want) {
         (Some(path), Some(want)) => has_bytes(path.key(), want),
@@ -73,7 +73,7 @@ fn is_path(path: &Option<Path>, want: Option<&[u8]>) -> bool {
     }
 }
 
-/// Whether the path of the key has this key itself; or the key has no path.
+/// Whether the path of the key has this key again; or the key has no path.
 fn leads_to(alloc: Global, key: &Key, want: Option<&[u8]>) -> bool {
     match decoded(alloc, key) {
         Ok(path) => is_path(&path, want),
@@ -81,7 +81,7 @@ fn leads_to(alloc: Global, key: &Key, want: Option<&[u8]>) -> bool {
     }
 }
 
-/// Whether a key was made, and its path has this key; or it has no path.
+/// Whether a key was created, and its path has this key; or it has no path.
 fn made_leads_to(alloc: Global, made: Result<Key, NoMemory>, want: Option<&[u8]>) -> bool {
     match made {
         Ok(key) => leads_to(alloc, &key, want),
@@ -89,7 +89,7 @@ fn made_leads_to(alloc: Global, made: Result<Key, NoMemory>, want: Option<&[u8]>
     }
 }
 
-/// Whether a range that was made begins and ends so.
+/// Whether a range was created and has these ends.
 fn has_ends(made: Result<KeyRange, NoMemory>, lo: &[u8], hi: Option<&[u8]>) -> bool {
     match made {
         Ok(range) => has_bytes(&range.lo, lo) && is_key(&range.hi, hi),
@@ -97,7 +97,7 @@ fn has_ends(made: Result<KeyRange, NoMemory>, lo: &[u8], hi: Option<&[u8]>) -> b
     }
 }
 
-/// Whether the path above has this key; without a key, there is none above.
+/// Whether the path's parent has this key; without a key, that there is no parent.
 fn has_parent(alloc: Global, path: &Path, want: Option<&[u8]>) -> bool {
     match path.parent(alloc) {
         Ok(up) => is_path(&up, want),
@@ -105,7 +105,7 @@ fn has_parent(alloc: Global, path: &Path, want: Option<&[u8]>) -> bool {
     }
 }
 
-/// Whether the names of the path, from the root on, are these.
+/// Whether these are the names of the path, from the root on.
 fn has_names(path: &Path, want: &[&[u8]]) -> bool {
     let mut left = path.names();
     for name in want {
@@ -117,7 +117,7 @@ fn has_names(path: &Path, want: &[&[u8]]) -> bool {
     left.split_first().is_none()
 }
 
-/// Whether a path lies under that of a text, and in which order their keys stand.
+/// Whether a path is below that of a text, and the order of their keys.
 fn place_by(alloc: Global, first: &Path, other: &[u8]) -> Option<(bool, Ordering)> {
     match path(alloc, other) {
         Ok(other) => Some((first.is_under(&other), first.key().cmp(other.key()))),
@@ -125,12 +125,12 @@ fn place_by(alloc: Global, first: &Path, other: &[u8]) -> Option<(bool, Ordering
     }
 }
 
-/// What is asked of a path, with the answer.
+/// A property of a path, with its expected value.
 #[derive(Clone, Copy)]
-enum Asked {
-    /// Its key, by itself, encoded and back.
+enum Check {
+    /// Its key, both encoded directly and decoded again.
     Key(&'static [u8]),
-    /// The key of this block; no block has that of the root.
+    /// The key of this block; the root has no blocks.
     Block(u32, &'static [u8]),
     /// The two ends of its subtree.
     Ends(&'static [u8], Option<&'static [u8]>),
@@ -140,42 +140,42 @@ enum Asked {
     Parent(&'static [u8], &'static [u8]),
     /// Its names, from the root on.
     Names(&'static [&'static [u8]]),
-    /// Whether it lies under the path of this text.
+    /// Whether it is below the path of this text.
     Under(&'static [u8], bool),
-    /// How its key stands to that of the path of this text.
+    /// The order of its key and that of the path of this text.
     Order(&'static [u8], Ordering),
 }
 
-/// Whether a path answers so.
-fn answers(alloc: Global, path: &Path, asked: Asked) -> bool {
-    match asked {
-        Asked::Key(want) => {
+/// Whether a path has the property.
+fn answers(alloc: Global, path: &Path, check: Check) -> bool {
+    match check {
+        Check::Key(want) => {
             has_bytes(path.key(), want)
                 && is_made(enc(alloc, path), want)
                 && made_leads_to(alloc, enc(alloc, path), Some(want))
         }
-        Asked::Block(index, want) => {
+        Check::Block(index, want) => {
             !path.is_root() && is_made(block_key(alloc, path, index), want)
         }
-        Asked::Ends(lo, hi) => has_ends(subtree(alloc, path), lo, hi),
-        Asked::EndsFrom(from, lo, hi) => {
+        Check::Ends(lo, hi) => has_ends(subtree(alloc, path), lo, hi),
+        Check::EndsFrom(from, lo, hi) => {
             !path.is_root() && has_ends(blocks_from(alloc, path, from), lo, hi)
         }
-        Asked::Parent(parent, last) => {
+        Check::Parent(parent, last) => {
             path.last() == Some(last) && has_parent(alloc, path, Some(parent))
         }
-        Asked::Names(want) => has_names(path, want),
-        Asked::Under(other, want) => {
+        Check::Names(want) => has_names(path, want),
+        Check::Under(other, want) => {
             matches!(place_by(alloc, path, other), Some((under, _)) if under == want)
         }
-        Asked::Order(other, want) => {
+        Check::Order(other, want) => {
             matches!(place_by(alloc, path, other), Some((_, order)) if order == want)
         }
     }
 }
 
-/// A path's text, and what is asked of the path.
-struct Reported(&'static [u8], Asked);
+/// A path's text, and a property of the path.
+struct Reported(&'static [u8], Check);
 
 impl Holds for Reported {
     fn holds(&self, alloc: Global) -> bool {
@@ -187,10 +187,10 @@ impl Holds for Reported {
 }
 
 const KEYS: &[Reported] = &[
-    Reported(b"/", Asked::Key(b"")),
-    Reported(b"/a", Asked::Key(b"\x61\x00")),
-    Reported(b"/a/x", Asked::Key(b"\x61\x00\x78\x00")),
-    Reported(b"/a-b", Asked::Key(b"\x61\x2d\x62\x00")),
+    Reported(b"/", Check::Key(b"")),
+    Reported(b"/a", Check::Key(b"\x61\x00")),
+    Reported(b"/a/x", Check::Key(b"\x61\x00\x78\x00")),
+    Reported(b"/a-b", Check::Key(b"\x61\x2d\x62\x00")),
 ];
 
 #[test]
@@ -198,7 +198,7 @@ fn keys_of_paths(rt: HostRuntime) -> Result<(), usize> {
     all_hold(rt.alloc(), KEYS)
 }
 
-/// Bytes of a key that no path has.
+/// Bytes that are the key of no path.
 struct OfNone(&'static [u8]);
 
 impl Holds for OfNone {
@@ -223,10 +223,10 @@ fn keys_of_no_path(rt: HostRuntime) -> Result<(), usize> {
 }
 
 const BLOCKS: &[Reported] = &[
-    Reported(b"/a", Asked::Block(1, b"\x61\x00\x00\x00\x00\x00\x01")),
+    Reported(b"/a", Check::Block(1, b"\x61\x00\x00\x00\x00\x00\x01")),
     Reported(
         b"/a",
-        Asked::Block(268_435_455, b"\x61\x00\x00\x0f\xff\xff\xff"),
+        Check::Block(268_435_455, b"\x61\x00\x00\x0f\xff\xff\xff"),
     ),
 ];
 
@@ -236,11 +236,11 @@ fn keys_of_blocks(rt: HostRuntime) -> Result<(), usize> {
 }
 
 const ENDS: &[Reported] = &[
-    Reported(b"/", Asked::Ends(b"", None)),
-    Reported(b"/a", Asked::Ends(b"\x61\x00", Some(b"\x61\x01"))),
+    Reported(b"/", Check::Ends(b"", None)),
+    Reported(b"/a", Check::Ends(b"\x61\x00", Some(b"\x61\x01"))),
     Reported(
         b"/a",
-        Asked::EndsFrom(1, b"\x61\x00\x00\x00\x00\x00\x01", Some(b"\x61\x00\x01")),
+        Check::EndsFrom(1, b"\x61\x00\x00\x00\x00\x00\x01", Some(b"\x61\x00\x01")),
     ),
 ];
 
@@ -249,7 +249,7 @@ fn ends_of_ranges(rt: HostRuntime) -> Result<(), usize> {
     all_hold(rt.alloc(), ENDS)
 }
 
-/// A text, and why it is no path; none where it is one.
+/// A text, and why it is not a path; `None` if it is one.
 struct Short(&'static [u8], Option<Errno>);
 
 impl Holds for Short {
@@ -278,7 +278,7 @@ fn short_texts(rt: HostRuntime) -> Result<(), usize> {
     all_hold(rt.alloc(), SHORT)
 }
 
-/// The parts of a long text, and why it is no path, or no name of a snapshot; none where it is one.
+/// The parts of a long text, and why it is not a path, or not the name of a snapshot; `None` if it is one.
 struct Long(
     &'static [u8],
     &'static [u8],
@@ -287,7 +287,7 @@ struct Long(
     Option<Errno>,
 );
 
-/// Whether a text is refused as a path as the row says.
+/// Whether parsing a text as a path fails as the row says.
 fn is_refused(alloc: Global, row: &Long) -> bool {
     match long_text(alloc, row.0, row.1, row.2, row.3) {
         Ok(text) => refusal(alloc, &text) == row.4,
@@ -320,12 +320,12 @@ fn long_texts(rt: HostRuntime) -> Result<(), usize> {
 }
 
 const BELOW: &[Reported] = &[
-    Reported(b"/a/x", Asked::Under(b"/a", true)),
-    Reported(b"/a", Asked::Under(b"/a", true)),
-    Reported(b"/a-b", Asked::Under(b"/", true)),
-    Reported(b"/a", Asked::Under(b"/a/x", false)),
-    Reported(b"/a-b", Asked::Under(b"/a", false)),
-    Reported(b"/", Asked::Under(b"/a", false)),
+    Reported(b"/a/x", Check::Under(b"/a", true)),
+    Reported(b"/a", Check::Under(b"/a", true)),
+    Reported(b"/a-b", Check::Under(b"/", true)),
+    Reported(b"/a", Check::Under(b"/a/x", false)),
+    Reported(b"/a-b", Check::Under(b"/a", false)),
+    Reported(b"/", Check::Under(b"/a", false)),
 ];
 
 #[test]
@@ -334,11 +334,11 @@ fn paths_below_others(rt: HostRuntime) -> Result<(), usize> {
 }
 
 const ORDER: &[Reported] = &[
-    Reported(b"/", Asked::Order(b"/a", Ordering::Less)),
-    Reported(b"/a", Asked::Order(b"/a/x", Ordering::Less)),
-    Reported(b"/a/x", Asked::Order(b"/a-b", Ordering::Less)),
-    Reported(b"/ab", Asked::Order(b"/a-b", Ordering::Greater)),
-    Reported(b"/a", Asked::Order(b"/a", Ordering::Equal)),
+    Reported(b"/", Check::Order(b"/a", Ordering::Less)),
+    Reported(b"/a", Check::Order(b"/a/x", Ordering::Less)),
+    Reported(b"/a/x", Check::Order(b"/a-b", Ordering::Less)),
+    Reported(b"/ab", Check::Order(b"/a-b", Ordering::Greater)),
+    Reported(b"/a", Check::Order(b"/a", Ordering::Equal)),
 ];
 
 #[test]
@@ -346,12 +346,12 @@ fn keys_in_order(rt: HostRuntime) -> Result<(), usize> {
     all_hold(rt.alloc(), ORDER)
 }
 
-/// Whether two keys stand in this order, and their equality says so too.
+/// Whether two keys are in this order, and their equality agrees.
 fn are_ordered(key: &Key, other: &Key, want: Ordering) -> bool {
     key.cmp(other) == want && (*key == *other) == (want == Ordering::Equal)
 }
 
-/// Whether a key and one that was made stand in this order, and their equality says so too.
+/// Whether a key and one that was created are in this order, and their equality agrees.
 fn is_ordered(key: &Key, made: Result<Key, NoMemory>, want: Ordering) -> bool {
     match made {
         Ok(other) => are_ordered(key, &other, want),
@@ -359,7 +359,7 @@ fn is_ordered(key: &Key, made: Result<Key, NoMemory>, want: Ordering) -> bool {
     }
 }
 
-/// The bytes of two keys, and how these stand.
+/// The bytes of two keys, and their order.
 struct Bytes(&'static [u8], &'static [u8], Ordering);
 
 impl Holds for Bytes {
@@ -371,7 +371,7 @@ impl Holds for Bytes {
     }
 }
 
-// Keys that differ within their first eight bytes, keys that differ behind them, and keys that go on with zeros.
+// keys that differ within their first eight bytes, keys that differ after them, and keys that continue with zeros
 const BYTES: &[Bytes] = &[
     Bytes(b"", b"", Ordering::Equal),
     Bytes(b"", b"\x00", Ordering::Less),
@@ -400,9 +400,9 @@ fn keys_of_bytes_in_order(rt: HostRuntime) -> Result<(), usize> {
 }
 
 const PARENTS: &[Reported] = &[
-    Reported(b"/a/x", Asked::Parent(b"a\x00", b"x")),
-    Reported(b"/a", Asked::Parent(b"", b"a")),
-    Reported(b"/a/b-c/de", Asked::Parent(b"a\x00b-c\x00", b"de")),
+    Reported(b"/a/x", Check::Parent(b"a\x00", b"x")),
+    Reported(b"/a", Check::Parent(b"", b"a")),
+    Reported(b"/a/b-c/de", Check::Parent(b"a\x00b-c\x00", b"de")),
 ];
 
 /// Whether a path has neither a name nor a parent.
@@ -417,8 +417,8 @@ fn parents_and_last_names(rt: HostRuntime) -> Result<(), usize> {
 }
 
 const NAMES: &[Reported] = &[
-    Reported(b"/a/xy", Asked::Names(&[b"a", b"xy"])),
-    Reported(b"/", Asked::Names(&[])),
+    Reported(b"/a/xy", Check::Names(&[b"a", b"xy"])),
+    Reported(b"/", Check::Names(&[])),
 ];
 
 #[test]
@@ -426,7 +426,7 @@ fn names_from_the_root(rt: HostRuntime) -> Result<(), usize> {
     all_hold(rt.alloc(), NAMES)
 }
 
-/// Whether a key becomes this one where one path becomes another; it stays where it does not lie under the first.
+/// Whether a key becomes this one if one path is replaced by another; it is unchanged if it is not below the first.
 fn is_rekeyed(alloc: Global, key: &Key, old: &Path, new: &Path, want: Option<&[u8]>) -> bool {
     match rekey(alloc, key, old, new) {
         Ok(moved) => is_key(&moved, want),
@@ -434,7 +434,8 @@ fn is_rekeyed(alloc: Global, key: &Key, old: &Path, new: &Path, want: Option<&[u
     }
 }
 
-/// Whether a key becomes this one where a path becomes that of a text; it stays where it does not lie under the first.
+/// Whether a key becomes this one if a path is replaced by that of a text; it is unchanged if it is not below the
+/// first.
 fn is_rekeyed_to(alloc: Global, key: &Key, old: &Path, new: &[u8], want: Option<&[u8]>) -> bool {
     match path(alloc, new) {
         Ok(new) => is_rekeyed(alloc, key, old, &new, want),
@@ -442,10 +443,10 @@ fn is_rekeyed_to(alloc: Global, key: &Key, old: &Path, new: &[u8], want: Option<
     }
 }
 
-/// An old and a new path, and the key that comes of one below the old path.
+/// An old and a new path, and the new key of one below the old path.
 struct Moved(&'static [u8], &'static [u8], Option<&'static [u8]>);
 
-/// Whether a key moves as the row says.
+/// Whether a key is re-keyed as the row says.
 fn moves_so(alloc: Global, key: &Key, row: &Moved) -> bool {
     match path(alloc, row.0) {
         Ok(old) => is_rekeyed_to(alloc, key, &old, row.1, row.2),
@@ -481,7 +482,7 @@ fn snap(alloc: Global, text: &[u8]) -> Result<SnapName, Errno> {
     SnapName::parse(alloc, text)
 }
 
-/// How many letters a name has, and why it is none of a snapshot.
+/// The number of letters of a name, and why it is not the name of a snapshot.
 struct Lettered(usize, Option<Errno>);
 
 impl Holds for Lettered {
@@ -505,7 +506,7 @@ fn names_of_snapshots(rt: HostRuntime) -> Result<(), usize> {
     all_hold(rt.alloc(), SNAPSHOTS)
 }
 
-/// How a name stands to a text; none where that is no name.
+/// The order of a name and a text; `None` if that is not a name.
 fn snap_order(alloc: Global, name: &SnapName, other: &[u8]) -> Option<Ordering> {
     match snap(alloc, other) {
         Ok(other) => Some(name.cmp(&other)),
@@ -513,7 +514,7 @@ fn snap_order(alloc: Global, name: &SnapName, other: &[u8]) -> Option<Ordering> 
     }
 }
 
-/// Two names, of which the first has its bytes, and how they stand.
+/// Two names, of which the first has its bytes, and their order.
 struct Snaps(&'static [u8], &'static [u8], Ordering);
 
 impl Holds for Snaps {
@@ -538,7 +539,7 @@ fn snapshot_names_in_order(rt: HostRuntime) -> Result<(), usize> {
     all_hold(rt.alloc(), SNAPSHOT_ORDER)
 }
 
-/// A byte that no name of a snapshot has.
+/// A byte that no name of a snapshot contains.
 struct NoLetter(u8);
 
 impl Holds for NoLetter {
@@ -566,7 +567,7 @@ fn bytes_of_no_snapshot(rt: HostRuntime) -> Result<(), usize> {
     all_hold(rt.alloc(), NO_LETTERS)
 }
 
-/// A refusal, its number and its name.
+/// An errno, its number and its name.
 struct Numbered(Errno, u8, &'static str);
 
 impl Holds for Numbered {

@@ -1,12 +1,12 @@
-//! Flushes of several messages on numbers into a leaf, at keys of one byte.
-use crate::trees::{Course, all_go, append};
+//! Tests of flushes of several messages into a leaf, at keys of one byte.
+use crate::trees::{TreeTest, all_pass, append};
 use flush::flush_leaf;
 use node::{Body, Node, Place, Shape, Slot, StepReply, Tree};
 use pathkey::Key;
 use std::alloc::Global;
 use test_support::{Digit, Plain, are_numbered};
 
-/// Whether these entries stand before the twelve.
+/// Whether these entries are before the twelve.
 fn begin_so(entries: &[(Key, u64)], wanted: &[(u8, u64)]) -> bool {
     match entries.len().checked_sub(12) {
         Some(count) => are_numbered(&entries[..count], wanted),
@@ -33,8 +33,8 @@ fn is_numbered(root: &Node<Digit>, wanted: &[(u8, u64)]) -> bool {
     }
 }
 
-/// Whether as many of the messages as the number says go down in one flush.
-fn go_down(alloc: Global, tree: &mut Tree<Digit>, msgs: &[Plain], number: u32) -> bool {
+/// Whether one flush moves the given number of messages down.
+fn are_flushed(alloc: Global, tree: &mut Tree<Digit>, msgs: &[Plain], number: u32) -> bool {
     append(alloc, tree, msgs) && flush_leaf(alloc, tree, Place::root(), 0) == StepReply::Did(number)
 }
 
@@ -45,10 +45,10 @@ const SHAPE: Shape = Shape {
     leaf: 16,
 };
 
-/// The first entries, of which each has ten times its key.
+/// The first entries; the value of each is ten times its key.
 const THREE: &[Plain] = &[Plain::Put(2, 20), Plain::Put(4, 40), Plain::Put(6, 60)];
 
-/// Twelve entries behind them: they leave room for one more.
+/// Twelve entries after them, which leave space for one more.
 const TWELVE: &[Plain] = &[
     Plain::Put(200, 0),
     Plain::Put(201, 0),
@@ -64,7 +64,7 @@ const TWELVE: &[Plain] = &[
     Plain::Put(211, 0),
 ];
 
-/// Sixteen messages of keys between, which have no entry, so that all messages are enough for a pass.
+/// Sixteen messages for keys between, which have no entry, so that there are enough messages for a pass over the leaf.
 const SIXTEEN: &[Plain] = &[
     Plain::Del(100),
     Plain::Del(101),
@@ -84,11 +84,11 @@ const SIXTEEN: &[Plain] = &[
     Plain::Del(115),
 ];
 
-/// Messages for the leaf, before the sixteen; how many of all go down; and the entries before the twelve then.
+/// Messages for the leaf, before the sixteen; how many of all are moved down; and the entries before the twelve then.
 struct Row(&'static [Plain], u32, &'static [(u8, u64)]);
 
 const ROWS: &[Row] = &[
-    // keys without entries: before the entries, between them and behind them
+    // keys without entries: before the entries, between them and after them
     Row(
         &[
             Plain::Del(1),
@@ -109,7 +109,7 @@ const ROWS: &[Row] = &[
         18,
         &[(2, 201), (4, 40), (6, 60), (9, 9)],
     ),
-    // entries that go make room for others
+    // entries that are removed make space for others
     Row(
         &[
             Plain::Del(2),
@@ -137,7 +137,7 @@ const ROWS: &[Row] = &[
         19,
         &[(2, 5), (4, 40)],
     ),
-    // a range-delete goes before the messages of keys
+    // a range-delete before the messages of keys
     Row(
         &[
             Plain::DelRange(2, Some(5)),
@@ -177,18 +177,18 @@ const ROWS: &[Row] = &[
     ),
 ];
 
-/// A tree's first leaf gets its entries, and then comes to what the row says.
-impl Course for Row {
-    fn goes(&self, alloc: Global, tree: &mut Tree<Digit>) -> bool {
-        go_down(alloc, tree, THREE, 3)
-            && go_down(alloc, tree, TWELVE, 12)
+/// A tree's first leaf receives its entries, and is then as the row says.
+impl TreeTest for Row {
+    fn passes(&self, alloc: Global, tree: &mut Tree<Digit>) -> bool {
+        are_flushed(alloc, tree, THREE, 3)
+            && are_flushed(alloc, tree, TWELVE, 12)
             && append(alloc, tree, self.0)
-            && go_down(alloc, tree, SIXTEEN, self.1)
+            && are_flushed(alloc, tree, SIXTEEN, self.1)
             && is_numbered(tree.root(), self.2)
     }
 }
 
 #[test]
 fn takes_several_messages_at_once(rt: HostRuntime) -> Result<(), usize> {
-    all_go(rt.alloc(), SHAPE, ROWS)
+    all_pass(rt.alloc(), SHAPE, ROWS)
 }

@@ -1,4 +1,4 @@
-//! Messages on numbers at keys of one byte, applied to leaves.
+//! Tests of messages that are applied to leaves, at keys of one byte.
 ghost use Rattle.std.specs.Prelude.{None, [], IfOk};
 ghost use Rattle.node.specs.Lawful.{Rises};
 
@@ -22,7 +22,7 @@ fn after(
     }
 }
 
-/// The entries with keys 2, 4, 6 and 8, of which each has ten times its key.
+/// The entries with keys 2, 4, 6 and 8; the value of each is ten times its key.
 fn even(alloc: Global) -> Result<Vec<(Key, u64)>, NoMemory>
     ensures { IfOk result (λ v. Rises [] None v.items) }
 {
@@ -35,11 +35,11 @@ fn even(alloc: Global) -> Result<Vec<(Key, u64)>, NoMemory>
     after(alloc, &[], &puts)
 }
 
-/// Two messages, and what the four entries are after them.
+/// Two messages, and the four entries after them.
 struct Row([Plain; 2], &'static [(u8, u64)]);
 
-/// Whether the entries come to what the row says.
-fn comes_to(alloc: Global, entries: &[(Key, u64)], row: &Row) -> bool
+/// Whether the entries become those of the row.
+fn becomes(alloc: Global, entries: &[(Key, u64)], row: &Row) -> bool
     requires { Rises [] None entries.now }
 {
     match after(alloc, entries, &row.0) {
@@ -51,7 +51,7 @@ fn comes_to(alloc: Global, entries: &[(Key, u64)], row: &Row) -> bool
 impl Holds for Row {
     fn holds(&self, alloc: Global) -> bool {
         match even(alloc) {
-            Ok(entries) => comes_to(alloc, &entries, self),
+            Ok(entries) => becomes(alloc, &entries, self),
             Err(_) => false,
         }
     }
@@ -95,7 +95,8 @@ fn applies_each_form_of_message(rt: HostRuntime) -> Result<(), usize> {
     all_hold(rt.alloc(), ROWS)
 }
 
-/// Where a key's entry stands among the entries, or would stand; none where memory is refused.
+/// The index of a key's entry among the entries, or the index where it would be inserted; `None` if an allocation
+/// fails.
 fn place_of(alloc: Global, entries: &[(Key, u64)], at: u8) -> Option<Result<usize, usize>>
     requires { Rises [] None entries.now }
 {
@@ -105,10 +106,10 @@ fn place_of(alloc: Global, entries: &[(Key, u64)], at: u8) -> Option<Result<usiz
     }
 }
 
-/// A key, and where it stands among the four entries.
-struct Stands(u8, Result<usize, usize>);
+/// A key, and the result of a binary search for it among the four entries.
+struct Position(u8, Result<usize, usize>);
 
-impl Holds for Stands {
+impl Holds for Position {
     fn holds(&self, alloc: Global) -> bool {
         match even(alloc) {
             Ok(entries) => place_of(alloc, &entries, self.0) == Some(self.1),
@@ -117,13 +118,13 @@ impl Holds for Stands {
     }
 }
 
-const PLACES: &[Stands] = &[
-    Stands(1, Err(0)),
-    Stands(2, Ok(0)),
-    Stands(3, Err(1)),
-    Stands(6, Ok(2)),
-    Stands(8, Ok(3)),
-    Stands(9, Err(4)),
+const PLACES: &[Position] = &[
+    Position(1, Err(0)),
+    Position(2, Ok(0)),
+    Position(3, Err(1)),
+    Position(6, Ok(2)),
+    Position(8, Ok(3)),
+    Position(9, Err(4)),
 ];
 
 #[test]
@@ -131,7 +132,7 @@ fn finds_entries_and_the_gaps_between(rt: HostRuntime) -> Result<(), usize> {
     all_hold(rt.alloc(), PLACES)
 }
 
-/// Whether five entries are divided at the key 4.
+/// Whether five entries are split at the key 4.
 fn divides(alloc: Global, front: &mut Vec<(Key, u64)>) -> bool
     requires { Rises [] None front.old.items }
 {
@@ -149,7 +150,7 @@ fn divides(alloc: Global, front: &mut Vec<(Key, u64)>) -> bool
     }
 }
 
-/// Whether the entries, and one more with the key 3, are divided at the key 4.
+/// Whether the entries, and one more with the key 3, are split at the key 4.
 fn divides_after(alloc: Global, entries: &[(Key, u64)]) -> bool
     requires { Rises [] None entries.now }
 {
@@ -159,7 +160,7 @@ fn divides_after(alloc: Global, entries: &[(Key, u64)]) -> bool
     }
 }
 
-/// Whether the four entries, and one more with the key 3, are divided at the key 4.
+/// Whether the four entries, and one more with the key 3, are split at the key 4.
 fn divides_even(alloc: Global) -> bool {
     match even(alloc) {
         Ok(entries) => divides_after(alloc, &entries),

@@ -1,8 +1,8 @@
-//! Tests of the layers of the tree: paths, keys, messages and pending lists; entries in shared chunks and ranges that lie apart; nodes,
-//! steps, jobs, look-ups and searches; and of whole trees, where steps of every kind work between messages, and each look-up is compared
-//! with a plain row of numbers.
+//! Tests of the layers of the tree: paths, keys, messages and pending lists; copy-on-write maps and sets of disjoint ranges; nodes,
+//! steps, jobs, look-ups and scans; and of whole trees, in which steps of every kind are done between messages, and each look-up is
+//! compared with a reference array of numbers.
 //!
-//! They stand in a crate of their own, since what a crate with tests proves is proved once more with them.
+//! They are in a crate of their own, since the proofs of a crate with tests are checked again with the tests.
 #![tactic(auto)]
 
 #[cfg(test)]

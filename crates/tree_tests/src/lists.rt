@@ -1,4 +1,4 @@
-//! Each call on a list that shares no row.
+//! Tests of each operation on a copy-on-write map whose chunks are not shared.
 use crate::numbers::{
     Number, Replace, at, drop_some, has, is_put, is_rejoined, key, numbers, put, scattered,
 };
@@ -6,7 +6,7 @@ use cow_map::{CowMap, Edited};
 use pathkey::{Key, KeyRange, NoMemory};
 use std::alloc::Global;
 
-/// Whether a thousand numbers of a list are met in order.
+/// Whether iterating over a thousand numbers of a map is in order.
 fn are_in_order(list: Result<CowMap<Number>, NoMemory>) -> bool {
     match list {
         Ok(list) => has(&list, 0, 1000) && !list.is_empty(),
@@ -21,7 +21,7 @@ fn entries_rise(rt: HostRuntime) {
     assert!(rt; are_in_order(scattered(alloc)));
 }
 
-/// Whether a put, an edit and an edit where nothing stands answer as they should, and change no other number.
+/// Whether a put, an edit and an edit of an absent key return what they should, and change no other number.
 fn answer_in_turn(alloc: Global, list: &mut CowMap<Number>) -> bool {
     is_put(alloc, list, 7, 70, Some(7))
         && edited(alloc, list, 7, 71) == Some(70)
@@ -30,7 +30,7 @@ fn answer_in_turn(alloc: Global, list: &mut CowMap<Number>) -> bool {
         && at(alloc, list, 7) == Ok(Some(71))
 }
 
-/// The number whose place another takes at a key; none where there is none or memory is refused.
+/// The old number at a key that an edit replaces; `None` if there is none or an allocation fails.
 fn edited(alloc: Global, list: &mut CowMap<Number>, at: u16, number: u64) -> Option<u64> {
     match key(alloc, at) {
         Ok(at) => match list.edit(&at, Replace(number)) {
@@ -41,7 +41,7 @@ fn edited(alloc: Global, list: &mut CowMap<Number>, at: u16, number: u64) -> Opt
     }
 }
 
-/// Whether an edit comes back from a key at which nothing stands.
+/// Whether an edit of an absent key is returned.
 fn is_absent(alloc: Global, list: &mut CowMap<Number>, at: u16) -> bool {
     match key(alloc, at) {
         Ok(at) => matches!(list.edit(&at, Replace(0)), Edited::Absent(Replace(0))),
@@ -49,7 +49,7 @@ fn is_absent(alloc: Global, list: &mut CowMap<Number>, at: u16) -> bool {
     }
 }
 
-/// Whether puts and edits answer as they should in a new list of 300 numbers.
+/// Whether puts and edits return what they should in a new map of 300 numbers.
 fn answers(alloc: Global) -> bool {
     match numbers(alloc, 300) {
         Ok(mut list) => answer_in_turn(alloc, &mut list),
@@ -62,14 +62,14 @@ fn puts_and_edits_answer(rt: HostRuntime) {
     assert!(rt; answers(rt.alloc()));
 }
 
-/// Whether the numbers of a range leave the list, and the others stay.
+/// Whether the numbers of a range are removed from the map, and the others remain.
 fn leave(alloc: Global, list: &mut CowMap<Number>, range: &KeyRange, from: u16, to: u16) -> bool {
     takes_out(list, range, from, to)
         && at(alloc, list, 999) == Ok(Some(999))
         && at(alloc, list, from) == Ok(None)
 }
 
-/// Whether just the numbers of a range come out, and are whole when the list was cut and joined behind them.
+/// Whether exactly the numbers of a range are extracted, with the map split and merged after them.
 fn takes_out(list: &mut CowMap<Number>, range: &KeyRange, from: u16, to: u16) -> bool {
     match list.extract_range(range) {
         Ok(out) => is_rejoined(list, &range.lo, from, to) && has(&out, from as u64, to as u64),
@@ -84,7 +84,7 @@ fn range(alloc: Global, from: u16, to: u16) -> Result<KeyRange, NoMemory> {
     Ok(KeyRange { lo, hi: Some(hi) })
 }
 
-/// Whether the numbers from one up to another leave the list, and the others stay.
+/// Whether the numbers from one up to another are removed from the map, and the others remain.
 fn range_leaves(alloc: Global, list: &mut CowMap<Number>, from: u16, to: u16) -> bool {
     match range(alloc, from, to) {
         Ok(range) => leave(alloc, list, &range, from, to),
@@ -92,7 +92,7 @@ fn range_leaves(alloc: Global, list: &mut CowMap<Number>, from: u16, to: u16) ->
     }
 }
 
-/// Whether the numbers from one up to another leave a new list of a thousand, and the others stay.
+/// Whether the numbers from one up to another are removed from a new map of a thousand, and the others remain.
 fn ranges_leave_from(alloc: Global, from: u16, to: u16) -> bool {
     match scattered(alloc) {
         Ok(mut list) => range_leaves(alloc, &mut list, from, to),
@@ -107,7 +107,8 @@ fn ranges_leave(rt: HostRuntime) {
     assert!(rt; ranges_leave_from(alloc, 3, 900));
 }
 
-/// The numbers next to one: the first from it on, the first behind it, the last before it, the last up to it, and the last of all.
+/// The neighbours of a number: the first at or after it, the first after it, the last before it, the last at or before it, and the
+/// last of all.
 fn next_to(list: &CowMap<Number>, at: &Key) -> [Option<u64>; 5] {
     [
         number(list.lower_bound(at).peek()),
@@ -126,7 +127,7 @@ fn number(found: Option<(&Key, &Number)>) -> Option<u64> {
     }
 }
 
-/// Whether these numbers stand next to one.
+/// Whether these are the neighbours of a number.
 fn has_next_to(alloc: Global, list: &CowMap<Number>, at: u16, wanted: &[Option<u64>; 5]) -> bool {
     match key(alloc, at) {
         Ok(at) => next_to(list, &at) == *wanted,
@@ -145,7 +146,7 @@ fn with_a_gap(alloc: Global) -> Result<CowMap<Number>, NoMemory> {
     Ok(list)
 }
 
-/// Whether those next to a number that is there are found, and those next to one that is not.
+/// Whether the neighbours of a number in the map are found, and those of one that is absent.
 fn neighbours(alloc: Global) -> bool {
     match with_a_gap(alloc) {
         Ok(list) => {
@@ -160,12 +161,12 @@ fn neighbours_are_found(rt: HostRuntime) {
     assert!(rt; neighbours(rt.alloc()));
 }
 
-/// Whether numbers leave a list from the front, one by one and many at once, and those behind them stay.
+/// Whether numbers are removed from the front of a map, one by one and many at once, and those after them remain.
 fn leave_in_front(alloc: Global, list: &mut CowMap<Number>) -> bool {
     drop_some(list, 150) && !list.is_empty() && leave_behind(alloc, list, 600)
 }
 
-/// Whether the numbers from one on leave the list, and those from 150 on stay before them.
+/// Whether the numbers from one on are removed from the map, and those from 150 up to it remain.
 fn leave_behind(alloc: Global, list: &mut CowMap<Number>, from: u16) -> bool {
     match parted_at(alloc, list, from) {
         Ok(back) => has(list, 150, from as u64) && has(&back, from as u64, 1000),
@@ -173,7 +174,7 @@ fn leave_behind(alloc: Global, list: &mut CowMap<Number>, from: u16) -> bool {
     }
 }
 
-/// The list's numbers from one on, out of the list.
+/// Splits off the map's numbers from one on.
 fn parted_at(
     alloc: Global,
     list: &mut CowMap<Number>,
@@ -183,7 +184,7 @@ fn parted_at(
     list.split_off(&from)
 }
 
-/// Whether numbers leave a new list of a thousand from the front, and those behind them stay.
+/// Whether numbers are removed from the front of a new map of a thousand, and those after them remain.
 fn front(alloc: Global) -> bool {
     match numbers(alloc, 1000) {
         Ok(mut list) => leave_in_front(alloc, &mut list),

@@ -1,5 +1,5 @@
-//! Values through messages that wait in the root, by rows of messages.
-use crate::trees::{Course, SMALL, all_go, append, goes_anew, has};
+//! Tests of look-ups through messages that are pending in the root.
+use crate::trees::{SMALL, TreeTest, all_pass, append, has, passes_on_new_tree};
 use node::Tree;
 use std::alloc::Global;
 use test_support::{Digit, Plain};
@@ -7,8 +7,8 @@ use test_support::{Digit, Plain};
 /// Messages, and the value at the key 3 after them.
 struct Row(&'static [Plain], Option<u64>);
 
-impl Course for Row {
-    fn goes(&self, alloc: Global, tree: &mut Tree<Digit>) -> bool {
+impl TreeTest for Row {
+    fn passes(&self, alloc: Global, tree: &mut Tree<Digit>) -> bool {
         append(alloc, tree, self.0) && has(alloc, tree, 3, self.1)
     }
 }
@@ -27,7 +27,7 @@ const ROWS: &[Row] = &[
 
 #[test]
 fn finds_what_all_messages_make_of_a_key(rt: HostRuntime) -> Result<(), usize> {
-    all_go(rt.alloc(), SMALL, ROWS)
+    all_pass(rt.alloc(), SMALL, ROWS)
 }
 
 /// Whether a message to one tree leaves the other without a value.
@@ -37,7 +37,7 @@ fn is_alone(alloc: Global, tree: &mut Tree<Digit>, shared: &Tree<Digit>) -> bool
         && has(alloc, shared, 3, None)
 }
 
-/// Whether a tree without a value and its share part.
+/// Whether a tree without a value and a share of it become independent.
 fn parts_from_its_share(alloc: Global, tree: &mut Tree<Digit>) -> bool {
     match tree.share() {
         Ok(shared) => is_alone(alloc, tree, &shared),
@@ -45,16 +45,16 @@ fn parts_from_its_share(alloc: Global, tree: &mut Tree<Digit>) -> bool {
     }
 }
 
-/// Nothing is found in a tree, and it and its share part.
+/// A look-up finds nothing in a new tree, and the tree and its share become independent.
 struct Parting;
 
-impl Course for Parting {
-    fn goes(&self, alloc: Global, tree: &mut Tree<Digit>) -> bool {
+impl TreeTest for Parting {
+    fn passes(&self, alloc: Global, tree: &mut Tree<Digit>) -> bool {
         has(alloc, tree, 3, None) && parts_from_its_share(alloc, tree)
     }
 }
 
 #[test]
 fn finds_nothing_in_a_new_tree_and_each_value_in_its_own_tree(rt: HostRuntime) {
-    assert!(rt; goes_anew(rt.alloc(), SMALL, &Parting));
+    assert!(rt; passes_on_new_tree(rt.alloc(), SMALL, &Parting));
 }

@@ -1,4 +1,4 @@
-//! Messages on numbers, at keys of one byte, beside the same messages told in plain numbers.
+//! Tests of messages and pending lists, at keys of one byte, against the same messages in plain numbers.
 use crate::numbers;
 use message::{Msg, cut, touches};
 use pathkey::{Key, KeyRange, NoMemory};
@@ -14,7 +14,7 @@ fn list_of(alloc: Global, msgs: &[Plain]) -> Result<Pending<Digit>, NoMemory> {
     Ok(list)
 }
 
-/// Puts a message behind those of a list.
+/// Appends a message to a list.
 fn push(alloc: Global, list: &mut Pending<Digit>, plain: Plain) -> Result<(), NoMemory> {
     list.reserve(1)?;
     let msg = plain.message(alloc)?;
@@ -22,18 +22,18 @@ fn push(alloc: Global, list: &mut Pending<Digit>, plain: Plain) -> Result<(), No
     Ok(())
 }
 
-/// What is asked of a message, with the answer.
+/// A property of a message, with its expected value.
 #[derive(Clone, Copy)]
-enum Asked {
+enum Check {
     /// Whether it touches the key of a number.
     Touches(u8, bool),
-    /// What it makes of a value at the key 3.
-    Lays(Option<u64>, Option<u64>),
-    /// Its piece in the range of these two ends.
+    /// The result of applying it to a value at the key 3.
+    TurnsInto(Option<u64>, Option<u64>),
+    /// Its part in the range with these two ends.
     Cut(u8, Option<u8>, Option<Plain>),
 }
 
-/// Whether a message touches the key of a number; none where memory is refused.
+/// Whether a message touches the key of a number; `None` if an allocation fails.
 fn touches_at(alloc: Global, msg: &Msg<Digit>, at: u8) -> Option<bool> {
     match key(alloc, at) {
         Ok(key) => Some(touches(msg, &key)),
@@ -41,15 +41,15 @@ fn touches_at(alloc: Global, msg: &Msg<Digit>, at: u8) -> Option<bool> {
     }
 }
 
-/// Whether a message makes this of a value at the key 3.
-fn lays(alloc: Global, msg: &Msg<Digit>, old: Option<u64>, wanted: Option<u64>) -> bool {
+/// Whether a message turns a value at the key 3 into this one.
+fn turns_into(alloc: Global, msg: &Msg<Digit>, old: Option<u64>, wanted: Option<u64>) -> bool {
     match key(alloc, 3) {
         Ok(at) => msg.apply_msg(alloc, &at, old) == Ok(wanted),
         Err(_) => false,
     }
 }
 
-/// Whether this is the plain form of a message, or there is none of both.
+/// Whether this is the plain form of a message, or neither exists.
 fn is_plain(msg: &Option<Msg<Digit>>, wanted: Option<Plain>) -> bool {
     match msg {
         Some(msg) => wanted == Some(Plain::of(msg)),
@@ -57,7 +57,7 @@ fn is_plain(msg: &Option<Msg<Digit>>, wanted: Option<Plain>) -> bool {
     }
 }
 
-/// Whether this is the piece of a message in a range.
+/// Whether this is the part of a message in a range.
 fn is_cut(alloc: Global, msg: &Msg<Digit>, range: &KeyRange, wanted: Option<Plain>) -> bool {
     match cut(alloc, msg, range) {
         Ok(piece) => is_plain(&piece, wanted),
@@ -65,7 +65,7 @@ fn is_cut(alloc: Global, msg: &Msg<Digit>, range: &KeyRange, wanted: Option<Plai
     }
 }
 
-/// Whether this is the piece of a message in the range of two numbers.
+/// Whether this is the part of a message in the range of two numbers.
 fn is_cut_to(
     alloc: Global,
     msg: &Msg<Digit>,
@@ -78,17 +78,17 @@ fn is_cut_to(
     }
 }
 
-/// Whether a message answers so.
-fn answers(alloc: Global, msg: &Msg<Digit>, asked: Asked) -> bool {
-    match asked {
-        Asked::Touches(at, wanted) => touches_at(alloc, msg, at) == Some(wanted),
-        Asked::Lays(old, wanted) => lays(alloc, msg, old, wanted),
-        Asked::Cut(lo, hi, wanted) => is_cut_to(alloc, msg, (lo, hi), wanted),
+/// Whether a message has the property.
+fn answers(alloc: Global, msg: &Msg<Digit>, check: Check) -> bool {
+    match check {
+        Check::Touches(at, wanted) => touches_at(alloc, msg, at) == Some(wanted),
+        Check::TurnsInto(old, wanted) => turns_into(alloc, msg, old, wanted),
+        Check::Cut(lo, hi, wanted) => is_cut_to(alloc, msg, (lo, hi), wanted),
     }
 }
 
-/// A message, and what is asked of it.
-struct Reported(Plain, Asked);
+/// A message, and a property of it.
+struct Reported(Plain, Check);
 
 impl Holds for Reported {
     fn holds(&self, alloc: Global) -> bool {
@@ -100,16 +100,16 @@ impl Holds for Reported {
 }
 
 const TOUCHED: &[Reported] = &[
-    Reported(Plain::DelRange(3, Some(5)), Asked::Touches(2, false)),
-    Reported(Plain::DelRange(3, Some(5)), Asked::Touches(3, true)),
-    Reported(Plain::DelRange(3, Some(5)), Asked::Touches(4, true)),
-    Reported(Plain::DelRange(3, Some(5)), Asked::Touches(5, false)),
-    Reported(Plain::DelRange(3, None), Asked::Touches(2, false)),
-    Reported(Plain::DelRange(3, None), Asked::Touches(255, true)),
-    Reported(Plain::DelRange(3, Some(3)), Asked::Touches(3, false)),
-    Reported(Plain::Put(3, 7), Asked::Touches(3, true)),
-    Reported(Plain::Del(3), Asked::Touches(4, false)),
-    Reported(Plain::Edit(3, 7), Asked::Touches(2, false)),
+    Reported(Plain::DelRange(3, Some(5)), Check::Touches(2, false)),
+    Reported(Plain::DelRange(3, Some(5)), Check::Touches(3, true)),
+    Reported(Plain::DelRange(3, Some(5)), Check::Touches(4, true)),
+    Reported(Plain::DelRange(3, Some(5)), Check::Touches(5, false)),
+    Reported(Plain::DelRange(3, None), Check::Touches(2, false)),
+    Reported(Plain::DelRange(3, None), Check::Touches(255, true)),
+    Reported(Plain::DelRange(3, Some(3)), Check::Touches(3, false)),
+    Reported(Plain::Put(3, 7), Check::Touches(3, true)),
+    Reported(Plain::Del(3), Check::Touches(4, false)),
+    Reported(Plain::Edit(3, 7), Check::Touches(2, false)),
 ];
 
 #[test]
@@ -118,60 +118,66 @@ fn touches_from_the_low_end_up_to_the_high_end(rt: HostRuntime) -> Result<(), us
 }
 
 const LAID: &[Reported] = &[
-    Reported(Plain::Put(3, 7), Asked::Lays(Some(12), Some(7))),
-    Reported(Plain::Put(3, 7), Asked::Lays(None, Some(7))),
-    Reported(Plain::Put(4, 7), Asked::Lays(Some(12), Some(12))),
-    Reported(Plain::Del(3), Asked::Lays(Some(12), None)),
-    Reported(Plain::Del(3), Asked::Lays(None, None)),
-    Reported(Plain::DelRange(3, Some(5)), Asked::Lays(Some(12), None)),
-    Reported(Plain::DelRange(1, Some(3)), Asked::Lays(Some(12), Some(12))),
-    Reported(Plain::Edit(3, 7), Asked::Lays(Some(12), Some(127))),
-    Reported(Plain::Edit(3, 7), Asked::Lays(None, Some(7))),
-    Reported(Plain::Edit(4, 7), Asked::Lays(None, None)),
+    Reported(Plain::Put(3, 7), Check::TurnsInto(Some(12), Some(7))),
+    Reported(Plain::Put(3, 7), Check::TurnsInto(None, Some(7))),
+    Reported(Plain::Put(4, 7), Check::TurnsInto(Some(12), Some(12))),
+    Reported(Plain::Del(3), Check::TurnsInto(Some(12), None)),
+    Reported(Plain::Del(3), Check::TurnsInto(None, None)),
+    Reported(
+        Plain::DelRange(3, Some(5)),
+        Check::TurnsInto(Some(12), None),
+    ),
+    Reported(
+        Plain::DelRange(1, Some(3)),
+        Check::TurnsInto(Some(12), Some(12)),
+    ),
+    Reported(Plain::Edit(3, 7), Check::TurnsInto(Some(12), Some(127))),
+    Reported(Plain::Edit(3, 7), Check::TurnsInto(None, Some(7))),
+    Reported(Plain::Edit(4, 7), Check::TurnsInto(None, None)),
 ];
 
 #[test]
-fn lays_each_message_on_a_value_and_on_none(rt: HostRuntime) -> Result<(), usize> {
+fn applies_each_message_to_a_value_and_to_none(rt: HostRuntime) -> Result<(), usize> {
     all_hold(rt.alloc(), LAID)
 }
 
 const CUT: &[Reported] = &[
     Reported(
         Plain::DelRange(4, Some(5)),
-        Asked::Cut(3, Some(6), Some(Plain::DelRange(4, Some(5)))),
+        Check::Cut(3, Some(6), Some(Plain::DelRange(4, Some(5)))),
     ),
     Reported(
         Plain::DelRange(3, Some(6)),
-        Asked::Cut(3, Some(6), Some(Plain::DelRange(3, Some(6)))),
+        Check::Cut(3, Some(6), Some(Plain::DelRange(3, Some(6)))),
     ),
     Reported(
         Plain::DelRange(2, Some(5)),
-        Asked::Cut(3, Some(6), Some(Plain::DelRange(3, Some(5)))),
+        Check::Cut(3, Some(6), Some(Plain::DelRange(3, Some(5)))),
     ),
     Reported(
         Plain::DelRange(4, Some(9)),
-        Asked::Cut(3, Some(6), Some(Plain::DelRange(4, Some(6)))),
+        Check::Cut(3, Some(6), Some(Plain::DelRange(4, Some(6)))),
     ),
     Reported(
         Plain::DelRange(0, None),
-        Asked::Cut(3, Some(6), Some(Plain::DelRange(3, Some(6)))),
+        Check::Cut(3, Some(6), Some(Plain::DelRange(3, Some(6)))),
     ),
     Reported(
         Plain::DelRange(4, None),
-        Asked::Cut(3, None, Some(Plain::DelRange(4, None))),
+        Check::Cut(3, None, Some(Plain::DelRange(4, None))),
     ),
-    Reported(Plain::DelRange(1, Some(3)), Asked::Cut(3, Some(6), None)),
-    Reported(Plain::DelRange(6, Some(9)), Asked::Cut(3, Some(6), None)),
+    Reported(Plain::DelRange(1, Some(3)), Check::Cut(3, Some(6), None)),
+    Reported(Plain::DelRange(6, Some(9)), Check::Cut(3, Some(6), None)),
     Reported(
         Plain::Put(3, 7),
-        Asked::Cut(3, Some(6), Some(Plain::Put(3, 7))),
+        Check::Cut(3, Some(6), Some(Plain::Put(3, 7))),
     ),
-    Reported(Plain::Put(6, 7), Asked::Cut(3, Some(6), None)),
-    Reported(Plain::Del(2), Asked::Cut(3, None, None)),
-    Reported(Plain::Del(255), Asked::Cut(3, None, Some(Plain::Del(255)))),
+    Reported(Plain::Put(6, 7), Check::Cut(3, Some(6), None)),
+    Reported(Plain::Del(2), Check::Cut(3, None, None)),
+    Reported(Plain::Del(255), Check::Cut(3, None, Some(Plain::Del(255)))),
     Reported(
         Plain::Edit(5, 7),
-        Asked::Cut(3, Some(6), Some(Plain::Edit(5, 7))),
+        Check::Cut(3, Some(6), Some(Plain::Edit(5, 7))),
     ),
 ];
 
@@ -180,7 +186,7 @@ fn cuts_to_a_range(rt: HostRuntime) -> Result<(), usize> {
     all_hold(rt.alloc(), CUT)
 }
 
-/// Whether a list makes this of a value at the key of a number.
+/// Whether applying a list to a value at the key of a number gives this one.
 fn applies_at(
     alloc: Global,
     list: &Pending<Digit>,
@@ -194,7 +200,7 @@ fn applies_at(
     }
 }
 
-/// Whether the messages make this of a value at the key of a number.
+/// Whether applying the messages to a value at the key of a number gives this one.
 fn apply_at(alloc: Global, msgs: &[Plain], at: u8, old: Option<u64>, wanted: Option<u64>) -> bool {
     match list_of(alloc, msgs) {
         Ok(list) => applies_at(alloc, &list, at, old, wanted),
@@ -202,7 +208,7 @@ fn apply_at(alloc: Global, msgs: &[Plain], at: u8, old: Option<u64>, wanted: Opt
     }
 }
 
-/// Messages, and what they make of the value 9 at the key 3.
+/// Messages, and the result of applying them to the value 9 at the key 3.
 struct Applied(&'static [Plain], Option<u64>);
 
 impl Holds for Applied {
@@ -225,7 +231,7 @@ fn applies_the_oldest_message_first(rt: HostRuntime) -> Result<(), usize> {
     all_hold(rt.alloc(), APPLIED)
 }
 
-/// What the messages make of a value at the key of a number, one after the other.
+/// The result of applying the messages to a value at the key of a number, one after the other.
 fn after(msgs: &[Plain], at: u8, old: Option<u64>) -> Option<u64> {
     let mut value = old;
     for plain in msgs {
@@ -247,7 +253,7 @@ const TEN: &[Plain] = &[
     Plain::Put(7, 1),
 ];
 
-/// Whether the ten messages make of each of ten keys' value what they make of it one by one.
+/// Whether applying the ten messages at once to the value of each of ten keys is the same as one by one.
 fn apply_ten(alloc: Global, old: Option<u64>) -> bool {
     for at in 0..10 {
         if !apply_at(alloc, TEN, at, old, after(TEN, at, old)) {
@@ -263,7 +269,7 @@ fn applies_as_the_messages_do_one_by_one(rt: HostRuntime) {
     assert!(rt; apply_ten(rt.alloc(), Some(23)));
 }
 
-/// Puts messages behind those of a list; whether the list takes all of them.
+/// Appends messages to a list; returns whether all were appended.
 fn takes_all(list: &mut Pending<Digit>, newer: &mut Vec<Msg<Digit>>) -> bool {
     if list.reserve(newer.len()).is_err() {
         return false;
@@ -272,7 +278,7 @@ fn takes_all(list: &mut Pending<Digit>, newer: &mut Vec<Msg<Digit>>) -> bool {
     newer.is_empty()
 }
 
-/// Puts plain messages behind those of a list; whether the list takes all of them.
+/// Appends plain messages to a list; returns whether all were appended.
 fn takes(alloc: Global, list: &mut Pending<Digit>, newer: &[Plain]) -> bool {
     match batch(alloc, newer) {
         Ok(mut newer) => takes_all(list, &mut newer),
@@ -280,7 +286,7 @@ fn takes(alloc: Global, list: &mut Pending<Digit>, newer: &[Plain]) -> bool {
     }
 }
 
-/// Whether a copy of the first messages is these.
+/// Whether copies of the first messages are these.
 fn begins_with(alloc: Global, list: &Pending<Digit>, front: &[Plain]) -> bool {
     if list.len() < front.len() {
         return false;
@@ -291,7 +297,7 @@ fn begins_with(alloc: Global, list: &Pending<Digit>, front: &[Plain]) -> bool {
     }
 }
 
-/// Gives up so many messages at the front; whether there were so many.
+/// Removes that many messages from the front; returns whether there were as many.
 fn gives_up(list: &mut Pending<Digit>, count: usize) -> bool {
     if list.len() < count {
         return false;
@@ -302,7 +308,7 @@ fn gives_up(list: &mut Pending<Digit>, count: usize) -> bool {
 
 const OLDER: &[Plain] = &[Plain::Put(1, 1), Plain::Del(2), Plain::Edit(3, 3)];
 
-/// Whether a list of three messages takes two more and gives up its first two, and a copy of it stays as it was.
+/// Whether two messages are appended to a list of three and its first two are removed, while a copy is unchanged.
 fn changes_beside(alloc: Global, list: &mut Pending<Digit>, copy: &Pending<Digit>) -> bool {
     takes(alloc, list, &[Plain::DelRange(4, None), Plain::Put(5, 5)])
         && list.len() == 5
@@ -316,7 +322,8 @@ fn changes_beside(alloc: Global, list: &mut Pending<Digit>, copy: &Pending<Digit
         && waits(alloc, copy, OLDER)
 }
 
-/// Whether a list of three messages takes two more and gives up its first two, and a copy made before stays as it was.
+/// Whether two messages are appended to a list of three and its first two are removed, while a copy made before is
+/// unchanged.
 fn changes_beside_a_copy(alloc: Global, list: &mut Pending<Digit>) -> bool {
     match list.copy(alloc) {
         Ok(copy) => changes_beside(alloc, list, &copy),
@@ -324,7 +331,7 @@ fn changes_beside_a_copy(alloc: Global, list: &mut Pending<Digit>) -> bool {
     }
 }
 
-/// Whether a new list of three messages takes two more and gives up its first two, and a copy of it stays as it was.
+/// Whether two messages are appended to a new list of three and its first two are removed, while a copy is unchanged.
 fn changes_alone(alloc: Global) -> bool {
     match list_of(alloc, OLDER) {
         Ok(mut list) => changes_beside_a_copy(alloc, &mut list),
@@ -337,8 +344,7 @@ fn takes_messages_at_the_back_and_gives_them_up_at_the_front(rt: HostRuntime) {
     assert!(rt; changes_alone(rt.alloc()));
 }
 
-/// A list that is cut: its messages, how many of the oldest are gone, its low end and the pivot, and what stays and what comes
-/// out.
+/// A list that is split: its messages, how many of the oldest are consumed, its low end and the pivot, and the two parts.
 struct Parted(
     &'static [Plain],
     usize,
@@ -349,7 +355,7 @@ struct Parted(
 );
 
 impl Parted {
-    /// Cuts a list of these messages.
+    /// Splits a list of these messages.
     fn cut(&self, alloc: Global, list: &mut Pending<Digit>) -> Result<Pending<Digit>, NoMemory> {
         if list.len() < self.1 {
             return Err(NoMemory);
@@ -359,7 +365,7 @@ impl Parted {
         list.split_off(alloc, self.1, &lo, &pivot)
     }
 
-    /// Whether both parts are as told.
+    /// Whether both parts are the expected ones.
     fn parts(&self, alloc: Global, list: &mut Pending<Digit>) -> bool {
         match self.cut(alloc, list) {
             Ok(back) => waits(alloc, list, self.4) && waits(alloc, &back, self.5),
@@ -449,7 +455,7 @@ fn is_cut_at_a_pivot(rt: HostRuntime) -> Result<(), usize> {
     all_hold(rt.alloc(), PARTED)
 }
 
-/// A list of the messages, of which the first has left.
+/// A list of the messages whose first one is consumed.
 fn without_first(alloc: Global, msgs: &[Plain]) -> Result<Pending<Digit>, NoMemory> {
     let mut list = list_of(alloc, msgs)?;
     if list.len() > 0 {
@@ -458,8 +464,8 @@ fn without_first(alloc: Global, msgs: &[Plain]) -> Result<Pending<Digit>, NoMemo
     Ok(list)
 }
 
-/// Two lists, before the key 5 and behind it, as one. Each has two updates of one key, of which the first has left.
-fn joined_half_gone(alloc: Global) -> Result<Pending<Digit>, NoMemory> {
+/// Two lists, before the key 5 and after it, merged. Each has two updates of one key, of which the first is consumed.
+fn merged_half_consumed(alloc: Global) -> Result<Pending<Digit>, NoMemory> {
     let front = without_first(alloc, EDITS_OF_THREE)?;
     match without_first(alloc, EDITS_OF_SEVEN) {
         Ok(back) => joined_at(alloc, front, back, 5),
@@ -471,7 +477,7 @@ const EDITS_OF_THREE: &[Plain] = &[Plain::Edit(3, 1), Plain::Edit(3, 2)];
 
 const EDITS_OF_SEVEN: &[Plain] = &[Plain::Edit(7, 3), Plain::Edit(7, 4)];
 
-/// Two lists, before a key and behind it, as one.
+/// Two lists, before a key and after it, merged.
 fn joined_at(
     alloc: Global,
     front: Pending<Digit>,
@@ -484,7 +490,7 @@ fn joined_at(
     }
 }
 
-/// Whether the lists were joined, and both updates that are left wait.
+/// Whether the lists were merged, and both remaining updates are pending.
 fn waits_joined(alloc: Global, joined: Result<Pending<Digit>, NoMemory>) -> bool {
     match joined {
         Ok(all) => waits(alloc, &all, &[Plain::Edit(3, 2), Plain::Edit(7, 4)]),
@@ -493,15 +499,15 @@ fn waits_joined(alloc: Global, joined: Result<Pending<Digit>, NoMemory>) -> bool
 }
 
 #[test]
-fn two_lists_that_are_half_gone_are_joined(rt: HostRuntime) {
+fn two_lists_that_are_half_consumed_are_merged(rt: HostRuntime) {
     let alloc = rt.alloc();
-    assert!(rt; waits_joined(alloc, joined_half_gone(alloc)));
+    assert!(rt; waits_joined(alloc, merged_half_consumed(alloc)));
 }
 
 /// How many numbers a long list has.
 const LONG: u16 = 1_000;
 
-/// A list with the numbers up to a thousand, which come in an order that mixes them, each at the key of its two bytes.
+/// A list with the numbers up to a thousand, which are appended in a mixed order, each at the key of its two bytes.
 fn long_list(alloc: Global) -> Result<Pending<Digit>, NoMemory> {
     let mut list = Pending::new(alloc);
     for i in 0..LONG as u64 {
@@ -511,7 +517,7 @@ fn long_list(alloc: Global) -> Result<Pending<Digit>, NoMemory> {
     Ok(list)
 }
 
-/// Puts a number behind the messages of a list, at the key of its two bytes.
+/// Appends a number to a list, at the key of its two bytes.
 fn put_number(alloc: Global, list: &mut Pending<Digit>, number: u16) -> Result<(), NoMemory> {
     list.reserve(1)?;
     let key = numbers::key(alloc, number)?;
@@ -544,7 +550,7 @@ fn are_numbers_from(msgs: &[Msg<Digit>], first: u16) -> bool {
     true
 }
 
-/// Whether the list has the numbers from `first` on, so many.
+/// Whether the list has that many numbers, from `first` on.
 fn has_numbers(alloc: Global, list: &Pending<Digit>, first: u16, count: u16) -> bool {
     match list.copy_front(alloc, list.len()) {
         Ok(msgs) => msgs.len() == count as usize && are_numbers_from(msgs.as_slice(), first),
@@ -552,7 +558,7 @@ fn has_numbers(alloc: Global, list: &Pending<Digit>, first: u16, count: u16) -> 
     }
 }
 
-/// Cuts the list at a number.
+/// Splits the list at a number.
 fn parted_at(
     alloc: Global,
     list: &mut Pending<Digit>,
@@ -564,7 +570,7 @@ fn parted_at(
     }
 }
 
-/// Whether so many messages move to another list, one at a time.
+/// Whether that many messages move to another list, one at a time.
 fn sinks(from: &mut Pending<Digit>, to: &mut Pending<Digit>, count: u16) -> bool {
     for _ in 0..count {
         if from.flush_oldest(to, 1) != Ok(1) {
@@ -574,11 +580,12 @@ fn sinks(from: &mut Pending<Digit>, to: &mut Pending<Digit>, count: u16) -> bool
     from.len() == 0 && from.flush_oldest(to, 1) == Ok(0)
 }
 
-/// A number at which a long list is cut. What comes out moves back then.
+/// A number at which a long list is split. The second part then moves back.
 struct CutAt(u16);
 
 impl CutAt {
-    /// Whether both parts have their numbers, and the list has all again when those that came out have moved back.
+    /// Whether both parts have their numbers, and the list has all again when those that were split off have moved
+    /// back.
     fn parts(&self, alloc: Global, list: &mut Pending<Digit>) -> bool {
         let others = LONG.saturating_sub(self.0);
         match parted_at(alloc, list, self.0) {

@@ -1,5 +1,5 @@
-//! Appends of messages on numbers, at keys of one byte, seen in the slots where they wait.
-use crate::trees::{Course, SMALL, all_go, append, goes_anew, has, new_tree};
+//! Tests of appending messages, at keys of one byte, and of the slots in which they are then pending.
+use crate::trees::{SMALL, TreeTest, all_pass, append, has, new_tree, passes_on_new_tree};
 use flush::flush_leaf;
 use message::Msg;
 use node::{Body, Node, Place, Shape, Slot, StepReply, Tree, append_both};
@@ -20,7 +20,7 @@ fn slot_at<'a>(node: &'a Node<Digit>, number: usize) -> Option<&'a Slot<Digit>> 
     }
 }
 
-/// Whether these messages wait in a slot.
+/// Whether exactly these messages are pending in a slot.
 fn wait(alloc: Global, node: &Node<Digit>, slot: usize, msgs: &[Plain]) -> bool {
     match slot_at(node, slot) {
         None => false,
@@ -67,7 +67,7 @@ fn allows_each_limit_and_nothing_past_it(rt: HostRuntime) -> Result<(), usize> {
     all_hold(rt.alloc(), LIMITS)
 }
 
-/// Whether a slot of all keys stands over an empty leaf, and nothing waits in it.
+/// Whether a slot of all keys is over an empty leaf, with nothing pending.
 fn is_first(slot: &Slot<Digit>) -> bool {
     slot.lo.as_bytes().is_empty() && slot.pending.len() == 0 && is_empty_leaf(&slot.child)
 }
@@ -80,24 +80,24 @@ fn has_first_alone(node: &Node<Digit>) -> bool {
 /// A new tree has its shape, and one slot over an empty leaf.
 struct Beginning;
 
-impl Course for Beginning {
-    fn goes(&self, _alloc: Global, tree: &mut Tree<Digit>) -> bool {
+impl TreeTest for Beginning {
+    fn passes(&self, _alloc: Global, tree: &mut Tree<Digit>) -> bool {
         tree.shape() == SMALL && has_first_alone(tree.root())
     }
 }
 
 #[test]
 fn begins_with_one_slot_over_an_empty_leaf(rt: HostRuntime) {
-    assert!(rt; goes_anew(rt.alloc(), SMALL, &Beginning));
+    assert!(rt; passes_on_new_tree(rt.alloc(), SMALL, &Beginning));
 }
 
-/// Whether these messages wait in a node's first slot, over an empty leaf.
+/// Whether exactly these messages are pending in a node's first slot, over an empty leaf.
 fn wait_above_nothing(alloc: Global, node: &Node<Digit>, msgs: &[Plain]) -> bool {
     wait(alloc, node, 0, msgs)
         && matches!(slot_at(node, 0), Some(slot) if is_empty_leaf(&slot.child))
 }
 
-/// Appends messages one by one; `false` where memory is refused.
+/// Appends messages one by one; `false` if an allocation fails.
 fn append_in_turn(alloc: Global, tree: &mut Tree<Digit>, msgs: &[Plain]) -> bool {
     for msg in msgs {
         if !append(alloc, tree, &[*msg]) {
@@ -107,29 +107,29 @@ fn append_in_turn(alloc: Global, tree: &mut Tree<Digit>, msgs: &[Plain]) -> bool
     true
 }
 
-/// Messages that come one by one, and those that then wait for them.
+/// Messages that are appended one by one, and those that are pending then.
 #[derive(Drop)]
 struct InTurn(&'static [Plain], &'static [Plain]);
 
-impl Course for InTurn {
-    fn goes(&self, alloc: Global, tree: &mut Tree<Digit>) -> bool {
+impl TreeTest for InTurn {
+    fn passes(&self, alloc: Global, tree: &mut Tree<Digit>) -> bool {
         append_in_turn(alloc, tree, self.0) && wait_above_nothing(alloc, tree.root(), self.1)
     }
 }
 
-/// Messages that come in one batch, and then one by one to a new tree, and those that then wait for them.
+/// Messages that are appended in one batch, and one by one to a new tree, and those that are pending then.
 struct Kept(&'static [Plain], &'static [Plain]);
 
-impl Course for Kept {
-    fn goes(&self, alloc: Global, tree: &mut Tree<Digit>) -> bool {
+impl TreeTest for Kept {
+    fn passes(&self, alloc: Global, tree: &mut Tree<Digit>) -> bool {
         append(alloc, tree, self.0)
             && wait_above_nothing(alloc, tree.root(), self.1)
-            && goes_anew(alloc, SMALL, &InTurn(self.0, self.1))
+            && passes_on_new_tree(alloc, SMALL, &InTurn(self.0, self.1))
     }
 }
 
 const KEPT: &[Kept] = &[
-    // what a message makes idle goes
+    // a message that becomes redundant is removed
     Kept(&[Plain::Put(3, 1), Plain::Edit(3, 2)], &[Plain::Put(3, 12)]),
     Kept(&[Plain::Edit(3, 2), Plain::Put(3, 1)], &[Plain::Put(3, 1)]),
     Kept(&[Plain::Put(3, 1), Plain::Del(3)], &[Plain::Del(3)]),
@@ -146,7 +146,7 @@ const KEPT: &[Kept] = &[
         ],
         &[Plain::DelRange(2, Some(8)), Plain::Put(1, 1)],
     ),
-    // a range-delete takes away nothing newer
+    // a range-delete does not remove newer messages
     Kept(
         &[Plain::DelRange(2, None), Plain::Put(200, 1)],
         &[Plain::DelRange(2, None), Plain::Put(200, 1)],
@@ -155,12 +155,12 @@ const KEPT: &[Kept] = &[
         &[Plain::DelRange(2, None), Plain::Edit(3, 1)],
         &[Plain::DelRange(2, None), Plain::Edit(3, 1)],
     ),
-    // edits that do not join keep their order, and keys stand in theirs
+    // edits that cannot be joined keep their order, and keys are in order
     Kept(
         &[Plain::Put(9, 1), Plain::Edit(3, 2), Plain::Edit(3, 4)],
         &[Plain::Edit(3, 2), Plain::Edit(3, 4), Plain::Put(9, 1)],
     ),
-    // range-deletes that reach into each other are one
+    // overlapping range-deletes are joined
     Kept(
         &[Plain::DelRange(2, Some(5)), Plain::DelRange(4, Some(8))],
         &[Plain::DelRange(2, Some(8))],
@@ -173,10 +173,10 @@ const KEPT: &[Kept] = &[
 
 #[test]
 fn keeps_in_the_root_what_messages_mean(rt: HostRuntime) -> Result<(), usize> {
-    all_go(rt.alloc(), SMALL, KEPT)
+    all_pass(rt.alloc(), SMALL, KEPT)
 }
 
-/// Whether two trees with the same message each keep the next one that comes to them alone.
+/// Whether two trees with the same message each keep the next one that is appended only to them.
 fn part(alloc: Global, tree: &mut Tree<Digit>, shared: &mut Tree<Digit>) -> bool {
     append(alloc, tree, &[Plain::Del(3)])
         && append(alloc, shared, &[Plain::Edit(3, 2)])
@@ -184,7 +184,7 @@ fn part(alloc: Global, tree: &mut Tree<Digit>, shared: &mut Tree<Digit>) -> bool
         && wait(alloc, shared.root(), 0, &[Plain::Put(3, 12)])
 }
 
-/// Whether a tree with one message and a share of it part.
+/// Whether a tree with one message and a share of it become independent.
 fn parts_from_its_share(alloc: Global, tree: &mut Tree<Digit>) -> bool {
     match tree.share() {
         Ok(mut shared) => part(alloc, tree, &mut shared),
@@ -192,21 +192,21 @@ fn parts_from_its_share(alloc: Global, tree: &mut Tree<Digit>) -> bool {
     }
 }
 
-/// A tree with one message and a share of it part.
+/// A tree with one message and a share of it become independent.
 struct Parting;
 
-impl Course for Parting {
-    fn goes(&self, alloc: Global, tree: &mut Tree<Digit>) -> bool {
+impl TreeTest for Parting {
+    fn passes(&self, alloc: Global, tree: &mut Tree<Digit>) -> bool {
         append(alloc, tree, &[Plain::Put(3, 1)]) && parts_from_its_share(alloc, tree)
     }
 }
 
 #[test]
 fn leaves_the_other_owner_of_a_shared_root_alone(rt: HostRuntime) {
-    assert!(rt; goes_anew(rt.alloc(), SMALL, &Parting));
+    assert!(rt; passes_on_new_tree(rt.alloc(), SMALL, &Parting));
 }
 
-/// Appends a batch to one tree and messages to another, whole or not at all.
+/// Appends a batch to one tree and messages to another, both or neither.
 fn append_beside(
     alloc: Global,
     first: &mut Tree<Digit>,
@@ -222,7 +222,7 @@ fn append_beside(
     }
 }
 
-/// Whether two new trees have each its own half of what is appended to both.
+/// Whether each of two new trees has its own half of a batch for both.
 fn have_halves(
     alloc: Global,
     first: &mut Tree<Digit>,
@@ -240,9 +240,9 @@ fn have_halves(
 /// The two halves of a batch for two trees.
 struct Halves(&'static [Plain], &'static [Plain]);
 
-/// Two new trees have each its own half of what is appended to both.
-impl Course for Halves {
-    fn goes(&self, alloc: Global, tree: &mut Tree<Digit>) -> bool {
+/// Each of two new trees has its own half of a batch for both.
+impl TreeTest for Halves {
+    fn passes(&self, alloc: Global, tree: &mut Tree<Digit>) -> bool {
         match new_tree(alloc, SMALL) {
             Ok(mut second) => have_halves(alloc, tree, self.0, &mut second, self.1),
             Err(_) => false,
@@ -259,15 +259,16 @@ const HALVES: &[Halves] = &[
 
 #[test]
 fn gives_each_tree_its_half_of_a_batch(rt: HostRuntime) -> Result<(), usize> {
-    all_go(rt.alloc(), SMALL, HALVES)
+    all_pass(rt.alloc(), SMALL, HALVES)
 }
 
-/// What a flush of the root's first slot answers.
+/// The reply to a flush of the root's first slot.
 fn flushed(alloc: Global, tree: &mut Tree<Digit>) -> StepReply {
     flush_leaf(alloc, tree, Place::root(), 0)
 }
 
-/// Whether each of five keys sinks at once, and the root then has two slots, of which the second begins at the key 5.
+/// Whether each of five keys is flushed at once, and the root then has two slots, of which the second begins at the key
+/// 5.
 fn has_two_slots(alloc: Global, tree: &mut Tree<Digit>) -> bool {
     for at in [1, 2, 5, 6, 7] {
         let has_sunk = append(alloc, tree, &[Plain::Put(at, 0)])
@@ -289,17 +290,17 @@ const ACROSS: &[Plain] = &[
     Plain::Del(255),
 ];
 
-/// The last range-delete lies inside the first, which took the put away, and it takes the edit away.
+/// the last range-delete is within the first, which removed the put, and it removes the edit
 const BEFORE_FIVE: &[Plain] = &[Plain::DelRange(2, Some(5))];
 
-/// The second range-delete holds the first, and it took the put away.
+/// the second range-delete contains the first, and it removed the put
 const FROM_FIVE: &[Plain] = &[Plain::DelRange(5, None), Plain::Del(255)];
 
-/// Messages are cut at the pivot 5.
+/// Messages are split at the pivot 5.
 struct Cutting;
 
-impl Course for Cutting {
-    fn goes(&self, alloc: Global, tree: &mut Tree<Digit>) -> bool {
+impl TreeTest for Cutting {
+    fn passes(&self, alloc: Global, tree: &mut Tree<Digit>) -> bool {
         has_two_slots(alloc, tree)
             && append(alloc, tree, ACROSS)
             && wait(alloc, tree.root(), 0, BEFORE_FIVE)
@@ -309,17 +310,17 @@ impl Course for Cutting {
 
 #[test]
 fn cuts_messages_at_the_pivots(rt: HostRuntime) {
-    assert!(rt; goes_anew(rt.alloc(), SMALL, &Cutting));
+    assert!(rt; passes_on_new_tree(rt.alloc(), SMALL, &Cutting));
 }
 
-/// Messages for one key each come in one batch to a root with two slots.
+/// Messages, each for one key, in one batch for a root with two slots.
 struct Points {
-    /// The numbers of the slots: above 0 for one that keeps its list.
+    /// The indexes of slots, above 0, that keep their lists uncondensed.
     kept: &'static [u32],
     msgs: &'static [Plain],
-    /// What then waits in the first slot, and in the second.
+    /// The messages that are pending in the first slot then, and in the second.
     waiting: (&'static [Plain], &'static [Plain]),
-    /// What the tree then has at keys.
+    /// The values of keys in the tree then.
     values: &'static [(u8, Option<u64>)],
 }
 
@@ -339,8 +340,8 @@ fn has_each(alloc: Global, tree: &Tree<Digit>, values: &[(u8, Option<u64>)]) -> 
     true
 }
 
-impl Course for Points {
-    fn goes(&self, alloc: Global, tree: &mut Tree<Digit>) -> bool {
+impl TreeTest for Points {
+    fn passes(&self, alloc: Global, tree: &mut Tree<Digit>) -> bool {
         has_two_slots(alloc, tree)
             && append_beside_kept(alloc, tree, self)
             && wait(alloc, tree.root(), 0, self.waiting.0)
@@ -376,7 +377,7 @@ const POINTS: &[Points] = &[
         waiting: (&[Plain::Del(1)], &[Plain::Del(255)]),
         values: &[(1, None), (2, Some(0)), (7, Some(0)), (255, None)],
     },
-    // by turns
+    // alternating
     Points {
         kept: &[],
         msgs: &[
@@ -426,5 +427,5 @@ const POINTS: &[Points] = &[
 
 #[test]
 fn brings_messages_for_one_key_each_to_their_slots(rt: HostRuntime) -> Result<(), usize> {
-    all_go(rt.alloc(), SMALL, POINTS)
+    all_pass(rt.alloc(), SMALL, POINTS)
 }

@@ -1,11 +1,11 @@
-//! Numbers by keys of two bytes.
+//! Numbers at keys of two bytes, as values of a copy-on-write map.
 ghost use Rattle.std.specs.Prelude.{◌≡◌};
 
 use cow_map::{CopyValue, CowMap, Edit};
 use pathkey::{Key, NoMemory};
 use std::alloc::Global;
 
-/// A number that is copied only where it lies from 400 to 599, as if memory for others were refused.
+/// A number that can be copied only if it is from 400 to 599: any other copy fails as if an allocation had failed.
 #[derive(Drop)]
 pub struct Number(pub u64);
 
@@ -18,7 +18,7 @@ impl CopyValue for Number {
     }
 }
 
-/// Another number takes the place of one, which it answers.
+/// An edit that replaces a number and returns the old one.
 #[derive(Drop)]
 pub struct Replace(pub u64);
 
@@ -44,7 +44,7 @@ pub fn key(alloc: Global, number: u16) -> Result<Key, NoMemory> {
     Key::from_bytes(alloc, &bytes_of(number))
 }
 
-/// Puts a number at its key.
+/// Puts a number at its own key.
 pub fn put(alloc: Global, list: &mut CowMap<Number>, number: u16) -> Result<(), NoMemory> {
     let at = key(alloc, number)?;
     match list.put(at, Number(number as u64)) {
@@ -53,7 +53,7 @@ pub fn put(alloc: Global, list: &mut CowMap<Number>, number: u16) -> Result<(), 
     }
 }
 
-/// The numbers up to this one, each at its key, put in their order.
+/// The numbers up to this one, each at its own key, put in order.
 pub fn numbers(alloc: Global, count: u16) -> Result<CowMap<Number>, NoMemory> {
     let mut list = CowMap::new(alloc);
     for number in 0..count {
@@ -62,7 +62,7 @@ pub fn numbers(alloc: Global, count: u16) -> Result<CowMap<Number>, NoMemory> {
     Ok(list)
 }
 
-/// The numbers below a thousand, each at its key, put by steps of 77, which meets each of them.
+/// The numbers below a thousand, each at its own key, put in steps of 77, which reach each of them.
 pub fn scattered(alloc: Global) -> Result<CowMap<Number>, NoMemory> {
     let mut list = CowMap::new(alloc);
     for number in 0..1000u32 {
@@ -71,7 +71,7 @@ pub fn scattered(alloc: Global) -> Result<CowMap<Number>, NoMemory> {
     Ok(list)
 }
 
-/// Whether a number is put at the key of another, and the old one is answered; none where nothing stood there.
+/// Whether putting a number at the key of another returns the old one; `None` if the key was absent.
 pub fn is_put(
     alloc: Global,
     list: &mut CowMap<Number>,
@@ -85,7 +85,7 @@ pub fn is_put(
     }
 }
 
-/// The number that a put answers; none where memory was refused.
+/// The number that a put returned; `None` if an allocation failed.
 fn number_of(answer: &Result<Option<Number>, (Key, Number)>) -> Option<Option<u64>> {
     match answer {
         Ok(Some(old)) => Some(Some(old.0)),
@@ -94,7 +94,7 @@ fn number_of(answer: &Result<Option<Number>, (Key, Number)>) -> Option<Option<u6
     }
 }
 
-/// What stands at the key of a number.
+/// The number at the key of a number.
 pub fn at(alloc: Global, list: &CowMap<Number>, number: u16) -> Result<Option<u64>, NoMemory> {
     match key(alloc, number) {
         Ok(at) => Ok(at_key(list, &at)),
@@ -102,7 +102,7 @@ pub fn at(alloc: Global, list: &CowMap<Number>, number: u16) -> Result<Option<u6
     }
 }
 
-/// What stands at a key.
+/// The number at a key.
 fn at_key(list: &CowMap<Number>, at: &Key) -> Option<u64> {
     match list.get(at) {
         Some(found) => Some(found.0),
@@ -110,8 +110,8 @@ fn at_key(list: &CowMap<Number>, at: &Key) -> Option<u64> {
     }
 }
 
-/// Whether a list of the numbers up to a thousand, but for those from `from` up to `to`, is cut at a key into those before `from` and
-/// those from `to` on, which then stand behind the others again.
+/// Whether a list of the numbers up to a thousand, without those from `from` up to `to`, is split at a key into those before `from`
+/// and those from `to` on, and is merged again.
 pub fn is_rejoined(list: &mut CowMap<Number>, at: &Key, from: u16, to: u16) -> bool {
     list.assert_invariant();
     match list.split_off(at) {
@@ -125,7 +125,7 @@ pub fn is_rejoined(list: &mut CowMap<Number>, at: &Key, from: u16, to: u16) -> b
     }
 }
 
-/// Whether a walk through the list meets the numbers from one up to another, each once and in order, and no other.
+/// Whether iterating over the list yields the numbers from one up to another, each once and in order, and no other.
 pub fn has(list: &CowMap<Number>, from: u64, to: u64) -> bool {
     let mut walk = list.cursor();
     let mut next = from;
@@ -138,7 +138,7 @@ pub fn has(list: &CowMap<Number>, from: u64, to: u64) -> bool {
     walk.peek().is_none()
 }
 
-/// Takes so many numbers away from the front, one by one, and says whether there were as many.
+/// Removes that many numbers from the front, one by one, and returns whether there were as many.
 pub fn drop_some(list: &mut CowMap<Number>, count: u16) -> bool {
     for _ in 0..count {
         if list.is_empty() {

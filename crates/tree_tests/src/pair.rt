@@ -1,4 +1,4 @@
-//! A tree beside a plain row under the same messages.
+//! A tree, and a reference array of numbers to which the same messages are applied.
 use crate::searches::agrees_where;
 use crate::trees::{ROOMY, append, has, new_tree};
 use node::Tree;
@@ -6,7 +6,7 @@ use pathkey::NoMemory;
 use std::alloc::Global;
 use test_support::{Digit, Plain, Random, Row};
 
-/// A tree, and the row that it means.
+/// A tree, and the array to which it abstracts.
 #[derive(Drop)]
 pub struct Pair {
     pub tree: Tree<Digit>,
@@ -14,7 +14,7 @@ pub struct Pair {
 }
 
 impl Pair {
-    /// An empty tree beside an empty row.
+    /// An empty tree with an empty array.
     pub fn new(alloc: Global) -> Result<Pair, NoMemory> {
         match new_tree(alloc, ROOMY) {
             Ok(tree) => Ok(Pair {
@@ -25,7 +25,7 @@ impl Pair {
         }
     }
 
-    /// A share of the tree beside a copy of the row, of which later changes change nothing.
+    /// A share of the tree with a copy of the array; later changes do not affect either.
     pub fn share(&self) -> Result<Pair, NoMemory> {
         match self.tree.share() {
             Ok(tree) => Ok(Pair {
@@ -36,7 +36,7 @@ impl Pair {
         }
     }
 
-    /// Puts messages into both.
+    /// Applies messages to both.
     fn take(&mut self, alloc: Global, msgs: &[Plain]) -> bool {
         for msg in msgs {
             self.row.lay(*msg);
@@ -44,7 +44,7 @@ impl Pair {
         append(alloc, &mut self.tree, msgs)
     }
 
-    /// Puts up to two messages into both.
+    /// Applies up to two messages to both.
     pub fn change(&mut self, alloc: Global, random: &mut Random) -> bool {
         let two = [Plain::random(random), Plain::random(random)];
         match random.below(3) {
@@ -69,7 +69,7 @@ impl Pair {
         true
     }
 
-    /// Whether searches of a range find the row's pairs: the first, and a few.
+    /// Whether scans of a range find the array's pairs: the first, and a few.
     pub fn finds_alike(&self, alloc: Global, random: &mut Random) -> bool {
         let lo = random.byte();
         let hi = lo.checked_add(random.below(60) as u8);

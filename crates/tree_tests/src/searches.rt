@@ -1,12 +1,12 @@
-//! First pairs through many messages, beside the same messages laid on a plain row of numbers.
-use crate::trees::{Course, SMALL, append, goes_anew, new_tree};
+//! Tests of scans through many messages, against the same messages applied to a reference array of numbers.
+use crate::trees::{SMALL, TreeTest, append, new_tree, passes_on_new_tree};
 use node::Tree;
 use pathkey::KeyRange;
 use scan::{first_in, scan};
 use std::alloc::Global;
 use test_support::{Digit, Plain, Random, Row, are_numbered, number, range};
 
-/// Whether a range of a tree has these pairs, of which at most so many are asked for.
+/// Whether a scan of a range returns these pairs, if it is limited to that many.
 fn holds(
     alloc: Global,
     tree: &Tree<Digit>,
@@ -34,13 +34,13 @@ fn begins_with(
     }
 }
 
-/// How many pairs are asked for.
+/// The limits of the scans.
 const LIMITS: &[usize] = &[0, 1, 2, 7, 50, 256, usize::MAX];
 
-/// A part of the keys: the first, and the one that ends it.
+/// A part of the keys: the first one, and the end.
 pub type Part = (u8, Option<u8>);
 
-/// Whether a part of the tree has what that part of the row has, and first what the row has first.
+/// Whether a scan and a search in a part of the tree find what the array has there.
 fn agrees(
     alloc: Global,
     tree: &Tree<Digit>,
@@ -56,7 +56,7 @@ fn agrees(
     }
 }
 
-/// Whether the tree has in a part of the keys what the row has there, and first what the row has first.
+/// Whether a scan and a search in a part of the tree find what the array has in that part.
 pub fn agrees_where(
     alloc: Global,
     tree: &Tree<Digit>,
@@ -70,7 +70,7 @@ pub fn agrees_where(
     }
 }
 
-/// Whether the tree agrees with the row in a part of the keys, whatever number of pairs is asked for.
+/// Whether the tree agrees with the array in a part of the keys, for each limit.
 fn agrees_on(alloc: Global, tree: &Tree<Digit>, row: &Row, part: Part) -> bool {
     for limit in LIMITS {
         if !agrees_where(alloc, tree, row, part, *limit) {
@@ -80,7 +80,7 @@ fn agrees_on(alloc: Global, tree: &Tree<Digit>, row: &Row, part: Part) -> bool {
     true
 }
 
-/// Puts 300 messages into both; `false` where memory is refused.
+/// Applies 300 messages to both; `false` if an allocation fails.
 fn fill(alloc: Global, tree: &mut Tree<Digit>, row: &mut Row) -> bool {
     let mut random = Random(7);
     for _ in 0..300 {
@@ -103,7 +103,8 @@ const PARTS: &[Part] = &[
     (255, None),
 ];
 
-/// Whether the tree agrees with the row in each part of the keys after the messages; the number of the first in which it does not.
+/// Whether the tree agrees with the array in each part of the keys after the messages; otherwise the index of the first in which
+/// it does not.
 fn agrees_filled(alloc: Global, tree: &mut Tree<Digit>, row: &mut Row) -> Result<(), usize> {
     if !fill(alloc, tree, row) {
         return Err(usize::MAX);
@@ -118,8 +119,9 @@ fn agrees_filled(alloc: Global, tree: &mut Tree<Digit>, row: &mut Row) -> Result
     Ok(())
 }
 
-/// Whether a new tree agrees with a new row in each part of the keys after the messages; the number of the first in which it does not.
-fn agrees_anew(alloc: Global) -> Result<(), usize> {
+/// Whether a new tree agrees with a new array in each part of the keys after the messages; otherwise the index of the first in which
+/// it does not.
+fn agrees_in_new_tree(alloc: Global) -> Result<(), usize> {
     match new_tree(alloc, SMALL) {
         Ok(mut tree) => agrees_filled(alloc, &mut tree, &mut Row::new()),
         Err(_) => Err(usize::MAX),
@@ -128,19 +130,19 @@ fn agrees_anew(alloc: Global) -> Result<(), usize> {
 
 #[test]
 fn finds_the_pairs_that_all_messages_make(rt: HostRuntime) -> Result<(), usize> {
-    agrees_anew(rt.alloc())
+    agrees_in_new_tree(rt.alloc())
 }
 
-/// Whether nothing is found in a range of a tree.
+/// Whether a range of a tree is empty.
 fn is_empty(alloc: Global, tree: &Tree<Digit>, range: &KeyRange) -> bool {
     begins_with(alloc, tree, range, None) && holds(alloc, tree, range, 9, &[])
 }
 
-/// Nothing is found in a tree.
+/// Nothing is found in a new tree.
 struct Nothing;
 
-impl Course for Nothing {
-    fn goes(&self, alloc: Global, tree: &mut Tree<Digit>) -> bool {
+impl TreeTest for Nothing {
+    fn passes(&self, alloc: Global, tree: &mut Tree<Digit>) -> bool {
         match range(alloc, 0, None) {
             Ok(all) => is_empty(alloc, tree, &all),
             Err(_) => false,
@@ -150,10 +152,10 @@ impl Course for Nothing {
 
 #[test]
 fn finds_nothing_in_a_new_tree(rt: HostRuntime) {
-    assert!(rt; goes_anew(rt.alloc(), SMALL, &Nothing));
+    assert!(rt; passes_on_new_tree(rt.alloc(), SMALL, &Nothing));
 }
 
-/// Puts 50 values, deletes those from 5 to 39 and edits 20; `false` where memory is refused.
+/// Puts 50 values, deletes those from 5 to 39 and edits 20; `false` if an allocation fails.
 fn cover(alloc: Global, tree: &mut Tree<Digit>) -> bool {
     for at in 0..50 {
         if !append(alloc, tree, &[Plain::Put(at, 3)]) {
@@ -175,16 +177,16 @@ fn has_four(alloc: Global, tree: &Tree<Digit>, wanted: &[(u8, u64)]) -> bool {
     }
 }
 
-/// A search goes past what a range-delete covers.
+/// A search skips what a range-delete covers.
 struct Past;
 
-impl Course for Past {
-    fn goes(&self, alloc: Global, tree: &mut Tree<Digit>) -> bool {
+impl TreeTest for Past {
+    fn passes(&self, alloc: Global, tree: &mut Tree<Digit>) -> bool {
         cover(alloc, tree) && has_four(alloc, tree, &[(3, 3), (4, 3), (20, 4), (40, 3)])
     }
 }
 
 #[test]
-fn goes_past_what_a_range_delete_covers(rt: HostRuntime) {
-    assert!(rt; goes_anew(rt.alloc(), SMALL, &Past));
+fn skips_what_a_range_delete_covers(rt: HostRuntime) {
+    assert!(rt; passes_on_new_tree(rt.alloc(), SMALL, &Past));
 }

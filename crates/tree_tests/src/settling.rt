@@ -1,4 +1,4 @@
-//! Trees of several shapes, from which relief takes all that is pending.
+//! Tests that compaction steps flush everything that is pending, in trees of several shapes.
 use crate::some_steps::{Done, try_step};
 use crate::trees::new_tree;
 use message::Msg;
@@ -13,7 +13,7 @@ fn some_key(alloc: Global, random: &mut Random) -> Result<Key, NoMemory> {
     Key::from_bytes(alloc, &[random.byte(), random.byte()])
 }
 
-/// A range-delete from a key on up to another, of no keys where that stands first.
+/// A range-delete from a key on up to another; it is empty if that is the smaller one.
 fn delete_from(alloc: Global, random: &mut Random, lo: Key) -> Option<Msg<Digit>> {
     match some_key(alloc, random) {
         Ok(hi) => Some(Msg::DelRange(KeyRange { lo, hi: Some(hi) })),
@@ -21,7 +21,7 @@ fn delete_from(alloc: Global, random: &mut Random, lo: Key) -> Option<Msg<Digit>
     }
 }
 
-/// A message of one of the other forms at a key.
+/// A message of one of the other kinds at a key.
 fn message_at(random: &mut Random, key: Key) -> Msg<Digit> {
     match random.below(8) {
         0 => Msg::Del(key),
@@ -30,7 +30,7 @@ fn message_at(random: &mut Random, key: Key) -> Msg<Digit> {
     }
 }
 
-/// A message of one of the four forms; of a hundred, so many are range-deletes.
+/// A message of one of the four kinds; `ranges` percent of them are range-deletes.
 fn some_message(alloc: Global, random: &mut Random, ranges: u32) -> Option<Msg<Digit>> {
     let is_range = random.below(100) < ranges;
     match some_key(alloc, random) {
@@ -45,7 +45,7 @@ fn batch_of(alloc: Global, msg: Msg<Digit>) -> Option<Vec<Msg<Digit>>> {
     Vec::from_array(alloc, [msg]).ok()
 }
 
-/// A batch of such a message.
+/// A batch of one random message.
 fn some_batch(alloc: Global, random: &mut Random, ranges: u32) -> Option<Vec<Msg<Digit>>> {
     match some_message(alloc, random, ranges) {
         Some(msg) => batch_of(alloc, msg),
@@ -53,7 +53,7 @@ fn some_batch(alloc: Global, random: &mut Random, ranges: u32) -> Option<Vec<Msg
     }
 }
 
-/// Appends such a message.
+/// Appends a random message.
 fn append_some(alloc: Global, random: &mut Random, tree: &mut Tree<Digit>, ranges: u32) -> bool {
     match some_batch(alloc, random, ranges) {
         Some(batch) => tree.append(alloc, batch).is_ok(),
@@ -61,7 +61,7 @@ fn append_some(alloc: Global, random: &mut Random, tree: &mut Tree<Digit>, range
     }
 }
 
-/// Whether what relieves the tree is done until nothing is pending.
+/// Whether compaction steps are done until nothing is pending.
 fn settle(alloc: Global, tree: &mut Tree<Digit>) -> bool {
     for _ in 0..1_000_000 {
         match compact_step(alloc, tree) {
@@ -73,13 +73,14 @@ fn settle(alloc: Global, tree: &mut Tree<Digit>) -> bool {
     false
 }
 
-/// How many slots, pending pieces and entries there may be, and how many of a hundred messages are range-deletes.
-struct Course([u16; 3], u32);
+/// The maximal numbers of slots, pending pieces and entries, and the percentage of range-deletes among the messages.
+struct Workload([u16; 3], u32);
 
-/// How many messages come to a tree.
+/// The number of messages that are appended to a tree.
 const COUNT: u32 = 3_000;
 
-/// Whether messages come to a tree, with steps of all kinds between, and now and then, as at the end, all that is pending goes.
+/// Whether messages are appended to a tree, with steps of all kinds between them, and everything pending is flushed from time
+/// to time and at the end.
 fn fill_and_settle(alloc: Global, tree: &mut Tree<Digit>, ranges: u32) -> bool {
     let mut random = Random(ranges);
     let mut done = Done::new();
@@ -94,7 +95,7 @@ fn fill_and_settle(alloc: Global, tree: &mut Tree<Digit>, ranges: u32) -> bool {
     settle(alloc, tree)
 }
 
-/// An empty tree with so many slots, pending pieces and entries.
+/// An empty tree with these limits of slots, pending pieces and entries.
 fn tree_of(alloc: Global, limits: [u16; 3]) -> Result<Tree<Digit>, NoMemory> {
     let [fanout, pending, leaf] = limits;
     let shape = Shape {
@@ -105,7 +106,7 @@ fn tree_of(alloc: Global, limits: [u16; 3]) -> Result<Tree<Digit>, NoMemory> {
     new_tree(alloc, shape)
 }
 
-impl Holds for Course {
+impl Holds for Workload {
     fn holds(&self, alloc: Global) -> bool {
         match tree_of(alloc, self.0) {
             Ok(mut tree) => fill_and_settle(alloc, &mut tree, self.1),
@@ -114,11 +115,11 @@ impl Holds for Course {
     }
 }
 
-const WITHOUT_RANGES: &[Course] = &[
-    Course([4, 4, 4], 0),
-    Course([64, 64, 4], 0),
-    Course([4, 4, 1024], 0),
-    Course([16, 256, 256], 0),
+const WITHOUT_RANGES: &[Workload] = &[
+    Workload([4, 4, 4], 0),
+    Workload([64, 64, 4], 0),
+    Workload([4, 4, 1024], 0),
+    Workload([16, 256, 256], 0),
 ];
 
 #[test]
@@ -126,13 +127,13 @@ fn relief_ends_with_nothing_pending(rt: HostRuntime) -> Result<(), usize> {
     all_hold(rt.alloc(), WITHOUT_RANGES)
 }
 
-const WITH_RANGES: &[Course] = &[
-    Course([4, 4, 1024], 1),
-    Course([4, 4, 1024], 20),
-    Course([4, 4, 1024], 60),
-    Course([16, 256, 256], 1),
-    Course([16, 256, 256], 20),
-    Course([16, 256, 256], 60),
+const WITH_RANGES: &[Workload] = &[
+    Workload([4, 4, 1024], 1),
+    Workload([4, 4, 1024], 20),
+    Workload([4, 4, 1024], 60),
+    Workload([16, 256, 256], 1),
+    Workload([16, 256, 256], 20),
+    Workload([16, 256, 256], 60),
 ];
 
 #[test]
@@ -150,7 +151,7 @@ fn touch_and_put(alloc: Global, at: u16) -> Result<Vec<Msg<Digit>>, NoMemory> {
     }
 }
 
-/// Appends them.
+/// Appends both.
 fn append_with_touch(alloc: Global, tree: &mut Tree<Digit>, at: u16) -> bool {
     match touch_and_put(alloc, at) {
         Ok(batch) => tree.append(alloc, batch).is_ok(),
@@ -158,11 +159,11 @@ fn append_with_touch(alloc: Global, tree: &mut Tree<Digit>, at: u16) -> bool {
     }
 }
 
-/// A shape, and how many pieces may wait behind each turn.
+/// A shape, and the maximal number of pieces that may be pending after each turn.
 struct Touched([u16; 3], u128);
 
-/// Each key comes with an update of the first, before those that came earlier, and then one step relieves the tree: what waits
-/// stays few, and all of it goes in the end.
+/// Each key is appended with an update of the first one, in descending order, each followed by one compaction step: few
+/// messages remain pending, and all of them are flushed in the end.
 impl Touched {
     fn stays_light(&self, alloc: Global, tree: &mut Tree<Digit>) -> bool {
         for at in (1..2_000).rev() {

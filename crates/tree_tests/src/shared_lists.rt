@@ -1,4 +1,5 @@
-//! Lists that share their messages. The updates here refuse to be copied, so what succeeds copies none.
+//! Tests of pending lists that share their messages. Copying an update fails here, so an operation that succeeds copied
+//! none.
 ghost use Rattle.std.specs.Prelude.{Some};
 
 use message::{Msg, Update, UpdateTarget};
@@ -7,7 +8,7 @@ use pending::Pending;
 use std::alloc::Global;
 use test_support::{key, range};
 
-/// An update of a number that refuses each copy, as if memory for it were refused.
+/// An update of a number of which each copy fails, as if an allocation had failed.
 #[derive(Drop)]
 struct Lone(u64);
 
@@ -35,7 +36,7 @@ impl Update for Lone {
     }
 }
 
-/// How many keys a list has.
+/// The number of keys of a list.
 const KEYS: u8 = 200;
 
 /// An update of the key of a number.
@@ -50,14 +51,14 @@ fn deletion(alloc: Global, lo: u8, hi: Option<u8>) -> Result<Msg<Lone>, NoMemory
     Ok(Msg::DelRange(range))
 }
 
-/// Puts a message behind those of a list.
+/// Appends a message to a list.
 fn push(list: &mut Pending<Lone>, msg: Result<Msg<Lone>, NoMemory>) -> Result<(), NoMemory> {
     list.reserve(1)?;
     list.push_reserved(msg?);
     Ok(())
 }
 
-/// Puts a message behind those of a list, to wait as it came.
+/// Appends a message to a list without condensing it.
 fn keep(list: &mut Pending<Lone>, msg: Result<Msg<Lone>, NoMemory>) -> Result<(), NoMemory> {
     list.reserve(1)?;
     list.push_uncondensed(msg?);
@@ -73,21 +74,21 @@ fn list_of_lone(alloc: Global) -> Result<Pending<Lone>, NoMemory> {
     Ok(list)
 }
 
-/// A list with two updates at each key, and a range-delete behind all keys.
+/// A list with two updates at each key, and a range-delete after all keys.
 fn with_a_range(alloc: Global) -> Result<Pending<Lone>, NoMemory> {
     let mut list = list_of_lone(alloc)?;
     push(&mut list, deletion(alloc, KEYS, None))?;
     Ok(list)
 }
 
-/// A list with two updates at each key, and one more that waits as it came.
+/// A list with two updates at each key, and one more that is not condensed.
 fn with_a_tail(alloc: Global) -> Result<Pending<Lone>, NoMemory> {
     let mut list = list_of_lone(alloc)?;
     keep(&mut list, update(alloc, 5, 5))?;
     Ok(list)
 }
 
-/// A list with two updates at each key; one more, a range-delete over the key 100 and another update wait as they came.
+/// A list with two updates at each key; one more, a range-delete over the key 100 and another update are not condensed.
 fn with_a_range_in_the_tail(alloc: Global) -> Result<Pending<Lone>, NoMemory> {
     let mut list = with_a_tail(alloc)?;
     keep(&mut list, deletion(alloc, 50, Some(150)))?;
@@ -95,15 +96,15 @@ fn with_a_range_in_the_tail(alloc: Global) -> Result<Pending<Lone>, NoMemory> {
     Ok(list)
 }
 
-/// A list with two updates at each key, and a range-delete over the key 100 that has its place among them.
+/// A list with two updates at each key, and a condensed range-delete over the key 100.
 fn with_a_range_inside(alloc: Global) -> Result<Pending<Lone>, NoMemory> {
     let mut list = list_of_lone(alloc)?;
     push(&mut list, deletion(alloc, 50, Some(150)))?;
     Ok(list)
 }
 
-/// A list with two updates at each key, of which the first of all is gone.
-fn half_gone(alloc: Global) -> Result<Pending<Lone>, NoMemory> {
+/// A list with two updates at each key, of which the very first is consumed.
+fn half_consumed(alloc: Global) -> Result<Pending<Lone>, NoMemory> {
     let mut list = list_of_lone(alloc)?;
     if list.len() > 0 {
         list.drop_front(1);
@@ -111,7 +112,7 @@ fn half_gone(alloc: Global) -> Result<Pending<Lone>, NoMemory> {
     Ok(list)
 }
 
-/// Whether a copy of the list succeeds and has as many messages, where copies of messages are refused.
+/// Whether copying the list succeeds and gives as many messages, though copies of messages fail.
 fn is_shared(alloc: Global, list: Result<Pending<Lone>, NoMemory>) -> bool {
     match list {
         Ok(list) => has_a_copy(alloc, &list) && copied(alloc, &list).is_err(),
@@ -124,7 +125,7 @@ fn copied(alloc: Global, list: &Pending<Lone>) -> Result<Vec<Msg<Lone>>, NoMemor
     list.copy_front(alloc, list.len())
 }
 
-/// Whether a copy of the list succeeds and has as many messages.
+/// Whether copying the list succeeds and gives as many messages.
 fn has_a_copy(alloc: Global, list: &Pending<Lone>) -> bool {
     match list.copy(alloc) {
         Ok(copy) => copy.len() == list.len(),
@@ -139,10 +140,10 @@ fn copies_of_lists_copy_no_message(rt: HostRuntime) {
     assert!(rt; is_shared(alloc, with_a_range(alloc)));
     assert!(rt; is_shared(alloc, with_a_tail(alloc)));
     assert!(rt; is_shared(alloc, with_a_range_in_the_tail(alloc)));
-    assert!(rt; is_shared(alloc, half_gone(alloc)));
+    assert!(rt; is_shared(alloc, half_consumed(alloc)));
 }
 
-/// Whether the list is cut at a key, and all its messages are in the parts.
+/// Whether the list is split at a key, and all its messages are in the parts.
 fn is_cut(alloc: Global, list: Result<Pending<Lone>, NoMemory>, at: u8) -> bool {
     match list {
         Ok(mut list) => has_parts(alloc, &mut list, at),
@@ -150,13 +151,13 @@ fn is_cut(alloc: Global, list: Result<Pending<Lone>, NoMemory>, at: u8) -> bool 
     }
 }
 
-/// The list's messages from a key on, out of the list.
+/// Splits off the list's messages from a key on.
 fn parted_at(alloc: Global, list: &mut Pending<Lone>, at: u8) -> Result<Pending<Lone>, NoMemory> {
     let pivot = key(alloc, at)?;
     list.split_off(alloc, 0, &Key::new(alloc), &pivot)
 }
 
-/// Whether a cut of the list succeeds, and all its messages are in the parts; a range-delete over the key is in both.
+/// Whether splitting the list succeeds, and all its messages are in the parts; a range-delete over the key is in both.
 fn has_parts(alloc: Global, list: &mut Pending<Lone>, at: u8) -> bool {
     let all = list.len();
     let ranges = ranges_in(list);
@@ -166,12 +167,12 @@ fn has_parts(alloc: Global, list: &mut Pending<Lone>, at: u8) -> bool {
     }
 }
 
-/// How many range-deletes a list has.
+/// The number of range-deletes of a list.
 fn ranges_in(list: &Pending<Lone>) -> usize {
     list.range_deletes(0)
 }
 
-/// Whether both parts of a list have so many messages together, but for each of its range-deletes at most one more.
+/// Whether both parts of a list have that many messages together, and at most one more for each of its range-deletes.
 fn have_all(front: &Pending<Lone>, back: &Pending<Lone>, all: usize, ranges: usize) -> bool {
     let cut = ranges_in(front)
         .saturating_add(ranges_in(back))
@@ -187,10 +188,10 @@ fn cuts_copy_no_message_for_one_key(rt: HostRuntime) {
     assert!(rt; is_cut(alloc, with_a_tail(alloc), 100));
     assert!(rt; is_cut(alloc, with_a_range_in_the_tail(alloc), 100));
     assert!(rt; is_cut(alloc, with_a_range_inside(alloc), 100));
-    assert!(rt; is_cut(alloc, half_gone(alloc), 100));
+    assert!(rt; is_cut(alloc, half_consumed(alloc), 100));
 }
 
-/// Whether the parts of a list before a key and from it on are joined again, and have as many messages as the parts.
+/// Whether the parts of a list before a key and from it on are merged again, and have as many messages as the parts.
 fn rejoins(alloc: Global, list: Result<Pending<Lone>, NoMemory>, at: u8) -> bool {
     match list {
         Ok(list) => rejoined(alloc, list, at),
@@ -198,7 +199,7 @@ fn rejoins(alloc: Global, list: Result<Pending<Lone>, NoMemory>, at: u8) -> bool
     }
 }
 
-/// Whether a list that is cut at a key and joined again has as many messages as its parts had.
+/// Whether a list that is split at a key and merged again has as many messages as its parts had.
 fn rejoined(alloc: Global, list: Pending<Lone>, at: u8) -> bool {
     let mut front = list;
     match parted_at(alloc, &mut front, at) {
@@ -207,7 +208,7 @@ fn rejoined(alloc: Global, list: Pending<Lone>, at: u8) -> bool {
     }
 }
 
-/// Both lists as one, where they lie on both sides of a key.
+/// Merges both lists, which are on both sides of a key.
 fn joined_at(
     alloc: Global,
     front: Pending<Lone>,
@@ -228,7 +229,7 @@ fn is_as_long(front: usize, back: usize, all: Result<Pending<Lone>, NoMemory>) -
     }
 }
 
-/// The list, cut at a key and joined again.
+/// The list, split at a key and merged again.
 fn halves_joined(alloc: Global, list: Pending<Lone>, at: u8) -> Result<Pending<Lone>, NoMemory> {
     let mut front = list;
     match parted_at(alloc, &mut front, at) {
@@ -237,7 +238,7 @@ fn halves_joined(alloc: Global, list: Pending<Lone>, at: u8) -> Result<Pending<L
     }
 }
 
-/// Whether a list whose range-delete was cut and joined again has as many messages as before.
+/// Whether a list whose range-delete was split and merged again has as many messages as before.
 fn is_whole_again(alloc: Global) -> bool {
     let Ok(list) = with_a_range_inside(alloc) else {
         return false;
@@ -261,10 +262,10 @@ fn joins_copy_no_message_for_one_key(rt: HostRuntime) {
     assert!(rt; rejoins(alloc, with_a_range(alloc), 100));
     assert!(rt; rejoins(alloc, with_a_tail(alloc), 100));
     assert!(rt; rejoins(alloc, with_a_range_in_the_tail(alloc), 100));
-    assert!(rt; rejoins(alloc, half_gone(alloc), 100));
+    assert!(rt; rejoins(alloc, half_consumed(alloc), 100));
 }
 
-/// Whether all messages of a list move behind those of another.
+/// Whether all messages of a list move to the end of another.
 fn moves(alloc: Global, list: Result<Pending<Lone>, NoMemory>) -> bool {
     let Ok(mut list) = list else {
         return false;

@@ -1,4 +1,4 @@
-//! Steps of all eight kinds, at places that look random.
+//! Random steps of all eight kinds at random nodes.
 use node::{Place, StepKind, StepReply, Tree, TreeStep};
 use std::alloc::Global;
 use steps::{TriedStep, compact_step, do_step};
@@ -20,7 +20,7 @@ impl Done {
         *counter = counter.saturating_add(1);
     }
 
-    /// Whether so many were done in all, and so many of the rarest kind.
+    /// Whether that many were done in total, and that many of the rarest kind.
     pub fn has(&self, all: u32, each: u32) -> bool {
         let mut sum = 0u32;
         let mut least = u32::MAX;
@@ -32,7 +32,7 @@ impl Done {
     }
 }
 
-/// The place that up to three numbers of slots lead to, where a node may be.
+/// The node at which up to three slot indexes lead; it need not exist.
 fn somewhere(random: &mut Random) -> Place {
     let mut at = Place::root();
     for _ in 0..random.below(4) {
@@ -44,7 +44,7 @@ fn somewhere(random: &mut Random) -> Place {
     at
 }
 
-/// A kind of step. Those that make a tree lower come more often than those that make it higher.
+/// A kind of step. Those that make a tree lower are more frequent than those that make it higher.
 fn some_kind(random: &mut Random) -> StepKind {
     match random.below(20) {
         0..=3 => StepKind::FlushInner,
@@ -58,7 +58,7 @@ fn some_kind(random: &mut Random) -> StepKind {
     }
 }
 
-/// A step of some kind somewhere.
+/// A step of some kind at some node.
 fn some_step(random: &mut Random) -> TreeStep {
     TreeStep {
         kind: some_kind(random),
@@ -67,13 +67,13 @@ fn some_step(random: &mut Random) -> TreeStep {
     }
 }
 
-/// Does a step. It ensures nothing, so that no proof of a test reads what a step does.
+/// Does a step. It has no postcondition, so that the proofs of the tests do not unfold what a step does.
 fn turn_of(alloc: Global, tree: &mut Tree<Digit>, step: TreeStep) -> TriedStep {
     let reply = do_step(alloc, tree, step);
     TriedStep { step, reply }
 }
 
-/// Relieves the heaviest slot, or tries a step of any kind somewhere; none where nothing is pending.
+/// Flushes the fullest slot, or tries a step of any kind at some node; `None` if nothing is pending.
 fn turn(alloc: Global, random: &mut Random, tree: &mut Tree<Digit>) -> Option<TriedStep> {
     if random.below(2) == 0 {
         return compact_step(alloc, tree);
@@ -81,7 +81,7 @@ fn turn(alloc: Global, random: &mut Random, tree: &mut Tree<Digit>) -> Option<Tr
     Some(turn_of(alloc, tree, some_step(random)))
 }
 
-/// Tries a step, and counts it where it was done.
+/// Tries a step, and counts it if it was done.
 pub fn try_step(
     alloc: Global,
     random: &mut Random,

@@ -1,39 +1,39 @@
-//! Ranges in plain numbers: a number stands for the key of that one byte.
+//! Ranges in plain numbers: a number is the key of that one byte.
 use message::Msg;
 use pathkey::{Key, KeyRange, NoMemory};
 use range_set::RangeSet;
 use std::alloc::Global;
 use test_support::{Digit, Plain, key, range};
 
-/// The keys from the first up to and without the second; without a second, all from the first on.
+/// The keys from the first up to but excluding the second; without a second, all from the first on.
 pub type Span = (u8, Option<u8>);
 
-/// Lays a range over a list, which is to be short.
-pub fn lay(alloc: Global, list: &mut RangeSet, span: &Span) -> Result<(), NoMemory> {
+/// Inserts a range into a set, which must be short.
+pub fn insert(alloc: Global, list: &mut RangeSet, span: &Span) -> Result<(), NoMemory> {
     match range(alloc, span.0, span.1) {
-        Ok(range) => lay_range(alloc, list, &range),
+        Ok(range) => insert_range(alloc, list, &range),
         Err(NoMemory) => Err(NoMemory),
     }
 }
 
-/// Lays a range of keys over a list, which is to be short.
-fn lay_range(alloc: Global, list: &mut RangeSet, range: &KeyRange) -> Result<(), NoMemory> {
+/// Inserts a range of keys into a set, which must be short.
+fn insert_range(alloc: Global, list: &mut RangeSet, range: &KeyRange) -> Result<(), NoMemory> {
     if list.len() > 1000 {
         return Err(NoMemory);
     }
     list.insert(alloc, range)
 }
 
-/// A list over which these ranges were laid, one after the other.
-pub fn laid(alloc: Global, spans: &[Span]) -> Result<RangeSet, NoMemory> {
+/// A set into which these ranges were inserted, one after the other.
+pub fn inserted(alloc: Global, spans: &[Span]) -> Result<RangeSet, NoMemory> {
     let mut list = RangeSet::new(alloc);
     for span in spans {
-        lay(alloc, &mut list, span)?;
+        insert(alloc, &mut list, span)?;
     }
     Ok(list)
 }
 
-/// Whether the list has these ranges, and no other.
+/// Whether the set has exactly these ranges.
 pub fn has(alloc: Global, list: &RangeSet, spans: &[Span]) -> bool {
     match messages(alloc, list) {
         Ok(msgs) => list.len() == spans.len() && are_spans(msgs.as_slice(), spans),
@@ -41,14 +41,14 @@ pub fn has(alloc: Global, list: &RangeSet, spans: &[Span]) -> bool {
     }
 }
 
-/// Up to a thousand of the list's ranges, as messages.
+/// Up to a thousand of the set's ranges, as messages.
 fn messages(alloc: Global, list: &RangeSet) -> Result<Vec<Msg<Digit>>, NoMemory> {
     let mut msgs = Vec::new(alloc);
     list.copy_into(alloc, 1000, &mut msgs)?;
     Ok(msgs)
 }
 
-/// Whether the messages are these ranges, in their order.
+/// Whether the messages are these ranges, in order.
 fn are_spans(msgs: &[Msg<Digit>], spans: &[Span]) -> bool {
     if msgs.len() != spans.len() {
         return false;
@@ -61,7 +61,7 @@ fn are_spans(msgs: &[Msg<Digit>], spans: &[Span]) -> bool {
     true
 }
 
-/// The list up to a number and from it on.
+/// The set before a number and from it on.
 pub fn cut(alloc: Global, list: RangeSet, pivot: u8) -> Result<(RangeSet, RangeSet), NoMemory> {
     match key(alloc, pivot) {
         Ok(pivot) => cut_at(alloc, list, &pivot),
@@ -69,7 +69,7 @@ pub fn cut(alloc: Global, list: RangeSet, pivot: u8) -> Result<(RangeSet, RangeS
     }
 }
 
-/// Cuts a list at a key, into the part up to it and the part from it on.
+/// Splits a set at a key, into the part before it and the part from it on.
 fn cut_at(alloc: Global, list: RangeSet, pivot: &Key) -> Result<(RangeSet, RangeSet), NoMemory> {
     if list.len() > 1000 {
         return Err(NoMemory);
@@ -77,7 +77,7 @@ fn cut_at(alloc: Global, list: RangeSet, pivot: &Key) -> Result<(RangeSet, Range
     list.split_at::<Digit>(alloc, pivot)
 }
 
-/// Both lists as one, where they lie on both sides of a number.
+/// Merges both sets, which are on both sides of a number.
 pub fn joined(
     alloc: Global,
     front: RangeSet,
@@ -90,7 +90,7 @@ pub fn joined(
     }
 }
 
-/// Joins both lists as one, where they are short and lie on both sides of a key.
+/// Merges both sets, which must be short and on both sides of a key.
 fn joined_at(
     alloc: Global,
     front: RangeSet,

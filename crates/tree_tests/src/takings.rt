@@ -1,7 +1,8 @@
-//! Jobs of small trees, in tables of what goes in, what is taken, done and installed, and what the tree then holds.
+//! Tests of jobs of small trees, in tables of what is appended, which jobs are taken, built and installed, and the tree's size
+//! then.
 //!
-//! An install asks that what was built has the content of its mark. So the functions here promise what a caller of jobs has to
-//! carry from a taking to the installing, whatever comes between: that each job which is left fits the tree's marks (`AreHeld`).
+//! Installing requires that what was built has the content of its mark. So the functions here have as their contract what a
+//! caller of jobs has to maintain from taking to installing: each remaining job fits the tree's marks (`AreHeld`).
 ghost use Rattle.std.specs.Prelude.{IfOk};
 ghost use Rattle.tree_tests.specs.Held.{AreHeld, IsHeld};
 
@@ -19,9 +20,9 @@ const SMALL: Shape = Shape {
     leaf: 4,
 };
 
-/// An update of which messages are made from plain ones.
+/// An update whose messages are made from plain ones.
 trait Numbered: Update {
-    /// The messages in their order.
+    /// The messages, in order.
     fn batch(alloc: Global, msgs: &[Plain]) -> Result<Vec<Msg<Self>>, NoMemory>;
 }
 
@@ -31,14 +32,14 @@ impl Numbered for Digit {
     }
 }
 
-/// A tree with marks, and the jobs taken from it that are left.
+/// A tree with marks, and the jobs that were taken from it and not yet installed.
 #[derive(Drop)]
 struct Bench<U: UpdateTarget> {
     marked: MarkedTree<U>,
     jobs: VecDeque<Job<U>>,
 }
 
-/// What a taking is answered.
+/// The reply to taking a job.
 #[derive(Clone, Copy, PartialEq, Eq)]
 enum Took {
     Taken(u64),
@@ -47,7 +48,7 @@ enum Took {
     NoMemory,
 }
 
-/// What an installing is answered, or that no job was left.
+/// The reply to installing, or that no job was left.
 #[derive(Clone, Copy, PartialEq, Eq)]
 enum Ended {
     Installed,
@@ -56,22 +57,22 @@ enum Ended {
     NoJob,
 }
 
-/// What a tree goes through.
+/// A turn of a test.
 #[derive(Clone, Copy)]
 enum Turn {
     /// Messages are appended.
     Append(&'static [Plain]),
-    /// A step of this kind at this slot of the root is answered so.
+    /// A step of this kind at this slot of the root has this reply.
     Step(StepKind, u8, StepReply),
-    /// A taking at this slot is answered so.
+    /// Taking a job at this slot has this reply.
     Take(u8, Took),
-    /// The oldest job that is left is built and installed, and answered so.
+    /// The oldest remaining job is built and installed, with this reply.
     Finish(Ended),
-    /// The mark of this ticket goes; without a ticket, all marks.
+    /// The mark of this ticket is removed; without a ticket, all marks.
     Cancel(Option<u64>),
 }
 
-/// A turn, and how many levels, slots, pending pieces and entries the tree then has.
+/// A turn, and the numbers of levels, slots, pending pieces and entries of the tree then.
 type Row = (Turn, [u128; 4]);
 
 /// The numbers of levels, slots, pending pieces and entries.
@@ -91,7 +92,7 @@ fn append<U: Numbered>(alloc: Global, bench: &mut Bench<U>, msgs: &[Plain]) -> b
     }
 }
 
-/// What a step at a slot of the root is answered.
+/// The reply to a step at a slot of the root.
 fn step<U: Update>(alloc: Global, bench: &mut Bench<U>, kind: StepKind, slot: u8) -> StepReply
     requires { AreHeld U.means bench.old.marked bench.old.jobs.items }
     ensures { AreHeld U.means bench.new.marked bench.new.jobs.items }
@@ -113,7 +114,7 @@ fn keep<U: Update>(bench: &mut Bench<U>, job: Job<U>) -> Took
     }
 }
 
-/// What a taking is answered; a job that is taken is kept.
+/// The reply to taking a job; a job that is taken is kept.
 fn take<U: Update>(alloc: Global, bench: &mut Bench<U>, slot: u8) -> Took
     requires { AreHeld U.means bench.old.marked bench.old.jobs.items }
     ensures { AreHeld U.means bench.new.marked bench.new.jobs.items }
@@ -126,7 +127,7 @@ fn take<U: Update>(alloc: Global, bench: &mut Bench<U>, slot: u8) -> Took
     }
 }
 
-/// What the building and the installing of a job are answered.
+/// The reply to building and installing a job.
 fn end<U: Update>(alloc: Global, bench: &mut Bench<U>, job: Job<U>) -> Ended
     requires held { AreHeld U.means bench.old.marked bench.old.jobs.items }
     requires job { IsHeld U.means bench.old.marked job }
@@ -142,7 +143,7 @@ fn end<U: Update>(alloc: Global, bench: &mut Bench<U>, job: Job<U>) -> Ended
     }
 }
 
-/// What the building and the installing of the oldest job that is left are answered.
+/// The reply to building and installing the oldest remaining job.
 fn finish<U: Update>(alloc: Global, bench: &mut Bench<U>) -> Ended
     requires { AreHeld U.means bench.old.marked bench.old.jobs.items }
     ensures { AreHeld U.means bench.new.marked bench.new.jobs.items }
@@ -153,7 +154,7 @@ fn finish<U: Update>(alloc: Global, bench: &mut Bench<U>) -> Ended
     }
 }
 
-/// Takes marks away: that of the ticket, or all.
+/// Removes marks: that of the ticket, or all.
 fn cancel<U: Update>(bench: &mut Bench<U>, ticket: Option<u64>)
     requires { AreHeld U.means bench.old.marked bench.old.jobs.items }
     ensures { AreHeld U.means bench.new.marked bench.new.jobs.items }
@@ -164,7 +165,7 @@ fn cancel<U: Update>(bench: &mut Bench<U>, ticket: Option<u64>)
     }
 }
 
-/// Whether the turn is answered as it should be.
+/// Whether the turn has the expected reply.
 fn is_answered<U: Numbered>(alloc: Global, bench: &mut Bench<U>, turn: Turn) -> bool
     requires { AreHeld U.means bench.old.marked bench.old.jobs.items }
     ensures { AreHeld U.means bench.new.marked bench.new.jobs.items }
@@ -181,7 +182,7 @@ fn is_answered<U: Numbered>(alloc: Global, bench: &mut Bench<U>, turn: Turn) -> 
     }
 }
 
-/// Takes a tree through the rows; the number of the first that does not come out as it says.
+/// Runs the rows on a tree; otherwise the index of the first that fails.
 fn follow_in<U: Numbered>(alloc: Global, bench: &mut Bench<U>, rows: &[Row]) -> Result<(), usize>
     requires { AreHeld U.means bench.old.marked bench.old.jobs.items }
     ensures { AreHeld U.means bench.new.marked bench.new.jobs.items }
@@ -206,7 +207,7 @@ fn new_bench<U: Update>(alloc: Global) -> Result<Bench<U>, NoMemory>
     })
 }
 
-/// Rows to a root over one node with two leaves, of 1, 2 and of 5, 6, 7. No job is taken where a leaf is below.
+/// rows to a root over one node with two leaves, of 1, 2 and of 5, 6, 7; no job is taken if the child is a leaf
 const TWO_LEVELS: &[Row] = &[
     (Turn::Take(0, Took::NotThere), [1, 1, 0, 0]),
     (
@@ -236,7 +237,7 @@ const TWO_LEVELS: &[Row] = &[
     (Turn::Take(1, Took::NotThere), [2, 3, 0, 5]),
 ];
 
-/// Takes a tree to these two levels and then through the rows.
+/// Runs these rows on a tree, and then the others.
 fn follow_behind<U: Numbered>(
     alloc: Global,
     bench: &mut Bench<U>,
@@ -250,7 +251,7 @@ fn follow_behind<U: Numbered>(
     follow_in(alloc, bench, rows)
 }
 
-/// Takes a new tree to these two levels and then through the rows.
+/// Runs these rows on a new tree, and then the others.
 fn follow_new<U: Numbered>(alloc: Global, rows: &[Row]) -> Result<(), usize> {
     match new_bench::<U>(alloc) {
         Ok(mut bench) => follow_behind(alloc, &mut bench, rows),
@@ -258,12 +259,13 @@ fn follow_new<U: Numbered>(alloc: Global, rows: &[Row]) -> Result<(), usize> {
     }
 }
 
-/// Takes a new tree of numbers to these two levels and then through the rows.
+/// Runs these rows on a new tree of numbers, and then the others.
 fn follow_two_levels(alloc: Global, rows: &[Row]) -> Result<(), usize> {
     follow_new::<Digit>(alloc, rows)
 }
 
-/// Two messages are taken, go down to the leaves, and a third that came later waits; the next job finds a full leaf and cuts it.
+/// Two messages are taken and flushed to the leaves, and a third that was appended later remains pending; the next job finds a
+/// full leaf and splits it.
 const INSTALLED: &[Row] = &[
     (
         Turn::Append(&[Plain::Put(8, 1), Plain::Put(3, 1)]),
@@ -279,11 +281,12 @@ const INSTALLED: &[Row] = &[
 ];
 
 #[test]
-fn what_came_after_the_taking_waits(rt: HostRuntime) -> Result<(), usize> {
+fn messages_after_the_taking_stay_pending(rt: HostRuntime) -> Result<(), usize> {
     follow_two_levels(rt.alloc(), INSTALLED)
 }
 
-/// A delete takes an older put of its key away, but not one that was taken: the put is installed, and the delete waits.
+/// A delete makes an older put of its key redundant, but not one that was taken: the put is installed, and the delete
+/// remains pending.
 const NOT_CONDENSED: &[Row] = &[
     (
         Turn::Append(&[Plain::Put(3, 1), Plain::Del(3)]),
@@ -304,8 +307,8 @@ fn a_marked_list_does_not_condense(rt: HostRuntime) -> Result<(), usize> {
     follow_two_levels(rt.alloc(), NOT_CONDENSED)
 }
 
-/// A step at the marked slot, a new root, a cancelled ticket and the end of all marks make a job stale. The last job is installed; of its
-/// messages for the second leaf one has room there.
+/// A step at the marked slot, a new root, a cancelled ticket and the removal of all marks make a job stale. The last job is installed; of
+/// its messages for the second leaf one fits there.
 const STALE: &[Row] = &[
     (
         Turn::Append(&[Plain::Put(8, 1), Plain::Put(3, 1)]),
@@ -346,7 +349,7 @@ fn a_job_without_its_mark_is_stale(rt: HostRuntime) -> Result<(), usize> {
     follow_two_levels(rt.alloc(), STALE)
 }
 
-/// A step at another slot leaves the mark, and a merge with its slot does not.
+/// A step at another slot preserves the mark, and a merge with its slot does not.
 const BESIDE: &[Row] = &[
     (
         Turn::Step(StepKind::SplitInner, 0, StepReply::Did(0)),
@@ -376,7 +379,7 @@ fn a_step_beside_the_mark_leaves_it(rt: HostRuntime) -> Result<(), usize> {
     follow_two_levels(rt.alloc(), BESIDE)
 }
 
-/// The child has all that it may have, so no message of a job has room there.
+/// The child is full, so no message of a job fits there.
 const FULL: &[Row] = &[
     (
         Turn::Append(&[

@@ -1,7 +1,7 @@
-//! Trees of numbers, messages that come to them, and what they have at a key.
+//! Trees of numbers, and the messages and look-ups of the tests.
 //!
-//! What the tests of this crate ask is asked by functions that ensure nothing and of which each holds one value with a destructor: so their
-//! proofs, and those of the tests, stay short. They answer `false` where memory is refused.
+//! The checks are functions without postconditions, each with at most one value with a destructor, so that their proofs and those of the
+//! tests remain short. They return `false` if an allocation fails.
 use lookup::get;
 use node::{Shape, Tree};
 use pathkey::{Key, NoMemory};
@@ -22,14 +22,14 @@ pub const SMALLEST: Shape = Shape {
     leaf: 4,
 };
 
-/// Small nodes with room for many messages: in the smallest shape a few range-deletes leave no room for any step.
+/// Small nodes with space for many messages: in the smallest shape a few range-deletes leave no space for any step.
 pub const ROOMY: Shape = Shape {
     fanout: 4,
     pending: 64,
     leaf: 4,
 };
 
-/// A new tree of a shape; it is refused where the shape is not ok.
+/// A new tree of a shape; it fails if the shape is not valid.
 pub fn new_tree(alloc: Global, shape: Shape) -> Result<Tree<Digit>, NoMemory> {
     if !shape.ok() {
         return Err(NoMemory);
@@ -37,25 +37,25 @@ pub fn new_tree(alloc: Global, shape: Shape) -> Result<Tree<Digit>, NoMemory> {
     Tree::new(alloc, shape)
 }
 
-/// What a new tree goes through.
-pub trait Course {
-    /// Whether it goes as it should; `false` where memory is refused.
-    fn goes(&self, alloc: Global, tree: &mut Tree<Digit>) -> bool;
+/// A test that runs on a new tree.
+pub trait TreeTest {
+    /// Whether it passes; `false` if an allocation fails.
+    fn passes(&self, alloc: Global, tree: &mut Tree<Digit>) -> bool;
 }
 
-/// Whether a new tree of a shape goes through a course.
-pub fn goes_anew<C: Course>(alloc: Global, shape: Shape, course: &C) -> bool {
+/// Whether a test passes on a new tree of a shape.
+pub fn passes_on_new_tree<C: TreeTest>(alloc: Global, shape: Shape, course: &C) -> bool {
     match new_tree(alloc, shape) {
-        Ok(mut tree) => course.goes(alloc, &mut tree),
+        Ok(mut tree) => course.passes(alloc, &mut tree),
         Err(_) => false,
     }
 }
 
-/// Whether a new tree goes through each course; the number of the first through which it does not.
-pub fn all_go<C: Course>(alloc: Global, shape: Shape, courses: &[C]) -> Result<(), usize> {
+/// Whether each test passes on a new tree; otherwise the index of the first that fails.
+pub fn all_pass<C: TreeTest>(alloc: Global, shape: Shape, courses: &[C]) -> Result<(), usize> {
     let mut number = 0usize;
     for course in courses {
-        if !goes_anew(alloc, shape, course) {
+        if !passes_on_new_tree(alloc, shape, course) {
             return Err(number);
         }
         number = number.saturating_add(1);
@@ -71,7 +71,7 @@ pub fn append(alloc: Global, tree: &mut Tree<Digit>, msgs: &[Plain]) -> bool {
     }
 }
 
-/// Whether a tree has this at a key; none where memory is refused.
+/// Whether a tree has this value at a key; `None` if an allocation fails.
 pub fn has_at(alloc: Global, tree: &Tree<Digit>, at: &Key, wanted: Option<u64>) -> Option<bool> {
     match get(alloc, tree, at) {
         Ok(found) => Some(found == wanted),
@@ -79,7 +79,7 @@ pub fn has_at(alloc: Global, tree: &Tree<Digit>, at: &Key, wanted: Option<u64>) 
     }
 }
 
-/// Whether a tree has this at the key of a number; none where memory is refused.
+/// Whether a tree has this value at the key of a number; `None` if an allocation fails.
 pub fn has_if_read(alloc: Global, tree: &Tree<Digit>, at: u8, wanted: Option<u64>) -> Option<bool> {
     match key(alloc, at) {
         Ok(at) => has_at(alloc, tree, &at, wanted),
@@ -87,7 +87,7 @@ pub fn has_if_read(alloc: Global, tree: &Tree<Digit>, at: u8, wanted: Option<u64
     }
 }
 
-/// Whether a tree has this at the key of a number.
+/// Whether a tree has this value at the key of a number.
 pub fn has(alloc: Global, tree: &Tree<Digit>, at: u8, wanted: Option<u64>) -> bool {
     has_if_read(alloc, tree, at, wanted) == Some(true)
 }

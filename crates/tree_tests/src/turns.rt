@@ -1,21 +1,21 @@
-//! Steps on small trees, in tables of what goes in, what is done and what the tree then holds.
-use crate::trees::{Course, SMALLEST, append, goes_anew, new_tree};
+//! Tests of steps on small trees, in tables of what is appended, which steps are done, and the tree's size then.
+use crate::trees::{SMALLEST, TreeTest, append, new_tree, passes_on_new_tree};
 use flush::heaviest;
 use node::{Place, StepKind, StepReply, Tree, TreeStep};
 use std::alloc::Global;
 use steps::do_step;
 use test_support::{Digit, Plain};
 
-/// What a tree goes through.
+/// A turn of a test.
 #[derive(Clone, Copy)]
 pub enum Turn {
     /// Messages are appended.
     Append(&'static [Plain]),
-    /// A step of this kind at this slot of the root is answered so.
+    /// A step of this kind at this slot of the root has this reply.
     Step(StepKind, u8, StepReply),
 }
 
-/// A turn, and how many levels, slots, pending pieces and entries the tree then has.
+/// A turn, and the numbers of levels, slots, pending pieces and entries of the tree then.
 pub type Row = (Turn, [u128; 4]);
 
 /// The numbers of levels, slots, pending pieces and entries.
@@ -24,13 +24,13 @@ pub fn counts(tree: &Tree<Digit>) -> [u128; 4] {
     [report.levels, report.slots, report.pending, report.entries]
 }
 
-/// What a step at a slot of the root is answered.
+/// The reply to a step at a slot of the root.
 pub fn take(alloc: Global, tree: &mut Tree<Digit>, kind: StepKind, slot: u8) -> StepReply {
     let at = Place::root();
     do_step(alloc, tree, TreeStep { kind, at, slot })
 }
 
-/// Whether the turn is answered as it should be.
+/// Whether the turn has the expected reply.
 fn is_answered(alloc: Global, tree: &mut Tree<Digit>, turn: Turn) -> bool {
     match turn {
         Turn::Append(msgs) => append(alloc, tree, msgs),
@@ -38,7 +38,7 @@ fn is_answered(alloc: Global, tree: &mut Tree<Digit>, turn: Turn) -> bool {
     }
 }
 
-/// Takes a tree through the rows; the number of the first that does not come out as it says.
+/// Runs the rows on a tree; otherwise the index of the first that fails.
 fn follow_in(alloc: Global, tree: &mut Tree<Digit>, rows: &[Row]) -> Result<(), usize> {
     let mut number = 0usize;
     for (turn, wanted) in rows {
@@ -50,7 +50,7 @@ fn follow_in(alloc: Global, tree: &mut Tree<Digit>, rows: &[Row]) -> Result<(), 
     Ok(())
 }
 
-/// Takes a tree through the first rows, and then through the others; the number of the first of these that does not come out as it says.
+/// Runs the first rows on a tree, and then the others; otherwise the index of the first of these that fails.
 fn follow_both(
     alloc: Global,
     tree: &mut Tree<Digit>,
@@ -63,7 +63,7 @@ fn follow_both(
     follow_in(alloc, tree, rows)
 }
 
-/// Takes a new tree through the first rows, and then through the others; the number of the first of these that comes out otherwise.
+/// Runs the first rows on a new tree, and then the others; otherwise the index of the first of these that fails.
 fn follow_behind(alloc: Global, first: &[Row], rows: &[Row]) -> Result<(), usize> {
     match new_tree(alloc, SMALLEST) {
         Ok(mut tree) => follow_both(alloc, &mut tree, first, rows),
@@ -71,7 +71,7 @@ fn follow_behind(alloc: Global, first: &[Row], rows: &[Row]) -> Result<(), usize
     }
 }
 
-/// Rows to a tree with two slots over leaves, of 1, 2 and of 5, 6, 7: the fifth key has cut the full leaf.
+/// Rows to a tree with two slots over leaves, of 1, 2 and of 5, 6, 7: the fifth key splits the full leaf.
 const TWO_LEAVES: &[Row] = &[
     (
         Turn::Append(&[
@@ -97,12 +97,13 @@ const TWO_LEAVES: &[Row] = &[
     ),
 ];
 
-/// Takes a new tree to these two leaves and then through the rows.
+/// Runs these rows on a new tree, and then the others.
 fn follow_two_leaves(alloc: Global, rows: &[Row]) -> Result<(), usize> {
     follow_behind(alloc, TWO_LEAVES, rows)
 }
 
-/// Messages for the first key, for all from it on, and for the last two. Three of them wait, since the second takes the first away.
+/// Messages for the first key, for all from it on, and for the last two. Three of them are pending, since the second makes the
+/// first redundant.
 const ACROSS: &[Plain] = &[
     Plain::Put(1, 1),
     Plain::DelRange(1, None),
@@ -168,7 +169,7 @@ fn a_full_leaf_is_cut_for_the_oldest_message(rt: HostRuntime) -> Result<(), usiz
     follow_behind(rt.alloc(), &[], CUT_LEAF)
 }
 
-/// Two messages for keys that the full leaf has stand before the first for one that it has not: the three go down at once.
+/// Two messages for keys in the full leaf precede the first for a key that is not in it: all three are flushed at once.
 const TOUCHED_LEAF: &[Row] = &[
     (
         Turn::Append(&[
@@ -203,7 +204,7 @@ fn a_full_leaf_is_cut_behind_messages_for_its_own_keys(rt: HostRuntime) -> Resul
     follow_behind(rt.alloc(), &[], TOUCHED_LEAF)
 }
 
-/// Puts a value and flushes the last slot; what the flush is answered, and none where memory is refused.
+/// Puts a value and flushes the last slot; returns the reply to the flush, and `None` if an allocation fails.
 fn put_and_flush(alloc: Global, tree: &mut Tree<Digit>, at: u8) -> Option<StepReply> {
     if !append(alloc, tree, &[Plain::Put(at, 0)]) {
         return None;
@@ -212,11 +213,11 @@ fn put_and_flush(alloc: Global, tree: &mut Tree<Digit>, at: u8) -> Option<StepRe
     Some(take(alloc, tree, StepKind::FlushLeaf, slot))
 }
 
-/// Each of ten keys sinks, and the eleventh finds no room; an update of a key that the leaf has goes down alone.
+/// Each of ten keys is flushed, and the eleventh does not fit; an update of a key in the leaf is flushed alone.
 struct FillingUp;
 
-impl Course for FillingUp {
-    fn goes(&self, alloc: Global, tree: &mut Tree<Digit>) -> bool {
+impl TreeTest for FillingUp {
+    fn passes(&self, alloc: Global, tree: &mut Tree<Digit>) -> bool {
         for at in 1..11 {
             if put_and_flush(alloc, tree, at) != Some(StepReply::Did(1)) {
                 return false;
@@ -232,7 +233,7 @@ impl Course for FillingUp {
 
 #[test]
 fn a_full_node_has_no_room_for_a_cut(rt: HostRuntime) {
-    assert!(rt; goes_anew(rt.alloc(), SMALLEST, &FillingUp));
+    assert!(rt; passes_on_new_tree(rt.alloc(), SMALLEST, &FillingUp));
 }
 
 const BOTH_SIDES: &[Row] = &[
@@ -261,7 +262,7 @@ const BOTH_SIDES: &[Row] = &[
 ];
 
 #[test]
-fn messages_go_to_both_sides_of_a_pivot(rt: HostRuntime) -> Result<(), usize> {
+fn messages_are_split_at_a_pivot(rt: HostRuntime) -> Result<(), usize> {
     follow_two_leaves(rt.alloc(), BOTH_SIDES)
 }
 
@@ -288,7 +289,7 @@ const SPLIT: &[Row] = &[
         [2, 4, 4, 5],
     ),
     (
-        // the two parts of the range-delete meet, and are one again
+        // the two parts of the range-delete are adjacent, and are joined again
         Turn::Step(StepKind::MergeInner, 0, StepReply::Did(0)),
         [2, 3, 3, 5],
     ),
@@ -299,7 +300,7 @@ const SPLIT: &[Row] = &[
 ];
 
 #[test]
-fn only_the_range_delete_stands_on_both_sides_of_a_split(rt: HostRuntime) -> Result<(), usize> {
+fn only_the_range_delete_is_on_both_sides_of_a_split(rt: HostRuntime) -> Result<(), usize> {
     follow_two_leaves(rt.alloc(), SPLIT)
 }
 
@@ -337,14 +338,14 @@ fn five_messages_are_too_many_for_one_node(rt: HostRuntime) -> Result<(), usize>
     follow_two_leaves(rt.alloc(), FIVE_MESSAGES)
 }
 
-/// Whether a new root and a split below it make so many levels.
+/// Whether a new root and a split below it give this many levels.
 fn grows_to(alloc: Global, tree: &mut Tree<Digit>, levels: u128) -> bool {
     take(alloc, tree, StepKind::RootUp, 0) == StepReply::Did(0)
         && take(alloc, tree, StepKind::SplitInner, 0) == StepReply::Did(0)
         && tree.shape_report().levels == levels
 }
 
-/// Whether a tree grows from one level to sixteen, and no further.
+/// Whether a tree grows from one level to sixteen, and not further.
 fn grows_to_sixteen(alloc: Global, tree: &mut Tree<Digit>) -> bool {
     for levels in 2u32..17 {
         if !grows_to(alloc, tree, levels as u128) {
@@ -354,18 +355,18 @@ fn grows_to_sixteen(alloc: Global, tree: &mut Tree<Digit>) -> bool {
     take(alloc, tree, StepKind::RootUp, 0) == StepReply::NoRoom
 }
 
-/// A tree that gets two leaves grows to sixteen levels, and no further.
+/// A tree with two leaves grows to sixteen levels, and not further.
 struct Growing;
 
-impl Course for Growing {
-    fn goes(&self, alloc: Global, tree: &mut Tree<Digit>) -> bool {
+impl TreeTest for Growing {
+    fn passes(&self, alloc: Global, tree: &mut Tree<Digit>) -> bool {
         follow_in(alloc, tree, TWO_LEAVES).is_ok() && grows_to_sixteen(alloc, tree)
     }
 }
 
 #[test]
 fn a_tree_has_at_most_sixteen_levels(rt: HostRuntime) {
-    assert!(rt; goes_anew(rt.alloc(), SMALLEST, &Growing));
+    assert!(rt; passes_on_new_tree(rt.alloc(), SMALLEST, &Growing));
 }
 
 const FIVE_ENTRIES: &[Row] = &[
@@ -421,11 +422,11 @@ const COVERED: &[Row] = &[
 ];
 
 #[test]
-fn a_covered_leaf_goes(rt: HostRuntime) -> Result<(), usize> {
+fn a_covered_leaf_is_dropped(rt: HostRuntime) -> Result<(), usize> {
     follow_two_leaves(rt.alloc(), COVERED)
 }
 
-/// The slot of the root that is to be flushed into its leaf next, if one is.
+/// The slot of the root that is flushed into its leaf next, if there is one.
 fn heaviest_slot(tree: &Tree<Digit>) -> Option<u8> {
     let step = heaviest(tree)?;
     if step.kind == StepKind::FlushLeaf {
@@ -435,7 +436,7 @@ fn heaviest_slot(tree: &Tree<Digit>) -> Option<u8> {
     }
 }
 
-/// Whether messages that come make this slot the heaviest.
+/// Whether appending messages makes this slot the heaviest.
 fn make_heaviest(alloc: Global, tree: &mut Tree<Digit>, msgs: &[Plain], slot: u8) -> bool {
     append(alloc, tree, msgs) && heaviest_slot(tree) == Some(slot)
 }
@@ -458,11 +459,11 @@ fn sinks_from_first(alloc: Global, tree: &mut Tree<Digit>) -> bool {
     true
 }
 
-/// No slot of a new tree is heaviest, and of two that are equally heavy later the first.
+/// No slot of a new tree is the heaviest; of two slots of equal weight the first is.
 struct Naming;
 
-impl Course for Naming {
-    fn goes(&self, alloc: Global, tree: &mut Tree<Digit>) -> bool {
+impl TreeTest for Naming {
+    fn passes(&self, alloc: Global, tree: &mut Tree<Digit>) -> bool {
         heaviest(tree).is_none()
             && sinks_from_first(alloc, tree)
             && make_heaviest(alloc, tree, &[Plain::Put(7, 1), Plain::Put(1, 1)], 0)
@@ -472,10 +473,10 @@ impl Course for Naming {
 
 #[test]
 fn the_first_of_equally_heavy_slots_is_named(rt: HostRuntime) {
-    assert!(rt; goes_anew(rt.alloc(), SMALLEST, &Naming));
+    assert!(rt; passes_on_new_tree(rt.alloc(), SMALLEST, &Naming));
 }
 
-/// The place that fifteen numbers lead to, if so many are allowed.
+/// The node at which fifteen slot indexes lead, if so many are allowed.
 fn deepest() -> Option<Place> {
     let mut place = Some(Place::root());
     for slot in 0..15 {
@@ -487,7 +488,7 @@ fn deepest() -> Option<Place> {
     place
 }
 
-/// Whether a place has fifteen numbers, and none is below it.
+/// Whether a node's position has fifteen slot indexes, and it has no child.
 fn is_deepest(place: Option<Place>) -> bool {
     match place {
         Some(place) => place.numbers().len() == 15 && place.under(15).is_none(),

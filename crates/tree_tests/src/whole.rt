@@ -1,7 +1,8 @@
-//! Whole trees: steps of every kind work between messages, and each look-up is compared with a plain row of numbers.
+//! Tests of whole trees: steps of every kind are done between messages, and each look-up is compared with a reference
+//! array of numbers.
 use crate::pair::Pair;
 use crate::some_steps::{Done, try_step};
-use crate::trees::{Course, SMALLEST, append, goes_anew, has};
+use crate::trees::{SMALLEST, TreeTest, append, has, passes_on_new_tree};
 use crate::turns::{relieve_heaviest, take};
 use flush::heaviest;
 use node::{StepKind, StepReply, Tree};
@@ -13,7 +14,7 @@ fn take_first(alloc: Global, tree: &mut Tree<Digit>, kind: StepKind) -> StepRepl
     take(alloc, tree, kind, 0)
 }
 
-/// Whether steps of these kinds at the root's first slot are all answered so.
+/// Whether steps of these kinds at the root's first slot all have this reply.
 fn are_answered(
     alloc: Global,
     tree: &mut Tree<Digit>,
@@ -42,18 +43,18 @@ const KINDS: &[StepKind] = &[
 /// A new tree has no step to do.
 struct NoStep;
 
-impl Course for NoStep {
-    fn goes(&self, alloc: Global, tree: &mut Tree<Digit>) -> bool {
+impl TreeTest for NoStep {
+    fn passes(&self, alloc: Global, tree: &mut Tree<Digit>) -> bool {
         are_answered(alloc, tree, KINDS, StepReply::NotThere) && heaviest(tree).is_none()
     }
 }
 
 #[test]
 fn new_tree_has_no_step_to_do(rt: HostRuntime) {
-    assert!(rt; goes_anew(rt.alloc(), SMALLEST, &NoStep));
+    assert!(rt; passes_on_new_tree(rt.alloc(), SMALLEST, &NoStep));
 }
 
-/// Whether a tree has at each of the five keys the key's number; or nothing at any.
+/// Whether a tree has at each of the five keys the key's number; or no value at any.
 fn has_five(alloc: Global, tree: &Tree<Digit>, are_there: bool) -> bool {
     for name in *b"abcde" {
         let wanted = if are_there { Some(name as u64) } else { None };
@@ -64,7 +65,7 @@ fn has_five(alloc: Global, tree: &Tree<Digit>, are_there: bool) -> bool {
     true
 }
 
-/// Puts five keys of one byte, or deletes them, by a message each.
+/// Puts five keys of one byte, or deletes them, with a message each.
 fn send_five(alloc: Global, tree: &mut Tree<Digit>, is_put: bool) -> bool {
     for name in *b"abcde" {
         let message = if is_put {
@@ -79,7 +80,7 @@ fn send_five(alloc: Global, tree: &mut Tree<Digit>, is_put: bool) -> bool {
     true
 }
 
-/// Does as many steps of the heaviest slot as there are messages; whether none is left to do.
+/// Does as many steps of the heaviest slot as there are messages; returns whether none is left to do.
 fn sink(alloc: Global, tree: &mut Tree<Digit>) -> bool {
     for _ in 0..5 {
         relieve_heaviest(alloc, tree);
@@ -87,7 +88,8 @@ fn sink(alloc: Global, tree: &mut Tree<Digit>) -> bool {
     heaviest(tree).is_none()
 }
 
-/// Sinks five messages; whether no step is left to do, and the five keys have their values before each step and after the last.
+/// Flushes five messages; returns whether no step is left to do, and the five keys have their values before each step and after
+/// the last.
 fn sink_unseen(alloc: Global, tree: &mut Tree<Digit>) -> bool {
     for _ in 0..5 {
         if !has_five(alloc, tree, true) {
@@ -108,17 +110,17 @@ fn is_first_heaviest(tree: &Tree<Digit>) -> bool {
     }
 }
 
-/// Whether five entries lie in two slots or more, and nothing is pending.
+/// Whether five entries are in two slots or more, and nothing is pending.
 fn holds_five(tree: &Tree<Digit>) -> bool {
     let report = tree.shape_report();
     report.entries == 5 && report.pending == 0 && report.slots >= 2
 }
 
-/// Five keys of a new tree sink into two leaves.
+/// Five keys of a new tree are flushed into two leaves.
 struct Sinking;
 
-impl Course for Sinking {
-    fn goes(&self, alloc: Global, tree: &mut Tree<Digit>) -> bool {
+impl TreeTest for Sinking {
+    fn passes(&self, alloc: Global, tree: &mut Tree<Digit>) -> bool {
         send_five(alloc, tree, true)
             && is_first_heaviest(tree)
             && sink_unseen(alloc, tree)
@@ -128,7 +130,7 @@ impl Course for Sinking {
 
 #[test]
 fn five_keys_sink_into_two_leaves(rt: HostRuntime) {
-    assert!(rt; goes_anew(rt.alloc(), SMALLEST, &Sinking));
+    assert!(rt; passes_on_new_tree(rt.alloc(), SMALLEST, &Sinking));
 }
 
 const UP_AND_DOWN: &[StepKind] = &[
@@ -139,7 +141,7 @@ const UP_AND_DOWN: &[StepKind] = &[
 ];
 
 /// Whether each of these steps is done and changes no value.
-fn goes_up_and_down(alloc: Global, tree: &mut Tree<Digit>) -> bool {
+fn is_raised_and_lowered(alloc: Global, tree: &mut Tree<Digit>) -> bool {
     for kind in UP_AND_DOWN {
         if take_first(alloc, tree, *kind) != StepReply::Did(0) || !has_five(alloc, tree, true) {
             return false;
@@ -148,21 +150,21 @@ fn goes_up_and_down(alloc: Global, tree: &mut Tree<Digit>) -> bool {
     true
 }
 
-/// A tree whose five keys have sunk goes up and down, and no value changes.
+/// The height of a tree whose five keys were flushed is raised and lowered, and no value changes.
 struct UpAndDown;
 
-impl Course for UpAndDown {
-    fn goes(&self, alloc: Global, tree: &mut Tree<Digit>) -> bool {
-        send_five(alloc, tree, true) && sink(alloc, tree) && goes_up_and_down(alloc, tree)
+impl TreeTest for UpAndDown {
+    fn passes(&self, alloc: Global, tree: &mut Tree<Digit>) -> bool {
+        send_five(alloc, tree, true) && sink(alloc, tree) && is_raised_and_lowered(alloc, tree)
     }
 }
 
 #[test]
-fn root_goes_up_and_down_again(rt: HostRuntime) {
-    assert!(rt; goes_anew(rt.alloc(), SMALLEST, &UpAndDown));
+fn root_is_raised_and_lowered_again(rt: HostRuntime) {
+    assert!(rt; passes_on_new_tree(rt.alloc(), SMALLEST, &UpAndDown));
 }
 
-/// Whether the leaves become one by as many merges as there are slots but one, and by no more.
+/// Whether the leaves are merged into one by one merge less than there are slots, and not by more.
 fn merge_all(alloc: Global, tree: &mut Tree<Digit>) -> bool {
     for _ in 1..tree.shape_report().slots {
         if take_first(alloc, tree, StepKind::MergeLeaves) != StepReply::Did(0) {
@@ -173,11 +175,11 @@ fn merge_all(alloc: Global, tree: &mut Tree<Digit>) -> bool {
         && take_first(alloc, tree, StepKind::MergeLeaves) == StepReply::NotThere
 }
 
-/// The leaves of a tree whose five keys have sunk and gone become one.
+/// The leaves of a tree whose five keys were flushed and deleted are merged.
 struct Leaving;
 
-impl Course for Leaving {
-    fn goes(&self, alloc: Global, tree: &mut Tree<Digit>) -> bool {
+impl TreeTest for Leaving {
+    fn passes(&self, alloc: Global, tree: &mut Tree<Digit>) -> bool {
         send_five(alloc, tree, true)
             && sink(alloc, tree)
             && send_five(alloc, tree, false)
@@ -189,10 +191,11 @@ impl Course for Leaving {
 
 #[test]
 fn empty_leaves_become_one(rt: HostRuntime) {
-    assert!(rt; goes_anew(rt.alloc(), SMALLEST, &Leaving));
+    assert!(rt; passes_on_new_tree(rt.alloc(), SMALLEST, &Leaving));
 }
 
-/// How many changes, with a step after each, searches find what the row has after, before the first that they do not.
+/// The number of changes, each followed by a step, after which scans find what the array has, before the first that
+/// fails.
 fn count_found(alloc: Global, pair: &mut Pair) -> u32 {
     let mut random = Random(3);
     let mut done = Done::new();
@@ -207,7 +210,7 @@ fn count_found(alloc: Global, pair: &mut Pair) -> u32 {
     10_000
 }
 
-/// What a tree beside a row is taken through.
+/// A test of a tree with its reference array.
 #[derive(Clone, Copy)]
 enum Way {
     Found,
@@ -215,7 +218,7 @@ enum Way {
     Kept,
 }
 
-/// How many rounds of the way come out as they should, before the first that does not.
+/// The number of rounds of the test that pass, before the first that fails.
 fn count(alloc: Global, pair: &mut Pair, way: Way) -> u32 {
     match way {
         Way::Found => count_found(alloc, pair),
@@ -224,8 +227,8 @@ fn count(alloc: Global, pair: &mut Pair, way: Way) -> u32 {
     }
 }
 
-/// How many rounds of the way come out as they should with a new tree and a new row, before the first that does not.
-fn count_anew(alloc: Global, way: Way) -> u32 {
+/// The number of rounds of the test that pass with a new tree and a new array, before the first that fails.
+fn count_in_new_tree(alloc: Global, way: Way) -> u32 {
     match Pair::new(alloc) {
         Ok(mut pair) => count(alloc, &mut pair, way),
         Err(_) => 0,
@@ -234,10 +237,10 @@ fn count_anew(alloc: Global, way: Way) -> u32 {
 
 #[test]
 fn searches_find_the_pairs_of_the_row(rt: HostRuntime) {
-    assert_eq!(rt; count_anew(rt.alloc(), Way::Found), 10_000);
+    assert_eq!(rt; count_in_new_tree(rt.alloc(), Way::Found), 10_000);
 }
 
-/// Whether a tree and a row agree at some key after a change and three steps.
+/// Whether a tree and an array agree at some key after a change and three steps.
 fn agrees_after_steps(
     alloc: Global,
     random: &mut Random,
@@ -255,8 +258,8 @@ fn agrees_after_steps(
     pair.agrees_at(alloc, random.byte())
 }
 
-/// After how many rounds of changes and steps they agree, before the first after which they do not; none where they do not agree at
-/// each key at the end, or too few steps of some kind were done.
+/// The number of rounds of changes and steps after which they agree, before the first after which they do not; `None` if they do
+/// not agree at each key at the end, or too few steps of some kind were done.
 fn count_alike(alloc: Global, pair: &mut Pair) -> u32 {
     let mut random = Random(11);
     let mut done = Done::new();
@@ -274,10 +277,10 @@ fn count_alike(alloc: Global, pair: &mut Pair) -> u32 {
 
 #[test]
 fn no_step_changes_a_value(rt: HostRuntime) {
-    assert_eq!(rt; count_anew(rt.alloc(), Way::Alike), 20_000);
+    assert_eq!(rt; count_in_new_tree(rt.alloc(), Way::Alike), 20_000);
 }
 
-/// Keeps a share of a tree beside the row that it means now.
+/// Stores a share of a tree with a copy of its array.
 fn keep(kept: &mut Vec<Pair>, pair: &Pair) -> bool {
     match pair.share() {
         Ok(pair) => kept.push(pair).is_ok(),
@@ -285,7 +288,7 @@ fn keep(kept: &mut Vec<Pair>, pair: &Pair) -> bool {
     }
 }
 
-/// Changes a tree, with a step after each change, and keeps a share at each hundredth.
+/// Changes a tree, with a step after each change, and stores a share after each hundredth.
 fn change_and_keep(alloc: Global, pair: &mut Pair, kept: &mut Vec<Pair>) -> bool {
     let mut random = Random(23);
     let mut done = Done::new();
@@ -300,7 +303,7 @@ fn change_and_keep(alloc: Global, pair: &mut Pair, kept: &mut Vec<Pair>) -> bool
     true
 }
 
-/// How many of the shares mean what they meant.
+/// How many of the shares still agree with their arrays.
 fn count_unchanged(alloc: Global, kept: &[Pair]) -> u32 {
     let mut count = 0u32;
     for old in kept {
@@ -311,7 +314,7 @@ fn count_unchanged(alloc: Global, kept: &[Pair]) -> u32 {
     count
 }
 
-/// How many of the shares of a tree mean what they meant, once it has changed.
+/// How many of the shares of a tree still agree with their arrays after the tree has changed.
 fn count_kept(alloc: Global, pair: &mut Pair) -> u32 {
     let mut kept = Vec::new(alloc);
     if !change_and_keep(alloc, pair, &mut kept) {
@@ -322,5 +325,5 @@ fn count_kept(alloc: Global, pair: &mut Pair) -> u32 {
 
 #[test]
 fn shared_trees_never_change(rt: HostRuntime) {
-    assert_eq!(rt; count_anew(rt.alloc(), Way::Kept), 100);
+    assert_eq!(rt; count_in_new_tree(rt.alloc(), Way::Kept), 100);
 }

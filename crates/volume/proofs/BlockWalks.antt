@@ -1,4 +1,4 @@
--- What a walk through the blocks of a tree gives, from the first pair of the index at a key or behind it.
+-- The blocks that a walk returns, from the first pair of the index at or after a key.
 use Rattle.std.proofs.Common.{◌≡◌, Bool, ℕ, ◌^◌, ◌<◌, ◌≤◌, List, [], ◌∷◌, ◌++◌, length, true, refl, sym, ap, subst, ◌∙◌, ◌⊎◌, inl, inr, arith, Option, Some, None}
 use Rattle.std.specs.Prelude.{All, Contains, IfSome}
 use Rattle.std.specs.Option.{option_to_list}
@@ -25,7 +25,7 @@ use Rattle.volume.proofs.Walks.{all_of_blocks, blocks_listed, found_block}
 -- ---- a scan of one pair
 
 module _ {V : Type 0} (f : List ℕ → Option V) (lo : List ℕ) (hi : Option (List ℕ)) where
-  -- where nothing is found
+  -- if nothing is found
   scan_of_none : HasNone f lo hi → IsScan f lo hi 1 []
   scan_of_none none = record {
     few = omega arith;
@@ -35,7 +35,7 @@ module _ {V : Type 0} (f : List ℕ → Option V) (lo : List ℕ) (hi : Option (
   }
 
   module _ (p : List ℕ × V) (first : IsFirst f lo hi (Some p)) where
-    -- no other stands before it
+    -- no other pair is before it
     rest_behind : (k : List ℕ) (v : V) → within lo hi k ≡ true → f k ≡ Some v → Contains (p ∷ []) (k, v) ⊎ ((length (p ∷ []) ≡ 1) × All (λ q. before q.0 k ≡ true) (p ∷ []))
     rest_behind k v w e =
         let low : reaches lo k ≡ true = (both (reaches lo k) (is_below k hi) w).0 in
@@ -48,7 +48,7 @@ module _ {V : Type 0} (f : List ℕ → Option V) (lo : List ℕ) (hi : Option (
         let value : v ≡ p.1 = same_Some v p.1 (sym e ∙ ap f key ∙ first.1) in
         inl (subst (λ (r : List ℕ × V). Contains (p ∷ []) r) (λ i. (sym key i, sym value i)) (Contains-push [] p))))
 
-    -- where a pair is found
+    -- if a pair is found
     scan_of_first : IsScan f lo hi 1 (p ∷ [])
     scan_of_first = record {
       few = omega arith;
@@ -57,14 +57,14 @@ module _ {V : Type 0} (f : List ℕ → Option V) (lo : List ℕ) (hi : Option (
       complete = rest_behind;
     }
 
--- ---- indexes that are one
+-- ---- equal indexes
 
 module _ (i j : Indexes) (same : i ≡ j) where
-  -- where a walk stands
+  -- the position of a walk
   pub stands_in : (r : KeyRange) (o : Option (Key × List ℕ)) (all : Bool) (ps : List (Key × List ℕ)) → StandsAt (blocks i.block) r o all ps → StandsAt (blocks j.block) r o all ps
   stands_in r o all ps s = subst (λ (x : Indexes). StandsAt (blocks x.block) r o all ps) same s
 
-  -- and the first pair at a key or behind it
+  -- the first pair at or after a key
   pub first_at : (k l : Key) (hi : Option Key) (o : Option (Key × List ℕ)) → k ≡ l → hi ≡ None → IsFirst (blocks i.block) k hi o → IsFirst (blocks j.block) l None o
   first_at k l hi o key end first =
       subst (λ (e : Option Key). IsFirst (blocks j.block) l e o) end
@@ -76,7 +76,7 @@ range_is : (p : Path) (from : ℕ) → blocks_from p from ≡ record { lo = bloc
 unfolding blocks_from
 range_is p from = refl
 
--- the pair of which a block was given, if it is one
+-- the pair of which a block was returned, if there is one
 abbrev taken : Option (Key × List ℕ) → Option (ℕ × List ℕ) → List (Key × List ℕ)
 taken None x = []
 taken (Some q) None = []
@@ -110,7 +110,7 @@ module _ (d : Blocks) (p : Path) (from : ℕ) where
   range_scan : (o : Option (Key × List ℕ)) (x : Option (ℕ × List ℕ)) → IsFirst d lo None o → IsOwn p o x → IsScan d (blocks_from p from).lo (blocks_from p from).hi 1 (taken o x)
   range_scan o x first own = subst (λ (r : KeyRange). IsScan d r.lo r.hi 1 (taken o x)) (sym (range_is p from)) (scan_by o x first own)
 
--- its key tells the block's number
+-- its key has the block's number
 numbers : (p : Path) (o : Option (Key × List ℕ)) (x : Option (ℕ × List ℕ)) → All (λ q. IsOfBlock p q.0) (taken o x) → IsOwn p o x → AreNumbered p (taken o x) (option_to_list x)
 numbers p None None all own = record { few = All-nil _; pairs = refl }
 numbers p None (Some x) all own = absurd (cc)
@@ -125,13 +125,13 @@ numbers p (Some q) (Some x) all own =
     }
 
 module _ (t : Tree) (d : Blocks) (is : IsTree t) (means : BlocksMean t d) (p : Path) (is_path : IsPath p) (from : ℕ) (fits : from < 2 ^ 32) (o : Option (Key × List ℕ)) (x : Option (ℕ × List ℕ)) (first : IsFirst d (block_key p from) None o) (own : IsOwn p o x) where
-  -- what is given is the first stored block of what stands at the path, from the number on
+  -- the returned block is the first stored one, from the number on, of what is at the path
   pub block_given : AreBlocksAt (entry_at t p) from 1 (option_to_list x)
   block_given =
       let found = range_scan d p from o x first own in
       blocks_listed t d is means p is_path from 1 fits (taken o x) found (option_to_list x) (numbers p o x (all_of_blocks t d means p is_path from 1 fits (taken o x) found) own)
 
--- and its number is one of a block, from the one that was asked for on
+-- its number is one of a block, and not below the requested one
 pub number_given : (t : Tree) (d : Blocks) → BlocksMean t d → (p : Path) → IsPath p → (from : ℕ) → from < 2 ^ 32 → (o : Option (Key × List ℕ)) (x : Option (ℕ × List ℕ)) → IsFirst d (block_key p from) None o → IsOwn p o x → IfSome x (λ y. (from ≤ y.0) × (y.0 < most_blocks))
 number_given t d means p is_path from fits o None first own = tt
 number_given t d means p is_path from fits None (Some x) first own = absurd (cc)

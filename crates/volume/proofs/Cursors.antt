@@ -1,4 +1,4 @@
--- Where a walk through the pairs of a tree stands, when it goes to a key, and takes a pair.
+-- The position of a walk through the pairs of a tree, when it seeks a key and when it takes a pair.
 use Rattle.std.proofs.Common.{◌≡◌, ℕ, Bool, true, false, List, [], length, ap, sym, ◌∙◌, subst, Option, Some, None, arith}
 use Rattle.std.specs.Prelude.{is_some}
 use Rattle.message.specs.Ranges.{before, reaches}
@@ -21,7 +21,7 @@ module _ {V : Type 0} (f : List ℕ → Option V) where
   ahead_later : (lo later : List ℕ) (hi : Option (List ℕ)) (all : Bool) (ps : List (List ℕ × V)) → reaches lo later ≡ true → AreAhead f lo hi all ps → AreAhead f later hi all ps
   ahead_later lo later hi all ps h (from, low, scanned) = (from, le_le from lo later low h, scanned)
 
-  -- a later key, before which the first pair does not lie
+  -- a later key, which is not after the first pair
   pub stands_later : (r : KeyRange) (later : Key) (o : Option (List ℕ × V)) (all : Bool) (ps : List (List ℕ × V)) → before later r.lo ≡ false → is_passed o later ≡ false
       → StandsAt f r o all ps → StandsAt f (record { lo = later; hi = r.hi }) o all ps
   stands_later r later None all ps h p s = ahead_later r.lo later r.hi all ps (reaches-from_not_before later r.lo h) s
@@ -38,14 +38,14 @@ module _ {V : Type 0} (f : List ℕ → Option V) where
         ahead,
       )
 
-  -- a later key, behind the first pair, which goes
+  -- a later key, after the first pair, which is skipped
   pub stands_passed : (r : KeyRange) (later : Key) (o n : Option (List ℕ × V)) (all : Bool) (ps : List (List ℕ × V)) → is_passed o later ≡ true → n ≡ None
       → StandsAt f r o all ps → StandsAt f (record { lo = later; hi = r.hi }) n all ps
   stands_passed r later None n all ps p e s = absurd (cc)
   stands_passed r later (Some q) (Some z) all ps p e s = absurd (cc)
   stands_passed r later (Some q) None all ps p e (first, behind) = (next_key q.0, reaches-next q.0 later ∙ p, behind)
 
-  -- nothing was given
+  -- no pair was returned
   pub given_none : (lo : Key) (hi : Option Key) (o : Option (List ℕ × V)) (all : Bool) (ps : List (List ℕ × V)) → o ≡ None → IsGiven f lo hi o all ps → HasNone f lo hi
   given_none lo hi None all ps e g = g
   given_none lo hi (Some p) all ps e g = absurd (cc)

@@ -1,4 +1,4 @@
--- Runs of stored bytes of a file, from the first stored block at or behind a number.
+-- Runs of stored bytes of a file, from the first stored block with a number or a later one.
 use Rattle.std.proofs.Common.{◌≡◌, ℕ, ◌+◌, ◌-◌, ◌*◌, ◌/◌, ◌%◌, ◌^◌, ◌<◌, ◌≤◌, min, max, List, length, get_or, refl, sym, ap, ◌∙◌, subst, inl, inr, ⊎_elim, Option, Some, None, arith}
 use Rattle.std.specs.Prelude.{IsSome}
 use Rattle.std.proofs.Math.Nat.{div-add-mod, mod-lt}
@@ -21,7 +21,7 @@ module _ (d : Blocks) (p : Path) (b : List ℕ) (hold : Hold (λ i. d (block_key
       let small : x % 4096 < 4096 = mod-lt x (omega arith) in
       ap (λ (y : ℕ). get_or b y 0) (sym at) ∙ sym (hold.byte (x / 4096) (x % 4096) (omega (arith, lt, short)) small) ∙ ap (λ (o : Option (List ℕ)). byte_of o (x % 4096)) none
 
-  -- no run, where no block from off on is stored that has a byte of the file
+  -- there is no run if no block from off on is stored that has a byte of the file
   no_run : ((x : ℕ) → off ≤ x → x < length b → block_at d p x ≡ None) → IsRun d p b off (length b) (length b)
   no_run hole = record {
     order = omega arith;
@@ -72,7 +72,7 @@ module _ (d : Blocks) (p : Path) (b : List ℕ) (hold : Hold (λ i. d (block_key
         ends = λ u. let at : end ≡ to / 4096 = omega (arith, u) in ap (λ (i : ℕ). d (block_key p i)) (sym at) ∙ ended (omega (arith, u));
       }
 
--- the same of the file at a path, in each tree that the indexes mean
+-- the same for the file at a path, in each tree to which the indexes abstract
 module _ (r : FsRoot) (p : Path) (is_path : IsPath p) (off len : ℕ) (short : len ≤ 2 ^ 40) where
   abbrev stored_in : Blocks
   stored_in = blocks r.indexes.block

@@ -1,4 +1,4 @@
--- What a fork means, and a volume whose live tree became a frozen one.
+-- The tree of a fork, and a volume whose live tree was replaced by a frozen one.
 use Rattle.std.proofs.Common.{◌≡◌, ℕ, List, refl, sym, subst, arith, ap, ◌∙◌, Ok, Err, Some}
 use Rattle.std.specs.FinMap as finite
 use Rattle.call_compiler.specs.Compiled.{MeanTree}
@@ -23,7 +23,7 @@ use Rattle.volume.proofs.Pairs.{alike_empty}
 root_means : (r : FsRoot) (i : Indexes) (t : Tree) → i ≡ r.indexes → MeanRooted r t → MeanRooted (record { indexes = i; modified = r.modified }) t
 root_means r i t same is = record { indexes = subst (λ (x : Indexes). MeanTree x t) (sym same) is.indexes; root = is.root }
 
--- a root that was put together of the parts of another
+-- a root with the parts of another
 pub same_root : (r root : FsRoot) (i : Indexes) (n : ℕ) → root ≡ record { indexes = i; modified = n } → i ≡ r.indexes → n ≡ r.modified → root ≡ r
 same_root r root i n is same moment =
     let parts : r ≡ record { indexes = i; modified = n } = λ k. record { indexes = sym same k; modified = sym moment k } in

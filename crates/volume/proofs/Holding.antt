@@ -1,4 +1,4 @@
--- Jobs that a run holds: where they stand in its list, and that they stay held.
+-- The jobs that a run holds: their positions in its list, and that they stay held.
 use Rattle.std.proofs.Common.{◌≡◌, ℕ, ◌+◌, ◌<◌, true, false, List, [], ◌∷◌, ◌++◌, length, get_or, refl, ap, sym, ◌∙◌, subst, arith, cond, Some, None, inl, inr, add-one}
 use Rattle.std.specs.Prelude.{◌==◌}
 use Rattle.std.specs.List.{remove}
@@ -27,7 +27,7 @@ use Rattle.volume.specs.declared.job.TakeReply.TheVariants.{Taken as TakenAs}
 
 -- ---- what stays held
 
--- over a call that keeps what fits
+-- after a call that preserves what fits
 pub still_held : (h : RunJob) (a b : PLive) → KeepsMarks a b → IsHeld a h → IsHeld b h
 still_held (Taken (MetaJob j)) a b k h = (omega (arith, k.given, h.0), k.meta.fits j.ticket (job_content meta_means j) h.0 h.1)
 still_held (Taken (BlockJob j)) a b k h = (omega (arith, k.given, h.0), k.block.fits j.ticket (job_content block_means j) h.0 h.1)
@@ -58,7 +58,7 @@ pub again_held : (h again : RunJob) (l : PLive) → IsAgain h again → IsHeld l
 again_held h again l (inl e) k = subst (IsHeld l) (sym e) k
 again_held h again l (inr d) k = subst (IsHeld l) (sym d.2) (built_held h d.0 l d.1 k)
 
--- with one more
+-- one more job
 pub held_more : (hs : List RunJob) (h : RunJob) (l : PLive) → AreHeld l hs → IsHeld l h → AreHeld l (hs ++ h ∷ [])
 held_more [] h l a k = (k, tt)
 held_more (x ∷ xs) h l a k = (a.0, held_more xs h l a.1 k)
@@ -85,7 +85,7 @@ one_less t (h ∷ hs) job e =
       | false ↦ λ q. let r = one_less t hs job q in omega (arith, r)
     ]) e
 
--- where there is none, all are left
+-- if there is none, all jobs remain
 pub all_left : (t : ℕ) (hs : List RunJob) → with_ticket t hs ≡ None → others t hs ≡ hs
 all_left t [] e = refl
 all_left t (h ∷ hs) e =
@@ -94,9 +94,9 @@ all_left t (h ∷ hs) e =
       | false ↦ λ q. ap (λ z. h ∷ z) (all_left t hs q)
     ]) e
 
--- ---- its place
+-- ---- its index
 
--- there is none without a place
+-- there is none without an index
 pub none_there : (t : ℕ) (hs : List RunJob) → position t hs ≡ None → with_ticket t hs ≡ None
 none_there t [] e = refl
 none_there t (h ∷ hs) e =
@@ -105,7 +105,7 @@ none_there t (h ∷ hs) e =
       | false ↦ λ q. none_there t hs (none_later (position t hs) q)
     ]) e
 
--- it is the job at its place, and the others are those that are left without it
+-- it is the job at its index, and the others are those that remain without it
 pub found_there : (t i : ℕ) (hs : List RunJob) (d : RunJob) → position t hs ≡ Some i → (with_ticket t hs ≡ Some (get_or hs i d)) × (others t hs ≡ remove hs i)
 found_there t i [] d e = (cc)
 found_there t i (h ∷ hs) d e =
@@ -117,7 +117,7 @@ found_there t i (h ∷ hs) d e =
           subst (λ n. (with_ticket t hs ≡ Some (get_or (h ∷ hs) n d)) × (h ∷ others t hs ≡ remove (h ∷ hs) n)) (sym (add-one p.0) ∙ p.2) (r.0, ap (λ z. h ∷ z) r.1)
     ]) e
 
--- none of the first so many has the ticket, and the next one has it
+-- none of the first ones has the ticket, and the next one has it
 pub found_first : (t : ℕ) (xs : List RunJob) (h : RunJob) (ys : List RunJob) → position t xs ≡ None → held_ticket h ≡ t → position t (xs ++ h ∷ ys) ≡ Some (length xs)
 found_first t [] h ys e q =
     elim (held_ticket h == t) as (λ b. (held_ticket h == t) ≡ b → cond b (Some 0) (one_more (position t ys)) ≡ Some 0) [
@@ -130,7 +130,7 @@ found_first t (x ∷ xs) h ys e q =
       | false ↦ λ d. ap one_more (found_first t xs h ys (none_later (position t xs) d) q) ∙ ap (λ (n : ℕ). Some n) (add-one (length xs))
     ]) e
 
--- nor has one more that has another
+-- nor does one more with another ticket
 pub none_with : (t : ℕ) (xs : List RunJob) (h : RunJob) → position t xs ≡ None → (held_ticket h ≡ t → ⊥) → position t (xs ++ h ∷ []) ≡ None
 none_with t [] h e q =
     elim (held_ticket h == t) as (λ b. (held_ticket h == t) ≡ b → cond b (Some 0) (one_more (position t [])) ≡ None) [

@@ -1,4 +1,4 @@
--- From what a hole was compiled to, and sent, to what became of the volume.
+-- From what a hole was compiled to, and sent, to its effect on the volume.
 use Rattle.std.proofs.Common.{arith, ◌≡◌, ℕ, Bool, true, false, cond, refl, sym, ap, subst, ◌∙◌, inr, Ok, Err}
 use Rattle.std.specs.Prelude.{Result, ◌&&◌}
 use Rattle.block_index.specs.Updates.{means as block_means}
@@ -28,7 +28,7 @@ use Rattle.volume.proofs.Leading.{Arriving, volume, called, kept_same, nothing_c
 use Rattle.volume.proofs.Trees.{Appends, nothing_appended, receives}
 use Rattle.volume.proofs.Typing.{of_kind}
 
--- a write gives the root no moment
+-- a write does not change the mtime of the root
 root_stays : (r : Reply) (at modified : ℕ) → after_call false r at modified ≡ modified
 root_stays r at modified = never (is_done r)
   where
@@ -36,7 +36,7 @@ root_stays r at modified = never (is_done r)
     never true = refl
     never false = refl
 
--- want of memory
+-- an allocation failure
 pub lacks_hole : (v : PVolume) (p : Path) (off n at : ℕ) (l : PLive) → l ≡ live_of v → Punches p off n at (Fault ENOMEM) v (volume l v.live.modified v.snapshots)
 lacks_hole v p off n at l e = record {
   leads = λ w m. (inr refl, subst (λ (k : PLive). Means (volume k v.live.modified v.snapshots) w) (sym e) m);
@@ -55,7 +55,7 @@ module _ (v : PVolume) (is : IsVolume v) (p : Path) (off n at : ℕ) (l : PLive)
   new = volume l v.live.modified v.snapshots
 
   module _ (r : Reply) (msgs : Messages) (made : IsPunched v.live.indexes p off n at r msgs) (arrives : Appends msgs v.live.indexes l.indexes) (lists : KeepMarkedLists msgs (live_of v) l) (marks : l.marks ≡ v.marks) (snapshot_root : KeepsMarks (live_of v) l) where
-    -- the write of zeros in the one tree that is meant
+    -- the write of zeros in the one tree of the indexes
     does_it : (w : World) → Means v w → Does (zeroing p off n w.live) at r v.live.indexes l.indexes
     does_it w m t meant =
         let c : Call = zeroing p off n w.live in
@@ -84,7 +84,7 @@ module _ (v : PVolume) (is : IsVolume v) (p : Path) (off n at : ℕ) (l : PLive)
       kept = snapshot_root;
     }
 
-  -- what is replied
+  -- the reply
   pub answered_hole : {T E : Type 0} (r : Reply) (msgs : Messages) (a : Result T E) → IsPunched v.live.indexes p off n at r msgs → Arriving msgs a (live_of v) l → Punches p off n at (reply_to a r) v new
   answered_hole r msgs (Ok x) made h = punched r msgs made (record { taken = h.taken; no_meta = h.no_meta; no_block = h.no_block }) h.lists h.marks h.kept
   answered_hole r msgs (Err e) made h = lacks_hole v p off n at l h.err
@@ -94,6 +94,6 @@ module _ (v : PVolume) (is : IsVolume v) (p : Path) (off n at : ℕ) (l : PLive)
   hole_count r msgs (Ok x) made = subst IsCount (sym (made.reply is.world.live is.means.live.indexes)) (of_kind (zeroing p off n is.world.live) at is.world.live)
   hole_count r msgs (Err e) made = tt
 
-  -- the type of volumes keeps what it keeps
+  -- the invariant of volumes is preserved
   pub hole_lasts : (r : Reply) → Punches p off n at r v new → Stands l → IsVolume new
   hole_lasts r made assert_invariant = record { world = next is.world (hole_in p off n at is.world) (Replied r); means = (made.leads is.world is.means).1; few = is.few; stands = assert_invariant }

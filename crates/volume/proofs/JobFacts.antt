@@ -1,4 +1,4 @@
--- From what one tree's marks answer to what the live indexes of a volume answer.
+-- From the replies of one tree's marks to those of the live indexes of a volume.
 use Rattle.std.proofs.Common.{◌≡◌, ℕ, ◌+◌, ◌≤◌, List, [], ◌∷◌, ◌++◌, length, refl, ap, sym, ◌∙◌, subst, arith, Option, None, false, ◌↔◌}
 use Rattle.std.proofs.lemmas.List.{length_push}
 use Rattle.block_index.specs.Updates.{means as block_means}
@@ -39,7 +39,7 @@ NotTaken NotThere = Unit {0}
 NotTaken NoRoom = Unit {0}
 NotTaken NoMemory = Unit {0}
 
--- a refusal leaves all as it was
+-- a failure leaves everything unchanged
 pub not_taken : (index : Index) (i : ℕ) (r : TakeReply) (l new : PLive) → NotTaken r → new ≡ l → (r ≡ NotThere) ↔ (can_take index i l ≡ false) → (r ≡ NoRoom → LacksRoomFor index i l) → AnswersTaking index i r l new
 not_taken index i (Taken job) l new refusal e n m = absurd refusal
 not_taken index i NotThere l new refusal e n m = subst (λ (x : PLive). AnswersTaking index i NotThere l x) (sym e) (record { taken = tt; lawful = tt; fits = tt; not_there = n; no_room = m; unchanged = refl; kept = kept_all l })
@@ -70,13 +70,13 @@ block_taken l i job new of e lawful fits free = record {
   kept = block_keeps l l.indexes.block.tree new (l.marks.given + 1) (omega arith) (keeps_more block_means l.indexes.block.tree l.marks.block new l.marks.given (l.marks.given + 1) (mark_of job) e of.ticket);
 }
 
--- as many marks and one more
+-- one more mark
 pub one_more_mark : (ms new : List Mark) (m : Mark) → new ≡ ms ++ m ∷ [] → length new ≡ length ms + 1
 one_more_mark ms new m e = ap length e ∙ length_push ms m
 
 -- ---- installing
 
--- what one tree's marks answer to an install
+-- the reply of one tree's marks to an install
 pub record Answered {U V : Type 0} (means : U → Option V → Option V) (d : PDone U V) (r : Placing U V) (a : PTree U V) (ms : List Mark) (b : PTree U V) (new : List Mark) : Type 0 where
   pub installed : IfPlaced r ((new ≡ without d.ticket ms) × IsPlaced means d a b)
   pub stale : (r ≡ Gone) ↔ (position d.ticket ms ≡ None)

@@ -1,4 +1,5 @@
--- From what a call did to a volume to what it means: the answer fits each world that was meant, and the next one is meant.
+-- From what a call did to a volume to its world: the answer fits each world of the old volume, and the new volume
+-- abstracts to the next one.
 use Rattle.std.proofs.Common.{◌≡◌, ℕ, ◌+◌, ◌<◌, ◌≤◌, List, Bool, true, false, cond, refl, sym, ap, subst, ◌∙◌, inl, inr, Option, Some, None, Ok, Err, arith, ◌-◌, []}
 use Rattle.std.specs.Prelude.{◌&&◌, Result, IsOk, OnErr, IfSome, IfNone, OnOk}
 use Rattle.std.specs.Result.{IsErrAnd}
@@ -53,7 +54,7 @@ use Rattle.volume.proofs.Trees.{Appends, compiled_batched, compiled_does, nothin
 abbrev pub volume : PLive → ℕ → Kept → PVolume
 volume l modified m = record { live = record { indexes = l.indexes; modified = modified }; snapshots = m; marks = l.marks }
 
--- where nothing changes, each mark keeps its content
+-- if nothing changes, each mark keeps its content
 pub kept_all : (l : PLive) → KeepsMarks l l
 kept_all l = record { meta = whole (meta_marked l); block = whole (block_marked l); given = omega arith }
   where
@@ -63,13 +64,13 @@ kept_all l = record { meta = whole (meta_marked l); block = whole (block_marked 
 pub kept_same : (l m : PLive) → m ≡ l → KeepsMarks l m
 kept_same l m e = subst (λ (x : PLive). KeepsMarks l x) (sym e) (kept_all l)
 
--- the type of volumes keeps what it keeps
+-- the invariant of volumes is preserved
 pub lasts : (old new : PVolume) (e : Event) (a : Answer) → IsVolume old → Leads e a old new → finite.len new.snapshots ≤ 64 → Stands (live_of new) → IsVolume new
 lasts old new e a is leads few assert_invariant = record { world = next is.world e a; means = (leads is.world is.means).1; few = few; stands = assert_invariant }
 
 -- ---- file calls
 
--- the moment that stands beside the indexes is that of the root after the call
+-- the mtime that is stored beside the indexes is that of the root after the call
 root_after : (c : Call) (at modified : ℕ) (r : Reply) (t : Tree) → r ≡ (does at t c).1 → moment t ≡ modified → moment (does at t c).0 ≡ after_call (touches_root c) r at modified
 root_after c at modified r t reply same =
     root_moment at t c
@@ -85,14 +86,14 @@ called v c at r l does_it w m =
     let there : Means new (outcome w (Ask c at)).0 = record { live = live; snapshots = m.snapshots } in
     (inl (ap Replied d.0), subst (λ (b : Bool). Means new (cond b w (outcome w (Ask c at)).0)) (sym given) there)
 
--- where nothing changes and no message came, each list stays
+-- if nothing changes and no message is sent, each list stays
 pub nothing_comes : (l m : PLive) → m ≡ l → KeepMarkedLists no_messages l m
 nothing_comes l m e = subst (λ (x : PLive). KeepMarkedLists no_messages l x) (sym e) (record {
   meta = keeps_nothing l.indexes.meta.tree.shape 0 (kept_in l.marks.meta l.indexes.meta.tree.root) [] l.indexes.meta.tree l.indexes.meta.tree.root refl refl;
   block = keeps_nothing l.indexes.block.tree.shape 0 (kept_in l.marks.block l.indexes.block.tree.root) [] l.indexes.block.tree l.indexes.block.tree.root refl refl;
 })
 
--- and both trees have taken what came
+-- and both trees have all messages that were sent
 pub took_nothing : (msgs : Messages) (l : PLive) → Stands l → msgs.meta ≡ [] → msgs.block ≡ [] → HaveTaken msgs l.indexes l.indexes
 took_nothing msgs l is m b = record {
   meta = appended_none l.indexes.meta.tree.shape meta_means msgs.meta l.indexes.meta.tree l.indexes.meta.tree.root is.meta refl m;
@@ -119,7 +120,7 @@ lacks_call v c at l e = record {
 pub same_live : (a b : PLive) → b.indexes ≡ a.indexes → b.marks ≡ a.marks → b ≡ a
 same_live a b i m = λ k. record { indexes = i k; marks = m k }
 
--- a refusal gives the root no moment
+-- a call that fails does not change the mtime of the root
 not_touched : (c : Call) (r : Reply) (at modified : ℕ) (e : Errno) → r ≡ Fault e → after_call (touches_root c) r at modified ≡ modified
 not_touched c r at modified e h = ap (λ (q : Reply). after_call (touches_root c) q at modified) h
 
@@ -133,7 +134,7 @@ call_done v c at r l does_it refused batch marks snapshot_root = record {
   kept = snapshot_root;
 }
 
--- what became of live indexes to which messages were to be appended
+-- the effect on live indexes to which messages were to be appended
 pub record Arriving {T E : Type 0} (msgs : Messages) (a : Result T E) (old new : PLive) : Type 0 where
   pub taken : OnOk a (HaveTaken msgs old.indexes new.indexes)
   pub no_meta : msgs.meta ≡ [] → new.indexes.meta ≡ old.indexes.meta
@@ -156,14 +157,14 @@ answered_lasts v c at r msgs a l is made h assert_invariant =
 
 -- ---- snapshot calls
 
--- an answer that is not want of memory
+-- an answer other than ENOMEM
 fits_as : (new : PVolume) (w x : World) (e : Event) (r : Snapped) → ◌≡◌ {A = World × Answer} (outcome w e) (x, Settled r) → is_lack (Settled r) ≡ false → Means new x → Fits w e (Settled r) × Means new (next w e (Settled r))
 fits_as new w x e r o given m = (
   inl (sym (ap (λ (p : World × Answer). p.1) o)),
   subst (λ (b : Bool). Means new (cond b w (outcome w e).0)) (sym given) (subst (Means new) (sym (ap (λ (p : World × Answer). p.0) o)) m),
 )
 
--- room for one more name
+-- space for one more name
 record IsNewName (v : PVolume) (s : List ℕ) : Type 0 where
   new : finite.contains_key v.snapshots s ≡ false
   few : finite.len v.snapshots < 64
@@ -252,7 +253,7 @@ restore_lacks v now s i e same = record {
 
 -- ---- steps
 
--- the marks that a step leaves where it is not done
+-- the marks after a step that is not done
 marks_same : (x : Index) (step : TreeStep) (r : StepReply) (l : PLive) → UnlessDid r (marks_left x step r l ≡ l.marks)
 marks_same Meta step (Did n) l = tt
 marks_same Meta step StepNotThere l = refl
@@ -263,7 +264,7 @@ marks_same Block step StepNotThere l = refl
 marks_same Block step StepNoRoom l = refl
 marks_same Block step StepNoMemory l = refl
 
--- live indexes are as they were where a step is not done
+-- live indexes are unchanged if a step is not done
 pub live_same : (s : Step) (r : StepReply) (a b : PLive) → StepsLive s r a b → UnlessDid r (b ≡ a)
 live_same s r a b is = both r (λ e m. same_live a b e (is.marks ∙ m)) (step_same s.index s.step r a.indexes b.indexes is.index) (marks_same s.index s.step r a)
   where
@@ -282,13 +283,13 @@ stepped v s r l is = record {
   snapshots = refl;
 }
 
--- ---- refusals
+-- ---- failures
 
 pub refused_as : (r : Snapped) (e : Errno) → IsErrAnd r (λ x. x ≡ e) → r ≡ Err e
 refused_as (Ok x) e h = absurd h
 refused_as (Err x) e h = ap {B = Snapped} (λ (y : Errno). Err y) h
 
--- a step, or none, where nothing changed
+-- a step, or none, that changed nothing
 pub relieved : (v : PVolume) (r : Option CompactStep) (l : PLive) → IfSome r (λ t. StepsLive t.step t.reply (live_of v) l) → IfSome r (λ t. Stepped t.step t.reply v (volume l v.live.modified v.snapshots))
 relieved v None l some = some
 relieved v (Some t) l some = stepped v t.step t.reply l some
@@ -300,15 +301,15 @@ relief_keeps v (Some t) l some none w m = (stepped v t.step t.reply l some).keep
 
 -- ---- jobs
 
--- the volume means what it meant where each key has the value that it had
+-- the volume abstracts to the same world if each key has the same value
 pub means_same : (v : PVolume) (l : PLive) → SameValues v.live.indexes l.indexes → (w : World) → Means v w → Means (volume l v.live.modified v.snapshots) w
 means_same v l same w m = record { live = record { indexes = tree_same_values v.live.indexes l.indexes same w.live m.live.indexes; root = m.live.root }; snapshots = m.snapshots }
 
--- and where the indexes are the same
+-- and if the indexes are the same
 pub means_with : (v : PVolume) (l : PLive) → l.indexes ≡ v.live.indexes → (w : World) → Means v w → Means (volume l v.live.modified v.snapshots) w
 means_with v l e w m = record { live = record { indexes = subst (λ (i : Indexes). MeanTree i w.live) (sym e) m.live.indexes; root = m.live.root }; snapshots = m.snapshots }
 
--- which they are where a job was taken, or none
+-- which they are if a job was taken, or none
 pub taken_same : (v : PVolume) (index : Index) (i : ℕ) (r : TakeReply) (l : PLive) → AnswersTaking index i r (live_of v) l → l.indexes ≡ v.live.indexes
 taken_same v index i (Taken job) l h = of index job h.taken
   where

@@ -27,7 +27,7 @@ find-lookup q (e ∷ es) = ap (λ (o : Option FsRoot). cond (is_eq (by_bytes q e
 pub get-snapshot_root : (m : BTreeMap (List ℕ) FsRoot) (q : List ℕ) → finite.get (snapshot_root m) q ≡ tree.get by_bytes m q
 get-snapshot_root m q = finite.get-from_entries nat_list_cmp_total m.entries q ∙ find-lookup q m.entries
 
--- one name that has other indexes, or none
+-- one name gets other indexes or is removed
 updated : (m n : BTreeMap (List ℕ) FsRoot) (s : List ℕ) (w : Option FsRoot) → tree.Updates by_bytes m n s w → (q : List ℕ) → finite.get (snapshot_root n) q ≡ cond (eq_by_cmp by_bytes q s) w (finite.get (snapshot_root m) q)
 updated m n s w u q =
     get-snapshot_root n q
@@ -35,13 +35,13 @@ updated m n s w u q =
     ∙ ap (λ (b : Bool). cond b w (tree.get by_bytes m q)) ((eq_by_cmp_equiv nat_list_cmp_total).symm s q)
     ∙ ap (λ (o : Option FsRoot). cond (eq_by_cmp by_bytes q s) w o) (sym (get-snapshot_root m q))
 
--- a name that is given indexes
+-- a name that gets indexes
 pub inserted : (m n : BTreeMap (List ℕ) FsRoot) (s : List ℕ) (x : FsRoot) → tree.Updates by_bytes m n s (Some x) → snapshot_root n ≡ finite.insert (snapshot_root m) s x
 inserted m n s x u =
     finite.same_map nat_list_cmp_total bytes_differ (snapshot_root n) (finite.insert (snapshot_root m) s x)
     (λ q. updated m n s (Some x) u q ∙ sym (finite.get-insert nat_list_cmp_total (snapshot_root m) s x q))
 
--- a name that is taken out
+-- a name that is removed
 pub removed : (m n : BTreeMap (List ℕ) FsRoot) (s : List ℕ) → tree.Updates by_bytes m n s None → snapshot_root n ≡ finite.remove (snapshot_root m) s
 removed m n s u =
     finite.same_map nat_list_cmp_total bytes_differ (snapshot_root n) (finite.remove (snapshot_root m) s)
@@ -52,7 +52,7 @@ find-above : (s : List ℕ) (es : List (List ℕ × FsRoot)) → AllByRecursion 
 find-above s [] h = refl
 find-above s (e ∷ es) h = ap (λ (o : Ordering). cond (is_eq o) (Some e.1) (finite.find by_bytes s es)) h.0 ∙ find-above s es h.1
 
--- as many names as entries, where the names rise
+-- a sorted list has as many names as entries
 len-from_entries : (es : List (List ℕ × FsRoot)) → IsStrictlySortedBy by_bytes (keys_of es) → finite.len (finite.from_entries {R = by_bytes} es) ≡ length es
 unfolding IsStrictlySortedBy
 len-from_entries [] h = finite.len-empty by_bytes FsRoot
@@ -78,7 +78,7 @@ is_below_all : (s : List ℕ) (es : List (List ℕ × FsRoot)) → AllByRecursio
 is_below_all s [] h = tt
 is_below_all s (e ∷ es) h = both (is_lt (by_bytes s e.0)) (below_all by_bytes s es) (subst (λ (o : Ordering). T (is_lt o)) (sym h.0) tt) (is_below_all s es h.1)
 
--- and that the names rise
+-- and that the names are sorted
 is_rising : (es : List (List ℕ × FsRoot)) → IsStrictlySortedBy by_bytes (keys_of es) → T (finite.is_sorted by_bytes es)
 unfolding IsStrictlySortedBy
 is_rising [] h = tt
@@ -98,7 +98,7 @@ entries-snapshot_root m o =
 pub names-snapshot_root : (m : BTreeMap (List ℕ) FsRoot) → tree.IsOrdered by_bytes m → tree.keys m ≡ names_in (snapshot_root m)
 names-snapshot_root m o = ap (λ (es : List (List ℕ × FsRoot)). map (λ (e : List ℕ × FsRoot). e.0) es) (sym (entries-snapshot_root m o))
 
--- which rise, and are all names that it has
+-- which are sorted, and are all names in it
 pub are_names : (m : BTreeMap (List ℕ) FsRoot) → tree.IsOrdered by_bytes m → AreNames (snapshot_root m) (names_in (snapshot_root m))
 are_names m o = record {
   rising = subst (λ (ks : List (List ℕ)). IsStrictlySortedBy by_bytes ks) (names-snapshot_root m o) o;

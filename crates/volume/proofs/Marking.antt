@@ -1,4 +1,4 @@
--- Live indexes with their marks: what stays of the marks where one index changes, or both take messages.
+-- Live indexes with their marks: which marks remain if one index changes, or both receive messages.
 use Rattle.std.proofs.Common.{◌≡◌, ℕ, ◌+◌, ◌≤◌, ◌^◌, List, [], ◌∷◌, ◌++◌, length, refl, ap, sym, subst, ◌∙◌, arith, Option}
 use Rattle.std.specs.Prelude.{Result, Ok, Err, OnOk, OnErr}
 use Rattle.std.proofs.lemmas.Result.{on_err_weaker, on_ok_weaker}
@@ -43,7 +43,7 @@ module _ {U V : Type 0} (means : U → Option V → Option V) where
   pub keeps_here : (t : PTree U V) (ms new : List Mark) (given more : ℕ) → ((P : Mark → Type 0) → Each P ms → Each P new) → Keeps means (marked t ms given) (marked t new more)
   keeps_here t ms new given more sub = record { content = contents_stay means t new; fits = keeps_fits-here means t ms new given more (marked t ms given) refl sub }
 
-  -- the same tree, with one mark more under the next ticket
+  -- the same tree, with one more mark under the next ticket
   pub keeps_more : (t : PTree U V) (ms new : List Mark) (given more : ℕ) (m : Mark) → new ≡ ms ++ m ∷ [] → m.ticket ≡ given → Keeps means (marked t ms given) (marked t new more)
   keeps_more t ms new given more m e k = record { content = contents_stay means t new; fits = keeps_fits-more means t ms new given more m (marked t ms given) refl e k }
 
@@ -80,7 +80,7 @@ left_each s r a ms new e P h = subst (λ (z : List Mark). Each P z) (sym e) (eac
 left_fewer : {U V : Type 0} (s : TreeStep) (r : StepReply) (a : PTree U V) (ms new : List Mark) → new ≡ left s r a ms → length new ≤ length ms
 left_fewer s r a ms new e = subst (λ (z : List Mark). length z ≤ length ms) (sym e) (fewer_left r (survives s.kind (way s.at) s.slot a.root) ms)
 
--- what a step says of the marks of its tree
+-- what a step guarantees for the marks of its tree
 abbrev pub KeptBy : {U V : Type 0} → (U → Option V → Option V) → PTree U V → List Mark → PTree U V → List Mark → Type 0
 KeptBy means a ms b new = (given : ℕ) → AreMarks a.root 0 ms given → AllKept means a b new given
 
@@ -136,7 +136,7 @@ cancelled_keeps l ticket ms bs e f = record {
 
 -- ---- appending
 
--- indexes that took messages, or did not, beside lists that are kept where there are marks
+-- indexes that received messages, or did not, with lists that are preserved if there are marks
 pub record AppendsKept {T X : Type 0} (r : Result T X) (msgs : Messages) (l : PLive) (new : Indexes) : Type 0 where
   pub taken : OnOk r (HaveTaken msgs l.indexes new)
   pub meta : OnOk r (KeepsLists (kept_in l.marks.meta l.indexes.meta.tree.root) msgs.meta l.indexes.meta.tree.root new.meta.tree.root)
@@ -147,7 +147,7 @@ pub record AppendsKept {T X : Type 0} (r : Result T X) (msgs : Messages) (l : PL
 abbrev pub indexes_of : PTree MetaUpdate MetaValue → PTree BlockUpdate (List ℕ) → Indexes
 indexes_of a b = record { meta = record { tree = a }; block = record { tree = b } }
 
--- so they are where each tree took its half, or neither did
+-- so they are if each tree received its half, or neither did
 pub appends_kept : {T X : Type 0} (r : Result T X) (msgs : Messages) (l : PLive) (a : PTree MetaUpdate MetaValue) (b : PTree BlockUpdate (List ℕ)) → OnOk r (Appended meta_means msgs.meta l.indexes.meta.tree a) → OnOk r (Appended block_means msgs.block l.indexes.block.tree b) → OnOk r (KeepsLists (kept_in l.marks.meta l.indexes.meta.tree.root) msgs.meta l.indexes.meta.tree.root a.root) → OnOk r (KeepsLists (kept_in l.marks.block l.indexes.block.tree.root) msgs.block l.indexes.block.tree.root b.root) → OnErr r (a ≡ l.indexes.meta.tree) → OnErr r (b ≡ l.indexes.block.tree) → AppendsKept r msgs l (record { meta = record { tree = a }; block = record { tree = b } })
 appends_kept (Ok x) msgs l a b ta tb ka kb ea eb = record { taken = record { meta = ta; block = tb }; meta = ka; block = kb; err = tt }
 appends_kept (Err x) msgs l a b ta tb ka kb ea eb = record { taken = tt; meta = tt; block = tt; err = ap (λ t. indexes_of t b) ea ∙ ap (λ t. indexes_of l.indexes.meta.tree t) eb }
@@ -172,7 +172,7 @@ appended_keeps r msgs l new is h = record {
   given = omega arith;
 }
 
--- lists of marked slots stay in front where an append succeeds
+-- lists of marked slots keep their messages at the front if an append succeeds
 pub lists_kept : {T X : Type 0} (r : Result T X) (msgs : Messages) (l : PLive) (new : Indexes) → AppendsKept r msgs l new → OnOk r (KeepMarkedLists msgs l (record l { indexes = new }))
 lists_kept (Ok x) msgs l new h = record { meta = h.meta; block = h.block }
 lists_kept (Err x) msgs l new h = tt

@@ -1,4 +1,4 @@
--- From what the setting of an mtime was compiled to, and sent, to what became of the volume.
+-- From what setting an mtime was compiled to, and sent, to its effect on the volume.
 use Rattle.std.proofs.Common.{arith, ◌≡◌, ℕ, [], Option, None, Some, cond, refl, sym, ap, subst, ◌∙◌, inl, inr, Ok, Err}
 use Rattle.std.specs.Prelude.{Result, ◌&&◌, ◌∷◌, ◌⊎◌}
 use Rattle.block_index.specs.declared.index.BlockIndex.{BlockIndex}
@@ -24,7 +24,7 @@ use Rattle.volume.specs.Volumes.{PVolume, IsVolume, Means, live_of}
 use Rattle.volume.proofs.Leading.{Arriving, volume, kept_same, nothing_comes, same_live}
 use Rattle.volume.proofs.Trees.{Appends, nothing_appended, receives}
 
--- the moment that stands beside the indexes is that of the root after it
+-- the mtime that is stored beside the indexes is that of the root after it
 root_after : (p : Path) (at modified : ℕ) (r : Reply) (t : Tree) → r ≡ (mtime_set at t p).1 → moment t ≡ modified → moment (mtime_set at t p).0 ≡ after_call (is_root p) r at modified
 root_after p at modified r t reply same =
     mtime_moment at t p
@@ -87,7 +87,7 @@ module _ (v : PVolume) (is : IsVolume v) (p : Path) (at : ℕ) (l : PLive) where
       kept = kept;
     }
 
-  -- what is replied
+  -- the reply
   pub answered_mtime : {T E : Type 0} (r : Reply) (msgs : Messages) (a : Result T E) → CompilesMtime v.live.indexes p at r msgs → Arriving msgs a (live_of v) l → SetsMtime p at (reply_to a r) v (after (reply_to a r))
   answered_mtime r msgs (Ok x) made h = done r msgs made (record { taken = h.taken; no_meta = h.no_meta; no_block = h.no_block }) h.lists h.marks h.kept
   answered_mtime r msgs (Err e) made h = lacks_mtime v p at l h.err
@@ -97,7 +97,7 @@ module _ (v : PVolume) (is : IsVolume v) (p : Path) (at : ℕ) (l : PLive) where
   mtime_settled r msgs (Ok x) made = subst IsSettled (sym (made.reply is.world.live is.means.live.indexes)) (settled (path_fault (entry_at is.world.live p)) at is.world.live p)
   mtime_settled r msgs (Err e) made = tt
 
-  -- the type of volumes keeps what it keeps
+  -- the invariant of volumes is preserved
   pub mtime_lasts : (r : Reply) → SetsMtime p at r v (after r) → Stands l → IsVolume (after r)
   mtime_lasts r made assert_invariant = from (made.leads is.world is.means)
     where

@@ -1,4 +1,4 @@
--- The first stored block of a file from a number on: what a walk gives is it.
+-- The first stored block of a file from a number on is what a walk returns.
 use Rattle.std.proofs.Common.{◌≡◌, ◌≢◌, ℕ, ◌^◌, ◌<◌, ◌≤◌, List, [], ◌∷◌, ◌++◌, refl, sym, ap, subst, ◌∙◌, true, Option, Some, None, arith}
 use Rattle.std.specs.Prelude.{IsSome}
 use Rattle.message.specs.Ranges.{before, reaches}

@@ -1,4 +1,4 @@
--- What an entry that is planted makes of indexes, and of a volume.
+-- The effect of planting an entry on indexes, and on a volume.
 use Rattle.std.proofs.Common.{◌≡◌, inl, inr, sym, ap, subst, ◌∙◌, refl, ℕ, [], ◌∷◌, ◌++◌, true, false, cond, Option, None, Some, Ok, Err}
 use Rattle.std.specs.Prelude.{◌&&◌, ◌⊎◌}
 use Rattle.pathkey.specs.Outcomes.{when}
@@ -34,7 +34,7 @@ no_fault_at_root t [] (DirMeta date) r d = refl
 no_fault_at_root t [] (FileMeta n date) r d = absurd (cc)
 no_fault_at_root t (n ∷ p) m r d = absurd (cc)
 
--- and anything else those of a new entry
+-- anything else has the faults of a new entry
 pub faults_else : (t : Tree) (p : Path) (m : Meta) → (is_root p && is_directory m) ≡ false → faults_of_plant t p m ≡ faults_of_new t p ++ when (is_too_long m) EFBIG ∷ []
 faults_else t [] (DirMeta date) e = absurd (cc)
 faults_else t [] (FileMeta n date) e = refl
@@ -56,14 +56,14 @@ planted_in a b p m fault msgs early is_path none first is appends =
 
 -- ---- of a volume
 
--- live indexes in which an entry was planted, with the marks that stood
+-- live indexes in which an entry was planted, with the same marks
 pub record PlantsLive (p : Path) (m : Meta) (r : Snapped) (old new : PLive) : Type 0 where
   pub entry : PlantsIn p m r old.indexes new.indexes
   pub lists : IfOk r (λ _. KeepMarkedLists (one_put p m) old new)
   pub marks : new.marks ≡ old.marks
   pub kept : KeepsMarks old new
 
--- the moment of the root after it
+-- the mtime of the root after it
 with_plant_moment : (t : Tree) (p : Path) (m : Meta) → moment (with_plant t p m) ≡ cond (is_root p) (modified_of m) (moment t)
 with_plant_moment t [] m = dated_moment (modified_of m) t
 with_plant_moment t (n ∷ p) m = edited_keeps t (n ∷ p) (Some (fresh_entry m))
@@ -113,7 +113,7 @@ planted_volume v l p m (Err e) h = record {
   kept = h.kept;
 }
 
--- it is a volume still
+-- the invariant of volumes is preserved
 pub lasts_planted : (v : PVolume) (l : PLive) (p : Path) (m : Meta) (r : Snapped) → IsVolume v → PlantsLive p m r (live_of v) l → Stands l → IsVolume (volume l (after_planting r p m v.live.modified) v.snapshots)
 lasts_planted v l p m (Ok x) is h assert_invariant = record {
   world = record is.world { live = (planted is.world.live p m).0 };

@@ -32,7 +32,7 @@ use Rattle.volume.specs.declared.fs_root.FsRoot.{FsRoot}
 use Rattle.volume.proofs.Holding.{one_less}
 use Rattle.reference.proofs.PlainSnapshots.{bytes_differ}
 
--- ---- a volume means at most one world
+-- ---- a volume abstracts to at most one world
 
 same_tree : (r : Option FsRoot) (t u : Option Tree) → Both MeanRooted r t → Both MeanRooted r u → t ≡ u
 same_tree None None None m n = refl
@@ -50,7 +50,7 @@ one_world v w x m n =
 
 -- ---- a link
 
--- what follows of each kind of link
+-- what follows from each kind of link
 record OfEach (P : Event → Answer → Type 0) (a b : PRun) : Type 0 where
   call : (c : Call) (at : ℕ) (r : Reply) → Beside (Called c at r) a b → P (CallEvent c at) (CallAnswer r)
   snapshot : (s : List ℕ) (r : Snapped) → Beside (Settles (TakeSnapshot s) (KeptAs s) r) a b → P (Snapshot s) (Snap r)
@@ -98,7 +98,7 @@ link_cases P a b f (Finish t) (StepAnswer r) link = absurd link
 link_cases P a b f (Finish t) (TakeAnswered r) link = absurd link
 link_cases P a b f (Finish t) (FinishAnswered r) link = f.finish t r link
 
--- ---- a link more
+-- ---- one more link
 
 pub chain_more : (es : List Event) (rs : List Answer) (e : Event) (r : Answer) (a b c : PRun) → Chain a es rs b → Link e r b c → IsVolume c.volume → Chain a (es ++ e ∷ []) (rs ++ r ∷ []) c
 chain_more [] [] e r a b c chain link is = (c, subst (λ (x : PRun). Link e r x c) chain link, is, refl)
@@ -123,7 +123,7 @@ finish_count t FinishStale a b f = omega (arith, one_less t a.held f.job f.has, 
 finish_count t FinishNotThere a b f = same_count a.held b.held (ap (λ (x : PRun). x.held) f.1)
 finish_count t FinishNoMemory a b f = omega (arith, one_less t a.held f.job f.has, ap (λ (z : List RunJob). length z) f.held, length-append (others t a.held) (f.again ∷ []))
 
--- a taking adds one at most, and no other event any
+-- taking a job adds at most one, and no other event adds any
 pub link_count : (e : Event) (r : Answer) (a b : PRun) → Link e r a b → length b.held ≤ length a.held + takings (e ∷ [])
 link_count e r a b link = link_cases (λ e r. length b.held ≤ length a.held + takings (e ∷ [])) a b (record {
   call = λ c at r l. omega (arith, same_count a.held b.held l.1);
@@ -135,7 +135,7 @@ link_count e r a b link = link_cases (λ e r. length b.held ≤ length a.held + 
   finish = λ t r l. omega (arith, finish_count t.number r a b l);
 }) e r link
 
--- an event is one taking at most
+-- an event takes at most one job
 pub one_taking : (e : Event) → takings (e ∷ []) ≤ 1
 one_taking (CallEvent c at) = omega arith
 one_taking (Snapshot s) = omega arith
@@ -145,7 +145,7 @@ one_taking (StepEvent s) = omega arith
 one_taking (Take index i) = omega arith
 one_taking (Finish t) = omega arith
 
--- the takings of the first and of the others
+-- the number of jobs taken by the first event and by the others
 pub takings_first : (e : Event) (es : List Event) → takings (e ∷ es) ≡ takings (e ∷ []) + takings es
 takings_first (CallEvent c at) es = omega arith
 takings_first (Snapshot s) es = omega arith
@@ -155,9 +155,9 @@ takings_first (StepEvent s) es = omega arith
 takings_first (Take index i) es = omega arith
 takings_first (Finish t) es = omega arith
 
--- ---- what a chain means
+-- ---- the worlds of a chain
 
--- the history is legal from w, and leaves what the volume means
+-- the history is legal from w, and ends in the world of the volume
 record Leaves (v : PVolume) (w : World) (h : History) : Type 0 where
   legal : IsLegal w h
   means : Means v (after w h)
@@ -174,7 +174,7 @@ finish_means t FinishStale a b f w m = f.installed.means w m
 finish_means t FinishNotThere a b f w m = subst (λ (x : PRun). Means x.volume w) (sym f.1) m
 finish_means t FinishNoMemory a b f w m = subst (λ (x : PVolume). Means x w) (sym f.volume) m
 
--- one link before what is known of the others
+-- one link before a chain
 link_leaves : (e : Event) (r : Answer) (a b : PRun) (c : PVolume) (h : History) → Link e r a b → ((w : World) → Means b.volume w → Leaves c w h) → (w : World) → Means a.volume w → Leaves c w (history_of e r ++ h)
 link_leaves e r a b c h link rest w m = link_cases (λ e r. Leaves c w (history_of e r ++ h)) a b (record {
   call = λ d at r l. one_first a.volume b.volume c (Ask d at) (Replied r) h l.0.leads rest w m;
@@ -192,7 +192,7 @@ chain_leaves [] (r ∷ rs) a c chain w m = absurd chain
 chain_leaves (e ∷ es) [] a c chain w m = absurd chain
 chain_leaves (e ∷ es) (r ∷ rs) a c chain w m = link_leaves e r a chain.0 c.volume (calls_alone es rs) chain.1 (chain_leaves es rs chain.0 c chain.3) w m
 
--- the run of a chain that begins at a volume, and after which the jobs that are left are cancelled
+-- the run of a chain that begins at a volume, and after which the remaining jobs are cancelled
 pub chain_ran : (es : List Event) (rs : List Answer) (old new : PVolume) (last : PRun) → IsVolume old → Chain (begun old) es rs last → new ≡ ended last → Ran es rs old new
 chain_ran es rs old new last is chain end =
     let all : Leaves last.volume is.world (calls_alone es rs) = chain_leaves es rs (begun old) last chain is.world is.means in

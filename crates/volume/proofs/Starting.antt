@@ -1,4 +1,4 @@
--- What a new volume means.
+-- The world of a new volume.
 use Rattle.std.proofs.Common.{◌≡◌, refl, sym, subst, arith, ap, ◌∙◌}
 use Rattle.std.specs.FinMap as finite
 use Rattle.call_compiler.specs.Compiled.{MeanTree}
@@ -23,7 +23,7 @@ volume_empty l m is e assert_invariant =
     let few : finite.len m ≡ 0 = ap (λ (k : Kept). finite.len k) e ∙ finite.len-empty by_bytes FsRoot in
     record { world = empty_world; means = means_empty l m is e; few = omega (arith, few); stands = assert_invariant }
 
--- a volume of new indexes
+-- a volume with new indexes
 pub is_new : (shape : Shape) (i : Indexes) (l : PLive) (m : Kept) → i.meta.tree.shape ≡ shape → i.block.tree.shape ≡ shape → MeanTree i (Dir 0 nothing) → l.indexes ≡ i → l.marks ≡ no_marks 0 → m ≡ finite.empty → IsNew shape (volume l 0 m)
 is_new shape i l m meta block empty same marks none = record {
   meta_shape = ap (λ (x : Indexes). x.meta.tree.shape) same ∙ meta;

@@ -1,4 +1,4 @@
--- What a tree that stands still tells of its root.
+-- The root of a frozen tree.
 use Rattle.std.proofs.Common.{◌≡◌, ℕ, List, [], ◌∷◌, true, refl, ap, sym, ◌∙◌, inl}
 use Rattle.pathkey.specs.Names.{is_root}
 use Rattle.reference.specs.Calls.{changed, does}

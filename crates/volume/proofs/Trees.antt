@@ -1,4 +1,5 @@
--- When indexes mean a tree: after a call and after a step. All that is known of the two halves stands here.
+-- When indexes abstract to a tree: after a call and after a step. All facts about both indexes together are in this
+-- module.
 use Rattle.std.proofs.Common.{◌≡◌, ℕ, List, [], ◌∷◌, Option, ap, refl, subst, sym}
 use Rattle.block_index.specs.Means.{blocks}
 use Rattle.block_index.specs.Updates.{means as block_means}
@@ -47,7 +48,7 @@ same_halves a b m d = λ i. record { meta = m i; block = d i }
 pub compiled_does : (a b : Indexes) (c : Call) (at : ℕ) (r : Reply) (msgs : Messages) → IsCompiled a c at r msgs → HaveTaken msgs a b → Does c at r a b
 compiled_does a b c at r msgs compiled taken t m = (compiled.reply t m, meant_after (does at t c).0 a b msgs (compiled.tree t m) taken)
 
--- a tree to which messages were appended, and which is not touched where there are none
+-- a tree to which messages were appended, and which is unchanged if there are none
 pub receives : {U V : Type 0} (means : U → Option V → Option V) (msgs : List (Msg U V)) (a b : PTree U V) → Appended means msgs a b → (msgs ≡ [] → b ≡ a) → Receives means msgs a b
 receives means [] a b appended untouched = untouched refl
 receives means (m ∷ ms) a b appended untouched = appended
@@ -67,7 +68,7 @@ compiled_batched a b c at r msgs compiled appends lists = record {
   lists = lists;
 }
 
--- a batch without messages leaves the indexes
+-- a batch without messages leaves the indexes unchanged
 pub nothing_appended : (a b : Indexes) (msgs : Messages) → msgs ≡ no_messages → Appends msgs a b → b ≡ a
 nothing_appended a b msgs none appends = same_halves a b (appends.no_meta (ap (λ (x : Messages). x.meta) none)) (appends.no_block (ap (λ (x : Messages). x.block) none))
 
@@ -84,7 +85,7 @@ value_kept means RootUp p i r a b s = s.value_kept
 value_kept means RootDown p i r a b s = s.value_kept
 value_kept means DropCovered p i r a b s = s.value_kept
 
--- so the indexes mean the tree that they meant
+-- so the indexes abstract to the same tree
 pub tree_kept : (x : Index) (step : TreeStep) (r : StepReply) (a b : Indexes) → StepsIn x step r a b → (t : Tree) → MeanTree a t → MeanTree b t
 tree_kept Meta step r a b s t m = record {
   tree = m.tree;
@@ -97,7 +98,7 @@ tree_kept Block step r a b s t m = record {
   blocks = blocks_alike t (blocks a.block) (blocks b.block) (value_kept block_means step.kind (way step.at) step.slot r a.block.tree b.block.tree s.0) m.blocks;
 }
 
--- nor does anything that keeps the value at each key
+-- nor does anything that preserves the value at each key
 pub tree_same_values : (a b : Indexes) → SameValues a b → (t : Tree) → MeanTree a t → MeanTree b t
 tree_same_values a b s t m = record {
   tree = m.tree;
@@ -105,7 +106,7 @@ tree_same_values a b s t m = record {
   blocks = blocks_alike t (blocks a.block) (blocks b.block) s.block m.blocks;
 }
 
--- a step that is not done leaves the tree
+-- a step that is not done leaves the tree unchanged
 tree_same : {U V : Type 0} (means : U → Option V → Option V) (kind : StepKind) (p : List ℕ) (i : ℕ) (r : StepReply) (a b : PTree U V) → StepAnswers means kind p i r a b → UnlessDid r (b ≡ a)
 tree_same means FlushInner p i r a b s = s.unchanged
 tree_same means FlushLeaf p i r a b s = s.unchanged

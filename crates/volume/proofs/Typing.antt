@@ -1,4 +1,4 @@
--- A call's reply is of the call's kind, and a call that only looks changes nothing.
+-- A call's reply is of the call's kind, and a call that only reads changes nothing.
 use Rattle.std.proofs.Common.{◌≡◌, ◌⊎◌, ℕ, List, [], ◌∷◌, length, Bool, true, false, cond, refl, sym, ap, subst, ◌∙◌, Option, inl, inr}
 use Rattle.std.specs.Prelude.{◌&&◌, Result, Ok, Err}
 use Rattle.std.proofs.lemmas.Bool.{cond_both}
@@ -59,7 +59,7 @@ changed_kind (Readdir p) at t = unless_holds (λ o. IsNames o.1) t (faults_of_re
 pub of_kind : (c : Call) (at : ℕ) (t : Tree) → IsOfKind c (does at t c).1
 of_kind c at t = subst (IsOfKind c) (sym (reply_is at t c)) (changed_kind c at t)
 
--- a refusal is of every kind
+-- a failure is a reply of every kind
 pub refusal : (c : Call) (e : Errno) → IsOfKind c (Fault e)
 refusal (Mkdir p) e = tt
 refusal (Create p) e = tt
@@ -73,16 +73,16 @@ refusal (Read p off n) e = tt
 refusal (AskStat p) e = tt
 refusal (Readdir p) e = tt
 
--- and so is want of memory
+-- and so is ENOMEM
 pub answered_kind : {T E : Type 0} (c : Call) (a : Result T E) (r : Reply) → IsOfKind c r → IsOfKind c (reply_to a r)
 answered_kind c (Ok x) r h = h
 answered_kind c (Err e) r h = refusal c ENOMEM
 
--- the reply of a call that was compiled over indexes that mean a tree is of its kind
+-- the reply of a call that was compiled over the indexes of a tree is of its kind
 pub compiled_kind : (c : Call) (at : ℕ) (r : Reply) (msgs : Messages) (i : Indexes) (t : Tree) → MeanTree i t → IsCompiled i c at r msgs → IsOfKind c r
 compiled_kind c at r msgs i t m h = subst (IsOfKind c) (sym (h.reply t m)) (of_kind c at t)
 
--- and so is what is told of them
+-- and so is the reply that is reported for them
 pub reported_kind : (c : Call) (r : Reply) (i : FsRoot) → MeanSome i → Tells c r i → IsOfKind c r
 reported_kind c r i s k = by (k s.tree 0 s.means)
   where
@@ -90,7 +90,7 @@ reported_kind c r i s k = by (k s.tree 0 s.means)
     by (inl e) = subst (IsOfKind c) (sym e) (of_kind c 0 s.tree)
     by (inr e) = subst (IsOfKind c) (sym e) (refusal c ENOMEM)
 
--- ---- calls that only look
+-- ---- calls that only read
 
 sends_nothing : (c : Call) (at : ℕ) (i : Indexes) (msgs : Messages) → Looks c → Sends i c at msgs → msgs ≡ no_messages
 sends_nothing (Read p off n) at i msgs l s = s
@@ -105,7 +105,7 @@ sends_nothing (Rmdir p) at i msgs l s = absurd l
 sends_nothing (Rename o n) at i msgs l s = absurd l
 sends_nothing (Rmtree p) at i msgs l s = absurd l
 
--- they give the root no moment
+-- they do not change the mtime of the root
 not_in_root : (c : Call) → Looks c → touches_root c ≡ false
 not_in_root (Read p off n) l = refl
 not_in_root (AskStat p) l = refl
@@ -126,7 +126,7 @@ root_stays c r at modified l = ap (λ (b : Bool). after_call b r at modified) (n
     never true = refl
     never false = refl
 
--- without messages the indexes stay, and mean what the call makes
+-- without messages the indexes are unchanged, and are those of the tree after the call
 looked_on : (c : Call) (at : ℕ) (r : Reply) (l : PLive) → IsCompiled l.indexes c at r no_messages → Does c at r l.indexes l.indexes
 looked_on c at r l h t m = (h.reply t m, h.tree t m)
 
@@ -141,6 +141,6 @@ looked_all c at r v l h =
       lists = nothing_comes (live_of v) (live_of v) refl;
     }) refl (kept_all (live_of v)))
 
--- a call that only looks has been done by its reply
+-- a call that only reads has done everything with its reply
 pub looked : (c : Call) (at : ℕ) (r : Reply) (msgs : Messages) (v : PVolume) → Looks c → IsCompiled v.live.indexes c at r msgs → Called c at r v v
 looked c at r msgs v l h = looked_all c at r v l (subst (IsCompiled v.live.indexes c at r) (sends_nothing c at v.live.indexes msgs l h.sends) h)

@@ -1,4 +1,4 @@
--- Where no slot is marked, no list has to stay.
+-- If no slot is marked, no list has to be preserved.
 use Rattle.std.proofs.Common.{◌≡◌, List, [], ◌∷◌, length, arith, None}
 use Rattle.std.specs.Prelude.{Result, Ok, Err, OnOk}
 use Rattle.call_compiler.specs.Compiled.{Messages}

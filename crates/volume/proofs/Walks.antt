@@ -24,7 +24,7 @@ use Rattle.volume.specs.Walks.{AreBlocks, AreBlocksAt, AreEntries, AreNumbered, 
 
 -- ---- entries
 
--- where metadata are told, something stands
+-- if there are metadata, there is an entry
 pub assert_invariant : (a : At) (v : Meta) → meta_of (sighted a) ≡ Some v → (x : Tree) × (a ≡ Found x)
 assert_invariant (Found x) v e = (x, refl)
 assert_invariant Missing v e = absurd (cc)
@@ -99,7 +99,7 @@ module _ (t : Tree) (m : Metadata) (is : IsTree t) (means : MetaMeans t m) (from
 
 -- ---- the bytes of a block
 
--- bytes with zeros behind them, from what stands at each place
+-- bytes that are padded with zeros, from what is at each position
 padded : (xs v : List ℕ) → length v ≤ length xs → ((j : ℕ) → get_or xs j 0 ≡ get_or v j 0) → xs ≡ v ++ replicate (length xs - length v) 0
 padded xs v le at =
     let zeros : List ℕ = replicate (length xs - length v) 0 in
@@ -117,12 +117,12 @@ long_block b i = length-take 4096 (drop (4096 * i) b) ∙ ap (min 4096) (length-
 byte_at : (b : List ℕ) (i j : ℕ) → j < 4096 → get_or (block_bytes b i) j 0 ≡ get_or b (4096 * i + j) 0
 byte_at b i j l = get_or-take 4096 (drop (4096 * i) b) j 0 l ∙ get_or-drop (4096 * i) b j 0
 
--- behind all bytes there are only zeros
+-- after all bytes there are only zeros
 pub past_bytes : (b : List ℕ) (i : ℕ) → length b ≤ 4096 * i → IsBlock b i []
 past_bytes b i h = (length (block_bytes b i) - length {A = ℕ} [], padded (block_bytes b i) [] (omega arith) (λ j. let l : length (block_bytes b i) ≡ min 4096 (length b - 4096 * i) = long_block b i in get_or_past (block_bytes b i) j 0 (omega arith) ∙ sym (get_or_past [] j 0 (omega arith))))
 
 module _ (block : ℕ → Option (List ℕ)) (b : List ℕ) (hold : Hold block b) (i : ℕ) (few : i < most_blocks) where
-  -- what is stored of a block has its bytes, but for zeros at their end
+  -- a stored block has its bytes, except for zeros at their end
   stored_block : (v : List ℕ) → block i ≡ Some v → IsBlock b i v
   stored_block v e = (length (block_bytes b i) - length v, padded (block_bytes b i) v short same)
     where
@@ -166,7 +166,7 @@ unfolding blocks_from
 low_key p i = refl
 
 module _ (p : Path) (is_path : EachName p) (i j : ℕ) (few_i : i < most_blocks) (few_j : j < most_blocks) where
-  -- blocks whose keys stand in order have their numbers in order
+  -- blocks whose keys are in order have their numbers in order
   less_from_before : before (block_key p i) (block_key p j) ≡ true → i < j
   less_from_before h = ⊎_elim
       (λ (g : i < j). g)
@@ -207,7 +207,7 @@ module _ (t : Tree) (d : Blocks) (means : BlocksMean t d) (p : Path) (is_path : 
 abbrev numbered : Path → ℕ × List ℕ → Key × List ℕ
 numbered p x = (block_key p x.0, x.1)
 
--- one pair more, and the number that its key tells
+-- one more pair, and the number in its key
 pub numbers_more : (ps : List (Key × List ℕ)) (bs : List (ℕ × List ℕ)) (k : Key) (v : List ℕ) (n : ℕ) → ((q : Path) (i : ℕ) → i < 2 ^ 32 → k ≡ block_key q i → n ≡ i)
     → ReadsNumbers ps bs → ReadsNumbers (ps ++ (k, v) ∷ []) (bs ++ (n, v) ∷ [])
 numbers_more ps bs k v n reads before_it = record {
@@ -230,7 +230,7 @@ module _ (t : Tree) (d : Blocks) (is : IsTree t) (means : BlocksMean t d) (p : P
   block_at : (k : ℕ) (q : ℕ × List ℕ) → k < length bs → get_or ps k (numbered p q) ≡ numbered p (get_or bs k q)
   block_at k q l = ap (λ (z : List (Key × List ℕ)). get_or z k (numbered p q)) (sym reads.pairs) ∙ get_or-map (numbered p) bs k q (numbered p q) l
 
-  -- there is none where no file stands
+  -- there are none if there is no file
   no_blocks : ((b : List ℕ) → look t p ≡ Some (Bytes b) → ⊥) → bs ≡ []
   no_blocks none = nil_from_length bs (⊎_elim
       (λ (h : 0 < length ps). let first : FoundBlock t d means p is_path from limit fits ps found (get_or ps 0 ([], [])).0 = found_block t d means p is_path from limit fits ps found 0 ([], []) h in absurd (none first.bytes first.file))
@@ -299,6 +299,6 @@ module _ (t : Tree) (d : Blocks) (is : IsTree t) (means : BlocksMean t d) (p : P
   blocks_by Missing e = no_blocks (λ b f. let s : look t p ≡ seen Missing = ap seen e in cc)
   blocks_by Blocked e = no_blocks (λ b f. let s : look t p ≡ seen Blocked = ap seen e in cc)
 
-  -- the blocks of what stands at a path, by the pairs of its range
+  -- the blocks of what is at a path, from the pairs of its range
   pub blocks_listed : AreBlocksAt (entry_at t p) from limit bs
   blocks_listed = blocks_by (entry_at t p) refl

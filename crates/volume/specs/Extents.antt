@@ -1,4 +1,4 @@
--- What of a file is stored.
+-- Which bytes of a file are stored.
 use Rattle.std.specs.Prelude.{◌≡◌, ◌≤◌, ◌<◌, ◌/◌, ◌⊎◌, ℕ, List, length, slice_index, Option, Some, None, IsSome, Result, MatchResult}
 use Rattle.block_index.specs.Means.{blocks}
 use Rattle.call_compiler.specs.Compiled.{MeanTree}
@@ -11,17 +11,17 @@ use Rattle.reference.specs.Calls.{faults_of_file, first_fault}
 use Rattle.reference.specs.Indexes.{Blocks, most_blocks}
 use Rattle.reference.specs.Tree.{Tree, At, Found, File, entry_at}
 
--- the first block of p that is stored, from a number on, with its bytes; or none, where there is none
+-- the first block of p that is stored, from a number on, with its bytes; or none, if there is none
 abbrev pub IsNextStored : Blocks → Path → ℕ → Option (ℕ × List ℕ) → Type 0
 IsNextStored d p from None = (i : ℕ) → from ≤ i → i < most_blocks → d (block_key p i) ≡ None
 IsNextStored d p from (Some x) = (d (block_key p x.0) ≡ Some x.1) × ((i : ℕ) → from ≤ i → i < x.0 → d (block_key p i) ≡ None)
 
--- the block of p in which byte x of the file lies
+-- the block of p that has byte x of the file
 abbrev pub block_at : Blocks → Path → ℕ → Option (List ℕ)
 block_at d p x = d (block_key p (x / 4096))
 
--- the next run of stored bytes of the file b of p, from off on: those from number `from` up to `to`. There is none where both are
--- the file's length
+-- the next run of stored bytes of the file b of p, from off on: bytes `from` up to `to`. There is none if both are the file's
+-- length
 pub record IsRun (d : Blocks) (p : Path) (b : List ℕ) (off from to : ℕ) : Type 0 where
   pub order : from ≤ to
   pub within : to ≤ length b
@@ -32,17 +32,17 @@ pub record IsRun (d : Blocks) (p : Path) (b : List ℕ) (off from to : ℕ) : Ty
   pub zeros : (x : ℕ) → off ≤ x → x < from → slice_index b x ≡ 0
   -- each of its blocks is
   pub stored : (x : ℕ) → from ≤ x → x < to → IsSome (block_at d p x)
-  -- and where the file goes on behind it, the next is not
+  -- and if the file continues after it, the next byte is not stored
   pub ends : to < length b → block_at d p to ≡ None
 
--- the next run of the file that stands there; or why none does
+-- the next stored run of the file at the path; or why there is none
 abbrev pub TellsRun : Blocks → Path → ℕ → At → Result (ℕ × ℕ) Errno → Type 0
 TellsRun d p off here history_of =
     MatchResult history_of
     (λ run. (date : ℕ) × (b : List ℕ) × (here ≡ Found (File date b)) × IsRun d p b off run.0 run.1)
     (λ fault. (first_fault (faults_of_file here EISDIR) ≡ Some fault) ⊎ (fault ≡ ENOMEM))
 
--- the same in each tree that the indexes mean
+-- the same in each tree to which the indexes abstract
 abbrev pub RunsIn : Indexes → Path → ℕ → Result (ℕ × ℕ) Errno → Type 0
 RunsIn i p off history_of = (t : Tree) → MeanTree i t → TellsRun (blocks i.block) p off (entry_at t p) history_of
 

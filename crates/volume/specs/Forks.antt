@@ -13,20 +13,21 @@ use Rattle.volume.specs.declared.fs_root.FsRoot.{FsRoot}
 abbrev pub world_of : Tree → World
 world_of t = record { live = t; snapshots = finite.empty }
 
--- the volume has these live indexes with the moment of their root, no snapshots and no marks, and its tickets begin with 0; so it means
--- the world of each tree that they mean
+-- the volume has these live indexes with the mtime of their root, no snapshots and no marks, and its tickets begin with 0; so it
+-- abstracts to the world of each tree to which they abstract
 pub record IsForkOf (r : FsRoot) (v : PVolume) : Type 0 where
   pub is : v ≡ record { live = r; snapshots = finite.empty; marks = no_marks 0 }
   pub means : (t : Tree) → MeanRooted r t → Means v (world_of t)
 
 -- ---- restored trees
 
--- other live indexes with the moment of their root: all marks are gone, no ticket is given again, and the snapshots stay
+-- other live indexes with the mtime of their root: all marks are removed, no ticket is used again, and the snapshots
+-- stay
 abbrev pub with_live : FsRoot → PVolume → PVolume
 with_live r v = record v { live = r; marks = no_marks v.marks.given }
 
--- another live tree was to take the place of the volume's: it has taken it, and the volume means the worlds that it meant with that
--- tree in the place of the live one; or nothing has changed
+-- the live tree was to be replaced by another: it was, and the volume abstracts to the same worlds with that tree as the live one;
+-- or nothing changed
 pub record RestoresTree {E : Type 0} (r : FsRoot) (answer : Result (Unit {0}) E) (old new : PVolume) : Type 0 where
   pub done : IfOk answer (λ _. new ≡ with_live r old)
   pub means : IfOk answer (λ _. (w : World) (t : Tree) → Means old w → MeanRooted r t → Means new (record w { live = t }))

@@ -1,4 +1,4 @@
--- What is told of a volume, and of a tree that stands still.
+-- What reads return, of a volume and of a frozen tree.
 use Rattle.std.specs.Prelude.{◌≡◌, ◌⊎◌, ◌↔◌, List, ℕ, Option, Some, None, Result, Err, [], true, if◌then◌else◌, nat_le, MatchResult, IfSome}
 use Rattle.std.specs.FinMap as finite
 use Rattle.call_compiler.specs.declared.indexes.Indexes.{Indexes}
@@ -23,16 +23,17 @@ use Rattle.volume.specs.declared.event.Index.{Index}
 use Rattle.volume.specs.declared.event.Index.TheVariants.{Meta, Block}
 use Rattle.volume.specs.declared.fs_root.FsRoot.{FsRoot}
 
--- the reply of a call that reads: that of the table of calls for the tree that is meant, whatever the moment, or want of memory
+-- the reply of a call that reads: that of the table of calls for the tree, whatever the timestamp, or ENOMEM
 abbrev pub Tells : Call → Reply → FsRoot → Type 0
 Tells c r i = (t : Tree) (at : ℕ) → MeanRooted i t → (r ≡ (does at t c).1) ⊎ (r ≡ Fault ENOMEM)
 
--- indexes that mean the world's snapshot of that name; there is none exactly where the answer is ENOENT, and else memory was refused
+-- indexes that abstract to the world's snapshot of that name; the answer is ENOENT exactly if there is none, and any other failure
+-- is ENOMEM
 pub record Finds (s : List ℕ) (answer : Result FsRoot Errno) (w : World) : Type 0 where
   pub found : MatchResult answer (λ i. (t : Tree) × (finite.get w.snapshots s ≡ Some t) × MeanRooted i t) (λ e. (e ≡ ENOENT) ⊎ (e ≡ ENOMEM))
   pub none : (answer ≡ Err ENOENT) ↔ (finite.get w.snapshots s ≡ None)
 
--- the flush of the first slot than which none has more messages, and it can be done there; none exactly where nothing is pending
+-- the flush of the first of the fullest slots, which can be done; none exactly if no message is pending
 pub record NamesHeaviest {U V : Type 0} (step : Option TreeStep) (root : PNode U V) : Type 0 where
   pub nothing : (step ≡ None) ↔ (total Pending root ≡ 0)
   pub first : IfSome step (FlushesHeaviest (loads [] root))
@@ -53,6 +54,6 @@ abbrev pub pending_in : Index → Indexes → ℕ
 pending_in Meta i = total Pending i.meta.tree.root
 pending_in Block i = total Pending i.block.tree.root
 
--- the index with more pending pieces, that of the metadata where both have as many
+-- the index with more pending pieces, or the metadata index if both have as many
 abbrev pub busier : Indexes → Index
 busier i = if nat_le (pending_in Block i) (pending_in Meta i) then Meta else Block

@@ -1,4 +1,4 @@
--- What became of a volume in which a part of a file was made zeros.
+-- The effect of setting a part of a file to zero on a volume.
 use Rattle.std.specs.Prelude.{◌≡◌, ◌≤◌, ◌<◌, ◌*◌, ◌+◌, ℕ, length, None, Result, IfOk}
 use Rattle.block_index.specs.Means.{blocks}
 use Rattle.block_index.specs.Updates.{means as block_means}
@@ -19,7 +19,7 @@ use Rattle.volume.specs.Changes.{Receives}
 use Rattle.volume.specs.Marked.{PLive, KeepMarkedLists, KeepsMarks}
 use Rattle.volume.specs.Volumes.{PVolume, Means, live_of}
 
--- what a hole of n bytes at off is compiled to, unless memory was refused
+-- what a hole of n bytes at off is compiled to, unless an allocation fails
 abbrev pub Compiles : Indexes → Path → ℕ → ℕ → ℕ → Result (Reply × Batch) NoMemory → Type 0
 Compiles i p off n at compiled = IfOk compiled (λ x. IsPunched i p off n at x.0 (messages x.1))
 
@@ -27,7 +27,7 @@ Compiles i p off n at compiled = IfOk compiled (λ x. IsPunched i p off n at x.0
 abbrev pub hole_in : Path → ℕ → ℕ → ℕ → World → Event
 hole_in p off n at w = Ask (zeroing p off n w.live) at
 
--- each index took its half of one batch, which has few messages, however many bytes become zeros
+-- each index received its half of one batch, which has few messages, however many bytes become zeros
 pub record TakesFew (old new : PLive) : Type 0 where
   pub msgs : Messages
   pub few : (length msgs.meta ≤ 1) × (length msgs.block ≤ 3)
@@ -35,9 +35,10 @@ pub record TakesFew (old new : PLive) : Type 0 where
   pub block : Receives block_means msgs.block old.indexes.block.tree new.indexes.block.tree
   pub lists : KeepMarkedLists msgs old new
 
--- a hole of n bytes at off, at a moment: in each world that was meant it is answered as the write of as many zeros as the file has bytes there,
--- and the world after that write is meant. It changes nothing where it is refused or no byte lies within the file, each live index takes
--- its half of one batch, the blocks that lie whole among the zeros are no longer stored, no snapshot changes, and all marks stay
+-- a hole of n bytes at off, at a timestamp: in each world its answer is that of a write of as many zeros as the file has bytes there, and
+-- the volume then abstracts to the world after that write. Nothing changes if it fails or no byte is within the file, each live index
+-- receives its half of one batch, the blocks that are entirely within the zeros are no longer stored, no snapshot changes, and all marks
+-- stay
 pub record Punches (p : Path) (off n at : ℕ) (r : Reply) (old new : PVolume) : Type 0 where
   pub leads : (w : World) → Means old w → Fits w (hole_in p off n at w) (Replied r) × Means new (next w (hole_in p off n at w) (Replied r))
   pub refused : (e : Errno) → r ≡ Fault e → new ≡ old

@@ -49,7 +49,7 @@ Builds (MetaJob j) (BlockDone d) = ⊥
 Builds (BlockJob j) (MetaDone d) = ⊥
 Builds (BlockJob j) (BlockDone d) = IsBuilt block_means j d
 
--- where the mark of the job's ticket stands, the marked slot has the job's content
+-- if the mark of the job's ticket exists, the marked slot has the job's content
 abbrev pub JobFits : Job → PLive → Type 0
 JobFits (MetaJob j) l = Fits meta_means j.ticket (job_content meta_means j) l.indexes.meta.tree l.marks.meta
 JobFits (BlockJob j) l = Fits block_means j.ticket (job_content block_means j) l.indexes.block.tree l.marks.block
@@ -78,22 +78,23 @@ abbrev pub can_take : Index → ℕ → PLive → Bool
 can_take Meta i l = can_take_at i l.marks.meta l.indexes.meta.tree.root
 can_take Block i l = can_take_at i l.marks.block l.indexes.block.tree.root
 
--- the root's slot of which a job would move the most messages, how many, and how many a node may hold; none only if no job
--- would move any
+-- the root's slot whose job would move the most messages, how many, and the capacity of a node; none only if no job would
+-- move any
 abbrev pub BacklogIn : Index → Option Backlog → PLive → Type 0
 BacklogIn Meta o l = MatchOption o (MovesNone l.marks.meta l.indexes.meta.tree) (λ b. IsHeaviest b.slot b.messages b.room l.marks.meta l.indexes.meta.tree)
 BacklogIn Block o l = MatchOption o (MovesNone l.marks.block l.indexes.block.tree) (λ b. IsHeaviest b.slot b.messages b.room l.marks.block l.indexes.block.tree)
 
--- how many marks stand
+-- the number of marks
 abbrev pub mark_count : PMarks → ℕ
 mark_count m = length m.meta + length m.block
 
--- why no job can be taken of the slot: its first message has no room below it, 64 marks stand, or no ticket is left
+-- why no job can be taken of the slot: its first message does not fit below it, there are 64 marks, or no ticket is
+-- left
 abbrev pub LacksRoomFor : Index → ℕ → PLive → Type 0
 LacksRoomFor Meta i l = LacksRoom i l.marks.given (mark_count l.marks) l.indexes.meta.tree
 LacksRoomFor Block i l = LacksRoom i l.marks.given (mark_count l.marks) l.indexes.block.tree
 
--- a job of the index was taken of the root's slot with this number: its mark was added, and nothing else has changed
+-- a job of the index was taken of the root's slot with this number: its mark was added, and nothing else changed
 abbrev pub Takes : Index → ℕ → Job → PLive → PLive → Type 0
 Takes Meta i (MetaJob j) old new = IsTaken i j (meta_marked old) (meta_marked new) × (new.indexes ≡ old.indexes) × (new.marks.block ≡ old.marks.block)
 Takes Meta i (BlockJob j) old new = ⊥
@@ -137,11 +138,11 @@ abbrev pub marks_for : Done → PMarks → List Mark
 marks_for (MetaDone d) m = m.meta
 marks_for (BlockDone d) m = m.block
 
--- the mark of the value's ticket, if it stands
+-- the mark of the value's ticket, if it exists
 abbrev pub mark_for : Done → PMarks → Option ℕ
 mark_for done m = position (done_ticket done) (marks_for done m)
 
--- what was built took its place, its mark is gone, and the other index stays with its marks
+-- the built subtree replaced the child, its mark was removed, and the other index is unchanged, with its marks
 abbrev pub Installs : Done → PLive → PLive → Type 0
 Installs (MetaDone d) old new = IsInstalled meta_means d (meta_marked old) (meta_marked new) × (new.indexes.block ≡ old.indexes.block) × (new.marks.block ≡ old.marks.block)
 Installs (BlockDone d) old new = IsInstalled block_means d (block_marked old) (block_marked new) × (new.indexes.meta ≡ old.indexes.meta) × (new.marks.meta ≡ old.marks.meta)

@@ -30,7 +30,7 @@ pub record PLive : Type 0 where
   pub indexes : Indexes
   pub marks : PMarks
 
--- no marks, where so many jobs were taken
+-- no marks, after so many jobs were taken
 abbrev pub no_marks : ℕ → PMarks
 no_marks given = record { meta = []; block = []; given = given }
 
@@ -52,13 +52,13 @@ pub record AreMarked (l : PLive) : Type 0 where
   pub few : length l.marks.meta + length l.marks.block ≤ 64
   pub given : l.marks.given ≤ 2 ^ 64
 
--- live indexes with their marks as they stand: both trees are lawful, and the marks are so
+-- the invariant of live indexes with their marks: both trees are lawful, and so are the marks
 pub record Stands (l : PLive) : Type 0 where
   pub meta : IsLawful l.indexes.meta.tree
   pub block : IsLawful l.indexes.block.tree
   pub marks : AreMarked l
 
--- what a call keeps of one index: each mark that stands after it has the content that it had, and so have the marks of each
+-- what a call preserves of one index: each mark that still exists has the content that it had, and so do the marks of each
 -- ticket that was given
 pub record Keeps {U V : Type 0} (means : U → Option V → Option V) (a b : PMarked U V) : Type 0 where
   pub content : Each (KeepsContent means a.tree b.tree) b.marks
@@ -70,7 +70,7 @@ pub record KeepsMarks (old new : PLive) : Type 0 where
   pub block : Keeps block_means (block_marked old) (block_marked new)
   pub given : old.marks.given ≤ new.marks.given
 
--- the list of each marked slot, of both indexes, stays as it was, and its part of the messages stands behind it
+-- in both indexes, the list of each marked slot keeps its messages, and its part of the new messages follows them
 pub record KeepMarkedLists (msgs : Messages) (old new : PLive) : Type 0 where
   pub meta : KeepsLists (kept_in old.marks.meta old.indexes.meta.tree.root) msgs.meta old.indexes.meta.tree.root new.indexes.meta.tree.root
   pub block : KeepsLists (kept_in old.marks.block old.indexes.block.tree.root) msgs.block old.indexes.block.tree.root new.indexes.block.tree.root

@@ -1,4 +1,4 @@
--- What became of a volume in which an mtime was set.
+-- The effect of setting an mtime on a volume.
 use Rattle.std.specs.Prelude.{◌≡◌, ◌≤◌, ◌⊎◌, ℕ, Bool, length, [], Result, IfOk}
 use Rattle.call_compiler.specs.Compiled.{Messages, messages}
 use Rattle.call_compiler.specs.Mtimes.{SetsMtime as CompilesMtime, mtime_set}
@@ -16,7 +16,7 @@ use Rattle.volume.specs.Changes.{Receives}
 use Rattle.volume.specs.Marked.{PLive, KeepMarkedLists, KeepsMarks}
 use Rattle.volume.specs.Volumes.{PVolume, Means, live_of}
 
--- what the setting of an mtime is compiled to, unless memory was refused
+-- what setting an mtime is compiled to, unless an allocation fails
 abbrev pub Compiles : Indexes → Path → ℕ → Result (Reply × Batch) NoMemory → Type 0
 Compiles i p at compiled = IfOk compiled (λ x. CompilesMtime i p at x.0 (messages x.1))
 
@@ -25,15 +25,15 @@ pub record Asks (i : Indexes) (p : Path) (at : ℕ) (compiled : Result (Reply ×
   pub compiles : Compiles i p at compiled
   pub is_root : root ≡ is_root p
 
--- the world in which what is at the path has this mtime; the same world where nothing is there
+-- the world in which the entry at the path has this mtime; the same world if there is none
 abbrev pub with_mtime : Path → ℕ → World → World
 with_mtime p at w = record w { live = (mtime_set at w.live p).0 }
 
--- the reply is that of the world's live tree, and the world with the mtime is meant
+-- the reply is that of the world's live tree, and the volume abstracts to the world with the mtime
 abbrev pub Sets : Path → ℕ → Reply → PVolume → World → Type 0
 Sets p at r new w = (r ≡ (mtime_set at w.live p).1) × Means new (with_mtime p at w)
 
--- the index for metadata took the one message, and that for blocks is as it was
+-- the index for metadata received the one message, and that for blocks is unchanged
 pub record TakesOne (old new : PLive) : Type 0 where
   pub msgs : Messages
   pub one : (length msgs.meta ≤ 1) × (msgs.block ≡ [])
@@ -41,8 +41,8 @@ pub record TakesOne (old new : PLive) : Type 0 where
   pub block : new.indexes.block ≡ old.indexes.block
   pub lists : KeepMarkedLists msgs old new
 
--- an mtime that was to be set: in each world that was meant it is replied as the world's live tree says, and the world with the mtime is
--- meant, or ENOMEM is replied. A fault changes nothing. At most one message came, no snapshot changes, and all marks stay
+-- setting an mtime: in each world the reply is that of the world's live tree, and the volume then abstracts to the world with the mtime,
+-- or the reply is ENOMEM. A fault changes nothing. At most one message is sent, no snapshot changes, and all marks stay
 pub record SetsMtime (p : Path) (at : ℕ) (r : Reply) (old new : PVolume) : Type 0 where
   pub leads : (w : World) → Means old w → Sets p at r new w ⊎ (r ≡ Fault ENOMEM)
   pub refused : (e : Errno) → r ≡ Fault e → new ≡ old

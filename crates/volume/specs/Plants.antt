@@ -24,8 +24,8 @@ is_directory (FileMeta n date) = false
 abbrev pub one_put : Path → Meta → Messages
 one_put p m = record { meta = Put (enc p) m ∷ []; block = [] }
 
--- an entry that is planted in indexes, or the root's moment: the answer is the table's for each tree that they meant, or want of memory; they
--- mean the tree with the entry, by one message in the metadata, or are as they were
+-- an entry that is planted in indexes, or the root's mtime: the answer is the table's for each tree to which they abstract, or ENOMEM; they
+-- then abstract to the tree with the entry, by one message in the metadata, or are unchanged
 pub record PlantsIn (p : Path) (m : Meta) (r : Snapped) (old new : Indexes) : Type 0 where
   pub answer : (t : Tree) → MeanTree old t → (r ≡ (planted t p m).1) ⊎ (r ≡ Err ENOMEM)
   pub means : IfOk r (λ _. (t : Tree) → MeanTree old t → MeanTree new (planted t p m).0)

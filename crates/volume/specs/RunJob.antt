@@ -36,7 +36,7 @@ abbrev pub others : ℕ → List RunJob → List RunJob
 others t [] = []
 others t (h ∷ hs) = if held_ticket h == t then hs else h ∷ others t hs
 
--- where its mark stands, the marked slot has its content
+-- if its mark exists, the marked slot has its content
 abbrev pub HeldFits : RunJob → PLive → Type 0
 HeldFits (Taken job) l = JobFits job l
 HeldFits (Built done) l = DoneFits done l

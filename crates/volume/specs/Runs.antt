@@ -53,7 +53,7 @@ Beside P old new = P old.volume new.volume × (new.held ≡ old.held)
 
 -- ---- taking
 
--- what is told of a reply
+-- the answer for a reply of `take_job`
 abbrev pub take_answer : TakeReply → TakeAnswer
 take_answer (Taken job) = TakenAs (record { number = ticket_of job })
 take_answer NotThere = TakeNotThere
@@ -67,7 +67,7 @@ with_taken hs NotThere = hs
 with_taken hs NoRoom = hs
 with_taken hs NoMemory = hs
 
--- a taking: the reply of `take_job` is told, and a job that was taken is held
+-- taking a job: the answer is that of the reply of `take_job`, and a job that was taken is held
 pub record Takes (index : Index) (i : ℕ) (a : TakeAnswer) (old new : PRun) : Type 0 where
   pub reply : TakeReply
   pub history_of : a ≡ take_answer reply
@@ -92,13 +92,12 @@ pub record InstalledAs (job : RunJob) (r : InstallReply) (old new : PVolume) : T
 abbrev pub IsAgain : RunJob → RunJob → Type 0
 IsAgain job again = (again ≡ job) ⊎ ((done : Done) × MayInstall job done × (again ≡ HeldDone done))
 
--- the mark of a job that was built stands
+-- the mark of a built job exists
 abbrev pub MarkStands : RunJob → PMarks → Type 0
 MarkStands (HeldJob job) m = ⊤
 MarkStands (HeldDone done) m = mark_for done m ≡ None → ⊥
 
--- how the finishing of a job ends: where it was refused memory the job is kept, its mark stands if it was built, and nothing has
--- changed
+-- the end of finishing a job: if an allocation failed, the job is kept, its mark exists if it was built, and nothing changed
 abbrev pub Ends : RunJob → Result FinishAnswer RunJob → PVolume → PVolume → Type 0
 Ends job (Ok FinishInstalled) old new = InstalledAs job Installed old new
 Ends job (Ok FinishStale) old new = InstalledAs job Stale old new
@@ -106,15 +105,15 @@ Ends job (Ok FinishNotThere) old new = ⊥
 Ends job (Ok FinishNoMemory) old new = ⊥
 Ends job (Err again) old new = IsAgain job again × MarkStands again old.marks × (new ≡ old)
 
--- the held job with the ticket was installed with this reply, and is gone
+-- the held job with the ticket was installed with this reply, and is no longer held
 pub record Installing (t : ℕ) (r : InstallReply) (old new : PRun) : Type 0 where
   pub job : RunJob
   pub has : with_ticket t old.held ≡ Some job
   pub installed : InstalledAs job r old.volume new.volume
   pub held : new.held ≡ others t old.held
 
--- the held job with the ticket was refused memory: nothing has changed but that it is held last, as it was, or built and with its
--- mark standing
+-- an allocation for the held job with the ticket failed: nothing changed but that it is held last, either unchanged, or built and
+-- with its mark
 pub record Refused (t : ℕ) (old new : PRun) : Type 0 where
   pub job : RunJob
   pub has : with_ticket t old.held ≡ Some job
@@ -157,9 +156,9 @@ begun v = record { volume = v; held = [] }
 abbrev pub ended : PRun → PVolume
 ended r = record (r.volume) { marks = without_held r.held r.volume.marks }
 
--- a run of events with these answers: the volume meant one world; from it the calls alone, in their order, are a legal
--- history, and the volume now means the world that they leave; each event was done by its own call, one after the other,
--- and the jobs that were left were cancelled
+-- a run of events with these answers: the volume abstracted to one world; from it the calls alone, in their order, are a
+-- legal history, and the volume then abstracts to the world after them; each event was executed by its own call, one
+-- after the other, and the jobs that were left were cancelled
 pub record Ran (events : List Event) (answers : List Answer) (old new : PVolume) : Type 0 where
   pub world : World
   pub meant : Means old world

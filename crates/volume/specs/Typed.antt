@@ -1,4 +1,4 @@
--- Answers of a call's own type, and the replies that they tell.
+-- Results of a call's own type, and the replies that they stand for.
 use Rattle.std.specs.Prelude.{◌≡◌, ℕ, Bool, Result, Ok, Err, IfOk, ⊤}
 use Rattle.call_compiler.specs.Compiled.{IsCompiled, messages, touches_root}
 use Rattle.call_compiler.specs.declared.batch.Batch.{Batch}
@@ -10,14 +10,14 @@ use Rattle.reference.specs.declared.call.Call.TheVariants.{Write, Read, Stat as 
 use Rattle.reference.specs.declared.reply.Reply.{Reply}
 use Rattle.reference.specs.declared.reply.Reply.TheVariants.{Done, Count, Data, Stat, Names, Fault}
 
--- the reply that an answer tells: the reply made of what was given, or the refusal
+-- the reply for a result: the reply with the value, or the fault
 abbrev pub replied : {A : Type 0} → (A → Reply) → Result A Errno → Reply
 replied reply (Ok given) = reply given
 replied reply (Err e) = Fault e
 
--- ---- which kinds of replies there are, each beside a refusal
+-- ---- the kinds of replies, each beside a fault
 
--- done, with nothing to tell
+-- success, without a value
 abbrev pub IsSettled : Reply → Type 0
 IsSettled Done = ⊤
 IsSettled (Fault e) = ⊤
@@ -35,7 +35,7 @@ IsData (Data bytes) = ⊤
 IsData (Fault e) = ⊤
 IsData _ = ⊥
 
--- what stands at a path
+-- the entry at a path
 abbrev pub IsStat : Reply → Type 0
 IsStat (Stat kind n modified) = ⊤
 IsStat (Fault e) = ⊤
@@ -64,11 +64,11 @@ Looks (AskStat p) = ⊤
 Looks (Readdir p) = ⊤
 Looks _ = ⊥
 
--- what the call at the moment is compiled to, unless memory was refused
+-- what the call at the timestamp is compiled to, unless an allocation fails
 abbrev pub Compiles : Indexes → Call → ℕ → Result (Reply × Batch) NoMemory → Type 0
 Compiles i c at compiled = IfOk compiled (λ x. IsCompiled i c at x.0 (messages x.1))
 
--- what the call at the moment is compiled to, and whether it gives the root its moment where it is done
+-- what the call at the timestamp is compiled to, and whether it sets the root's mtime if it succeeds
 pub record Asks (i : Indexes) (c : Call) (at : ℕ) (compiled : Result (Reply × Batch) NoMemory) (in_root : Bool) : Type 0 where
   pub compiles : Compiles i c at compiled
   pub root : in_root ≡ touches_root c

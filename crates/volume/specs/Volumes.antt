@@ -1,4 +1,4 @@
--- What callers see of a volume, and which world it means.
+-- Volumes as contracts see them, and the worlds to which they abstract.
 use Rattle.std.specs.Prelude.{◌≡◌, ℕ, ◌≤◌, ◌↔◌, List, Option, Some, None, IsSome, Contains, ⊤}
 use Rattle.std.specs.BTreeMap.{BTreeMap}
 use Rattle.std.specs.FinMap as finite
@@ -11,11 +11,11 @@ use Rattle.reference.specs.Worlds.{World}
 use Rattle.volume.specs.Marked.{PMarks, PLive, Stands, no_marks}
 use Rattle.volume.specs.declared.fs_root.FsRoot.{FsRoot}
 
--- indexes under names, each with the moment of its root
+-- indexes under names, each with the mtime of its root
 abbrev pub Kept : Type 0
 Kept = finite.FinMap by_bytes FsRoot
 
--- a volume: its live indexes and those of each named snapshot, with the moments of their roots, and the marks of the jobs taken from
+-- a volume: its live indexes and those of each named snapshot, with the mtimes of their roots, and the marks of the jobs taken from
 -- the live ones
 pub record PVolume : Type 0 where
   pub live : FsRoot
@@ -34,17 +34,17 @@ snapshot_root m = finite.from_entries m.entries
 abbrev pub names_in : Kept → List (List ℕ)
 names_in m = finite.keys m
 
--- these are the names that the map has, and no others; they rise in byte order, so none stands twice
+-- these are exactly the names in the map, sorted by bytes, so none occurs twice
 pub record AreNames (m : Kept) (names : List (List ℕ)) : Type 0 where
   pub rising : IsStrictlySortedBy by_bytes names
   pub all : (s : List ℕ) → IsSome (finite.get m s) ↔ Contains names s
 
--- the indexes mean the directory tree, and the moment is that of its root
+-- the indexes abstract to the directory tree, and the mtime is that of its root
 pub record MeanRooted (r : FsRoot) (t : Tree) : Type 0 where
   pub indexes : MeanTree r.indexes t
   pub root : moment t ≡ r.modified
 
--- they mean some directory tree
+-- they abstract to some directory tree
 pub record MeanSome (r : FsRoot) : Type 0 where
   pub tree : Tree
   pub means : MeanRooted r tree
@@ -60,8 +60,8 @@ Both R (Some a) (Some b) = R a b
 abbrev pub Alike : {A B : Type 0} → (A → B → Type 0) → finite.FinMap by_bytes A → finite.FinMap by_bytes B → Type 0
 Alike R m n = (s : List ℕ) → Both R (finite.get m s) (finite.get n s)
 
--- the volume means the world: its live indexes mean the live tree, it has the world's snapshots and no others, and each
--- of its snapshots means the world's of that name
+-- the volume abstracts to the world: its live indexes to the live tree, and its snapshots to the world's snapshots of
+-- the same names, with no others
 pub record Means (v : PVolume) (w : World) : Type 0 where
   pub live : MeanRooted v.live w.live
   pub snapshots : Alike MeanRooted v.snapshots w.snapshots
@@ -70,19 +70,20 @@ pub record Means (v : PVolume) (w : World) : Type 0 where
 abbrev pub most_snapshots : ℕ
 most_snapshots = 64
 
--- what the type of volumes keeps: a volume means a world, has at most 64 snapshots, its live trees are lawful, and each of its
--- marks, of which there are at most 64, has a slot of its own in a live root
+-- the invariant of volumes: a volume abstracts to a world, has at most 64 snapshots, its live trees are lawful, and each of
+-- its marks, of which there are at most 64, has a slot of its own in a live root
 pub record IsVolume (v : PVolume) : Type 0 where
   pub world : World
   pub means : Means v world
   pub few : finite.len v.snapshots ≤ most_snapshots
   pub stands : Stands (live_of v)
 
--- the world of the empty root directory of moment 0, without snapshots
+-- the world of the empty root directory with mtime 0, without snapshots
 abbrev pub empty_world : World
 empty_world = record { live = Dir 0 nothing; snapshots = finite.empty }
 
--- a new volume of the shape: it means the empty root directory of moment 0, without snapshots, and no job was taken
+-- a new volume of the shape: it abstracts to the empty root directory with mtime 0, without snapshots, and no job was
+-- taken
 pub record IsNew (shape : Shape) (v : PVolume) : Type 0 where
   pub meta_shape : v.live.indexes.meta.tree.shape ≡ shape
   pub block_shape : v.live.indexes.block.tree.shape ≡ shape

@@ -10,12 +10,12 @@ use Rattle.reference.specs.declared.reply.Meta.{Meta}
 
 -- ---- entries
 
--- these metadata are told of what stands at the path
+-- these are the metadata of the entry at the path
 abbrev pub IsEntry : Tree → Path → Meta → Type 0
 IsEntry t p m = meta_of (sight t p) ≡ Some m
 
--- these are the first `limit` entries of the tree from a path on, or all where there are fewer: each stands in the tree at that
--- path or behind it in key order, they rise, and none is missing unless there are `limit` before it
+-- the first `limit` entries of the tree from a path on, or all if there are fewer: each is in the tree at that path or after it
+-- in key order, they are sorted, and none is missing unless there are `limit` before it
 pub record AreEntries (t : Tree) (from : Path) (limit : ℕ) (es : List (Path × Meta)) : Type 0 where
   pub few : length es ≤ limit
   pub sound : All (λ e. (reaches (enc from) (enc e.0) ≡ true) × IsEntry t e.0 e.1) es
@@ -33,19 +33,19 @@ pub record ReadsPaths (ps : List (Key × Meta)) (es : List (Path × Meta)) : Typ
 abbrev pub block_bytes : List ℕ → ℕ → List ℕ
 block_bytes b i = take 4096 (drop (4096 * i) b)
 
--- block i of a file has these bytes, and behind them only zeros
+-- block i of a file has these bytes, and after them only zeros
 abbrev pub IsBlock : List ℕ → ℕ → List ℕ → Type 0
 IsBlock b i v = (zeros : ℕ) × (block_bytes b i ≡ v ++ replicate zeros 0)
 
--- these are the first `limit` stored blocks of a file from a number on, or all where there are fewer: each has its bytes, their
--- numbers rise, and a block that is missing has only zeros, or there are `limit` before it
+-- these are the first `limit` stored blocks of a file from a number on, or all if there are fewer: each has its bytes, they are
+-- sorted by number, and a missing block has only zeros, or there are `limit` before it
 pub record AreBlocks (b : List ℕ) (from limit : ℕ) (bs : List (ℕ × List ℕ)) : Type 0 where
   pub few : length bs ≤ limit
   pub sound : All (λ x. (from ≤ x.0) × (x.0 < most_blocks) × IsBlock b x.0 x.1) bs
   pub rising : AllPairs (λ x y. x.0 < y.0) bs
   pub complete : (i : ℕ) → from ≤ i → Any (λ x. x.0 ≡ i) bs ⊎ (IsBlock b i [] ⊎ ((length bs ≡ limit) × All (λ x. x.0 < i) bs))
 
--- the same of what stands at a path: there is none where that is no file
+-- the same for what is at a path: there is none if that is not a file
 abbrev pub AreBlocksAt : At → ℕ → ℕ → List (ℕ × List ℕ) → Type 0
 AreBlocksAt (Found (File date b)) from limit bs = AreBlocks b from limit bs
 AreBlocksAt _ from limit bs = bs ≡ []
@@ -63,7 +63,7 @@ pub record AreNumbered (p : Path) (ps : List (Key × List ℕ)) (bs : List (ℕ 
 pub record ReadsNumbers (ps : List (Key × List ℕ)) (bs : List (ℕ × List ℕ)) : Type 0 where
   pub of_path : (p : Path) → All (λ q. IsOfBlock p q.0) ps → AreNumbered p ps bs
 
--- a pair and a block: the block is the pair's, with the number that its key tells, if that is the path's with a byte 0 behind it
+-- a pair and a block: the block is the pair's, with the number in its key, if that is the path's key followed by a byte 0
 abbrev pub IsOwn : Path → Option (Key × List ℕ) → Option (ℕ × List ℕ) → Type 0
 IsOwn p None x = x ≡ None
 IsOwn p (Some q) None = (z : Key) → q.0 ≢ enc p ++ 0 ∷ z

@@ -1,4 +1,6 @@
-//! A position among the keys of a tree that does not change, from which its pairs are read in pieces.
+//! A position among the keys of a frozen tree, from which its pairs are read in batches.
+//!
+//! The pairs read ahead are always the next ones from the position on, without a gap (`StandsAt`).
 ghost use Rattle.std.specs.Prelude.{◌≡◌, List, ℕ, None, Option, OnOk};
 ghost use Rattle.node.specs.Meaning.{value as value_at};
 ghost use Rattle.scan.specs.Pairs.{IsFirst};

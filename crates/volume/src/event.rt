@@ -1,4 +1,4 @@
-//! The events of a run of a volume, and their answers.
+//! The events of a run of a volume, and their answers. An answer has the case of its event.
 
 use call_compiler::{Call, Reply};
 use jobs::Ticket;
@@ -91,7 +91,7 @@ pub enum TakeAnswer {
     Taken(Ticket),
     /// There is no such slot, its child is a leaf, no message is pending there, or it has a mark.
     NotThere,
-    /// The child has no room for the pieces of the first message, there are 64 marks, or no ticket is left.
+    /// The first message does not fit into the child, there are 64 marks, or no ticket is left.
     NoRoom,
     /// An allocation failed.
     NoMemory,

@@ -1,4 +1,5 @@
-//! Independent volumes that are made of a frozen tree.
+//! Forks: independent volumes that are made of a frozen tree. They share nodes, which are copied before they are
+//! changed, so no call on one affects the other.
 ghost use Rattle.std.specs.Prelude.{IfOk};
 ghost use Rattle.volume.specs.Forks.{IsForkOf};
 

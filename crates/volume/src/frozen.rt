@@ -1,4 +1,6 @@
-//! The tree of a volume at one point in time.
+//! The tree of a volume at one point in time. It shares its nodes with the volume, and no call changes it.
+//!
+//! Invariant (`MeanSome`): its indexes abstract to a directory tree.
 ghost use Rattle.std.specs.Prelude.{◌≡◌, IfOk, []};
 ghost use Rattle.volume.specs.HistoryOf.{Tells};
 ghost use Rattle.volume.specs.Volumes.{MeanSome};
@@ -11,7 +13,8 @@ use reference::Kind;
 use std::alloc::Global;
 use std::marker::Model;
 
-/// A tree that does not change: later changes of the volume do not affect it. Contracts see its indexes with the mtime of its root.
+/// A tree that does not change: later changes of the volume do not affect it. In contracts it is its indexes with the mtime of its
+/// root.
 pub struct Frozen {
     rooted: FsRoot,
 }
@@ -39,7 +42,7 @@ impl Model for Frozen {
 }
 
 impl Frozen {
-    /// The tree that these indexes mean.
+    /// The tree to which these indexes abstract.
     pub(crate) fn new(rooted: FsRoot) -> Frozen
         requires { MeanSome rooted }
         ensures { result ≡ rooted }
@@ -47,7 +50,7 @@ impl Frozen {
         Frozen { rooted }
     }
 
-    /// The invariant of the type: it means a directory tree. The call does nothing.
+    /// States the invariant of the type: it abstracts to a directory tree. Does nothing at run time.
     pub fn assert_invariant(&self)
         ensures { MeanSome self.now }
     {

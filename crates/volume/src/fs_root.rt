@@ -1,4 +1,5 @@
-//! Indexes, and the mtime of the root of the tree that they mean, which needs no look-up.
+//! Indexes, and the mtime of the root of the tree to which they abstract. It is stored beside them, so it needs no
+//! look-up.
 ghost use Rattle.std.specs.Prelude.{◌≡◌, IfOk};
 ghost use Rattle.pathkey.specs.Names.{is_root};
 ghost use Rattle.reference.specs.Calls.{is_done};
@@ -10,7 +11,7 @@ use call_compiler::{Indexes, Reply};
 use pathkey::{Errno, NoMemory, Path};
 use reference::Meta;
 
-/// Indexes, and the mtime of the root of the tree that they mean.
+/// Indexes, and the mtime of the root of the tree to which they abstract.
 #[derive(Drop)]
 pub struct FsRoot {
     /// The indexes.

@@ -1,4 +1,4 @@
-//! Holes: which bytes of a file are stored, and bytes that become zeros.
+//! Holes: which parts of a file are stored, and bytes that become zeros. A block that is not stored reads as zeros.
 ghost use Rattle.std.specs.Prelude.{◌≡◌, ◌≢◌, ◌≤◌, ◌<◌, ◌^◌, ℕ, List, [], IfOk, IsSome, None, length, true, false};
 ghost use Rattle.block_index.specs.Means.{blocks};
 ghost use Rattle.call_compiler.specs.Compiled.{MeanTree};
@@ -35,10 +35,10 @@ impl Volume {
 impl Volume {
     /// Sets `count` bytes of a file from the offset on to zero, up to the file's end, and returns how many they are. The tree is
     /// the same as after a `write` of as many zeros. Blocks that are entirely in the range are no longer stored, and none is
-    /// allocated for them. If no byte is within the file, nothing changes; no size is too large.
+    /// allocated for them. If no byte is within the file, nothing changes; any size is allowed.
     ///
-    /// ENOENT, ENOTDIR and EISDIR as `write`; ENOMEM if an allocation fails. It sends at most four messages, however many bytes
-    /// become zeros.
+    /// Fails with ENOENT, ENOTDIR and EISDIR as `write` does, and with ENOMEM if an allocation fails. It sends at most four
+    /// messages, however many bytes become zeros.
     pub fn punch(
         &mut self,
         alloc: Global,
@@ -77,7 +77,7 @@ fn find_extent(
     requires short { size ≤ 2 ^ 40 }
     ensures { IfOk result (λ r. (t : Tree) (date : ℕ) (b : List ℕ) → MeanTree walk.old.indexes t → entry_at t path.now ≡ Found (File date b) → length b ≡ size → IsRun (blocks walk.old.indexes.block) path.now b offset r.0 r.1) }
 {
-    // The contract of `key` says that the path is valid.
+    // The postcondition of `key` states that this is a valid path.
     let _key = path.key();
     if offset >= size {
         return Ok((size, size));

@@ -1,4 +1,6 @@
 //! Jobs of a volume, what is built of them, and the replies of taking and installing one.
+//!
+//! A job has its own references to the nodes that it needs, so it stays buildable whatever happens to the volume.
 ghost use Rattle.std.specs.Prelude.{◌≡◌, IfOk, IfErr, IfSome};
 ghost use Rattle.volume.specs.Jobs.{ticket_of, done_ticket, Builds, IsChildOf};
 
@@ -76,10 +78,10 @@ impl Job {
         }
     }
 
-    /// Builds the job: a subtree that includes the job's messages, flushed down as far as there is room. If an allocation
-    /// fails, the job is returned as it was.
+    /// Builds the job: a subtree that includes the job's messages, flushed down as far as they fit. If an allocation
+    /// fails, the job is returned unchanged.
     ///
-    /// It needs no volume and no lock, so another thread can do it while the volume changes.
+    /// It needs no volume and no lock, so another thread can build while the volume changes.
     pub fn build(self, alloc: Global) -> Result<Done, Job>
         ensures ok { IfOk result (λ d. Builds self d) }
         ensures err { IfErr result (λ job. job ≡ self) }
@@ -109,20 +111,20 @@ impl Done {
     }
 }
 
-/// The reply of taking a job. Every reply but `Taken` leaves the volume as it was.
+/// The reply of taking a job. The volume is unchanged unless it is `Taken`.
 #[derive(Drop)]
 pub enum TakeReply {
     /// The job was taken, and its slot is marked.
     Taken(Job),
     /// There is no such slot, its child is a leaf, no message is pending there, or it has a mark.
     NotThere,
-    /// The child has no room for the pieces of the first message, there are 64 marks, or no ticket is left.
+    /// The first message does not fit into the child, there are 64 marks, or no ticket is left.
     NoRoom,
     /// An allocation failed.
     NoMemory,
 }
 
-/// The reply of installing. Every reply but `Installed` leaves the volume as it was.
+/// The reply of installing. The volume is unchanged unless it is `Installed`.
 #[derive(Drop)]
 pub enum InstallReply {
     /// The subtree has replaced the child.

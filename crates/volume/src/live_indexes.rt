@@ -1,4 +1,7 @@
 //! The live indexes of a volume, with the marks of the jobs taken from their trees.
+//!
+//! Invariant (`AreMarked`): each mark has a slot of its own in the root of its tree, there are at most 64 marks in both
+//! together, and no ticket is given twice.
 ghost use Rattle.std.specs.Prelude.{◌≡◌, ◌↔◌, ℕ, [], None, IfOk, IfNone, IfSome, OnErr, OnOk};
 ghost use Rattle.call_compiler.specs.Compiled.{messages};
 ghost use Rattle.call_compiler.specs.Laws.{HaveTaken};
@@ -102,8 +105,8 @@ impl LiveIndexes {
         &self.indexes
     }
 
-    /// The invariant of the type: both trees are lawful, each mark has a slot of its own, there are at most 64 marks, and no
-    /// ticket was given twice. The call does nothing.
+    /// States the invariant of the type: both trees are lawful, each mark has a slot of its own, there are at most 64 marks,
+    /// and no ticket was given twice. Does nothing at run time.
     pub fn assert_invariant(&self)
         ensures { Stands self.now }
     {
@@ -135,7 +138,7 @@ impl LiveIndexes {
     {
         let Batch { meta, block } = batch;
         if meta.is_empty() && block.is_empty() {
-            // A lawful tree that stays as it is has taken no messages: stated for the checker.
+            // The postcondition brings into the proof that a lawful tree without new messages is unchanged.
             self.assert_invariant();
             return Ok(());
         }
@@ -179,15 +182,15 @@ impl LiveIndexes {
         }
     }
 
-    /// The flush of the slot of an index than which none has more pending messages; `None` if nothing is pending.
+    /// The flush of the fullest slot of an index; `None` if no message is pending.
     pub fn heaviest(&self, index: Index) -> Option<TreeStep>
         ensures { HeaviestIn index result self.now.indexes }
     {
         in_tree!(self.indexes, index, tree => heaviest(tree))
     }
 
-    /// The slot of an index's root of which a job would move the most messages, the first of equals; `None` if no job would move
-    /// any.
+    /// The slot of an index's root of which a job would move the most messages, the first of several; `None` if no job would
+    /// move any.
     pub fn backlog(&self, index: Index) -> Option<Backlog>
         ensures { BacklogIn index result self.now }
     {
@@ -197,7 +200,7 @@ impl LiveIndexes {
         }
     }
 
-    /// A step of the same index to try if this one has no room; `None` if none is known.
+    /// Another step of the same index to try if this one does not fit; `None` if none is known.
     pub fn make_room(&self, step: Step) -> Option<Step>
         ensures { IfSome result (λ other. other.index ≡ step.index) }
     {
@@ -206,8 +209,9 @@ impl LiveIndexes {
         Some(Step { index, step })
     }
 
-    /// Flushes the fullest slot of an index or, if its flush has no room, does what makes room for it; `None` if nothing is
-    /// pending there. If a full leaf could not be split, since its node has all slots that it may have, the node is split first.
+    /// Flushes the fullest slot of an index or, if that flush does not fit, does a step that makes space for it; `None` if no
+    /// message is pending. If a full leaf cannot be split because its node has the maximal number of slots, the node is split
+    /// first.
     pub fn compact_step(&mut self, alloc: Global, index: Index) -> Option<CompactStep>
         ensures nothing { (result ≡ None) ↔ (pending_in index self.old.indexes ≡ 0) }
         ensures unchanged { IfNone result (self.new ≡ self.old) }

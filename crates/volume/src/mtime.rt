@@ -1,4 +1,4 @@
-//! The mtime of a file or directory, set by a caller.
+//! Sets the mtime of a file or directory explicitly.
 ghost use Rattle.volume.specs.Mtimes.{SetsMtime};
 ghost use Rattle.volume.specs.Typed.{replied};
 
@@ -11,7 +11,7 @@ use std::alloc::Global;
 impl Volume {
     /// Sets the mtime of the file or directory at the path, or of the root, and changes nothing else (POSIX.1-2017, utimensat).
     ///
-    /// ENOENT and ENOTDIR as `stat`; ENOMEM if an allocation fails. It sends at most one message.
+    /// Fails with ENOENT and ENOTDIR as `stat` does, and with ENOMEM if an allocation fails. It sends at most one message.
     pub fn set_mtime(&mut self, alloc: Global, path: &Path, at: u64) -> Result<(), Errno>
         ensures { SetsMtime path.now at (replied (λ _. Reply.Done) result) self.old self.new }
     {

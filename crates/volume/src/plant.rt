@@ -1,5 +1,5 @@
-//! Entries that are planted whole, as an image lists them: an empty directory, or a file of the given number of zeros; and the
-//! root's mtime.
+//! Creates entries as an image lists them: an empty directory, or a file with the given number of zeros. Also sets the root's
+//! mtime.
 ghost use Rattle.std.specs.Prelude.{◌≡◌, ◌++◌, ◌∷◌, [], IfOk};
 ghost use Rattle.call_compiler.specs.Compiled.{messages};
 ghost use Rattle.meta_index.specs.Means.{IsMeantBy};
@@ -36,7 +36,7 @@ pub(crate) fn plant(
     if let Some(fault) = fault_of_plant(alloc, &live.indexes().meta, path, meta)? {
         return Err(fault);
     }
-    // The contract of `mtime_of` says that this is a timestamp.
+    // The postcondition of `mtime_of` states that this is a timestamp.
     let _early = mtime_of(meta);
     let batch = one_put(alloc, path, meta)?;
     live.append(alloc, batch)?;

@@ -1,4 +1,7 @@
-//! Lists of events.
+//! Runs a list of events on a volume: calls, snapshot calls, tree steps, and jobs that are taken and finished.
+//!
+//! After each event, every job that the run holds still fits the volume (`AreHeld`): its ticket was given, and if its
+//! mark exists, the marked slot has the content that the job was taken with.
 ghost use Rattle.std.specs.Prelude.{◌≡◌, ◌<◌, ◌+◌, ◌≤◌, ◌∷◌, [], IfOk, OnErr, length, vec_capacity};
 ghost use Rattle.volume.specs.RunJob.{AreHeld, IsHeld, without_held};
 ghost use Rattle.volume.specs.Marked.{KeepsMarks};
@@ -28,7 +31,7 @@ fn taking(event: &Event) -> usize
     }
 }
 
-/// How many of the events take a job. It allocates nothing.
+/// The number of events that take a job. It allocates nothing.
 fn takings(events: &[Event]) -> usize
     ensures count { result ≡ takings events.now }
     ensures bound { result ≤ length events.now }
@@ -67,7 +70,7 @@ impl Volume {
         }
     }
 
-    /// Builds and installs a held job. If an allocation fails, the job is returned, as it was or built.
+    /// Builds and installs a held job. If an allocation fails, the job is returned, either unchanged or built.
     fn finish(&mut self, alloc: Global, job: RunJob) -> Result<FinishAnswer, RunJob>
         requires { IsHeld (live_of self.old) job }
         ensures ends { Ends job result self.old self.new }
@@ -101,7 +104,7 @@ impl Volume {
         }
     }
 
-    /// Does one event, by its own call.
+    /// Executes one event.
     fn answer(&mut self, alloc: Global, held: &mut Vec<RunJob>, event: &Event) -> Answer
         requires held { AreHeld (live_of self.old) held.old.items }
         requires room { length held.old.items + takings (event.now ∷ []) ≤ vec_capacity held.old }
@@ -131,11 +134,11 @@ impl Volume {
         }
     }
 
-    /// Does the events in their order. It fails only if an allocation for the answers and the jobs fails, and has then done none.
-    /// A job that is taken is held until it is finished; the jobs that are left at the end are cancelled.
+    /// Executes the events in order. It fails only if the lists of answers and jobs cannot be allocated, and then nothing was
+    /// executed. A job that is taken is held until it is finished; the jobs that are left at the end are cancelled.
     ///
-    /// Whatever steps and jobs come between the calls, the answers are those that the calls alone, in their order, have from
-    /// the world that the volume meant, and the volume means the world that they leave.
+    /// Whichever steps and jobs are interleaved with the calls, the answers are those that the calls alone, in their order, have
+    /// in the world to which the volume abstracted, and the volume then abstracts to the world after them.
     pub fn run(&mut self, alloc: Global, events: &[Event]) -> Result<Vec<Answer>, NoMemory>
         ensures ran { IfOk result (λ answers. Ran events.now answers.items self.old self.new) }
         ensures err { OnErr result (self.new ≡ self.old) }

@@ -1,4 +1,4 @@
-//! Jobs that a run of events holds.
+//! The jobs that a run of events holds: each is taken, or built and not yet installed.
 ghost use Rattle.std.specs.Prelude.{◌≡◌, ◌<◌, IfOk, IfErr, IfSome, length, vec_capacity};
 ghost use Rattle.volume.specs.RunJob.{IsUnbuilt, MayInstall, held_ticket, others, position, with_ticket};
 
@@ -9,9 +9,9 @@ use std::alloc::Global;
 /// A job that a run holds.
 #[derive(Drop)]
 pub enum RunJob {
-    /// As it was taken.
+    /// A job that is not built yet.
     Taken(Job),
-    /// What was built of it, if an allocation failed when it was to be installed.
+    /// A built job, if an allocation failed when it was to be installed.
     Built(Done),
 }
 
@@ -26,7 +26,7 @@ impl RunJob {
         }
     }
 
-    /// What is to be installed. If an allocation fails, the job is returned as it was.
+    /// Builds the job, if it is not built yet. If an allocation fails, the job is returned unchanged.
     pub(crate) fn built(self, alloc: Global) -> Result<Done, RunJob>
         ensures ok { IfOk result (λ d. MayInstall self d) }
         ensures err { IfErr result (λ held. held ≡ self) }

@@ -1,4 +1,4 @@
-//! The named snapshots of a volume: names with the indexes at the time when they were taken, and the mtimes of their roots.
+//! The named snapshots of a volume: for each name the indexes when it was taken, and the mtime of their root.
 ghost use Rattle.std.specs.Prelude.{◌≡◌, ◌≤◌, ◌<◌, true, false, OnOk, OnErr, IfOk, IfErr, Some, None, is_some, IfSome, slice_get};
 ghost use Rattle.std.specs.FinMap as finite;
 ghost use Rattle.std.specs.Option.{option_copied};
@@ -10,10 +10,10 @@ use std::alloc::Global;
 use std::collections::BTreeMap;
 use std::marker::Model;
 
-/// The most named snapshots.
+/// The maximal number of named snapshots.
 const MOST: usize = 64;
 
-/// Indexes under names, which contracts see as a finite map.
+/// Indexes under names. In contracts it is a finite map.
 pub struct Snapshots {
     named: BTreeMap<SnapName, FsRoot>,
 }
@@ -69,7 +69,7 @@ impl Snapshots {
         self.get(name).is_some()
     }
 
-    /// Whether there are as many snapshots as there may be. It allocates nothing.
+    /// Whether the maximal number of snapshots exists. It allocates nothing.
     pub fn is_full(&self) -> bool
         ensures full { result ≡ true → most_snapshots ≤ finite.len self.now }
         ensures room { result ≡ false → finite.len self.now < most_snapshots }

@@ -1,4 +1,7 @@
-//! A volume and its calls.
+//! The type `Volume`, its calls, steps and jobs.
+//!
+//! Invariant (`IsVolume`): it abstracts to a world, has at most 64 snapshots and at most 64 marks, and its live trees
+//! are lawful. Each call preserves it, also if an allocation fails: then the call changes nothing.
 ghost use Rattle.std.specs.Prelude.{◌≡◌, ◌⊎◌, ◌↔◌, ℕ, false, MatchResult, IfOk, IfNone, IfSome, None, Some, slice_get};
 ghost use Rattle.node.specs.Shapes.{is_shape};
 ghost use Rattle.pathkey.specs.Names.{Path as Names};
@@ -76,8 +79,8 @@ fn reply_to(appended: Result<(), NoMemory>, reply: Reply) -> Reply
 }
 
 impl Volume {
-    /// An empty root directory of mtime 0, without snapshots, in new trees of this shape. EINVAL if the shape is not valid
-    /// (`Shape::ok`), ENOMEM if an allocation fails.
+    /// A new volume with an empty root directory of mtime 0, without snapshots, in trees of this shape. EINVAL if the
+    /// shape is not valid (`Shape::ok`), ENOMEM if an allocation fails.
     pub fn new(alloc: Global, shape: Shape) -> Result<Volume, Errno>
         ensures new { MatchResult result (IsNew shape) (λ e. (e ≡ Errno.EINVAL) ⊎ (e ≡ Errno.ENOMEM)) }
         ensures shape { (result ≡ Err Errno.EINVAL) ↔ (is_shape shape ≡ false) }
@@ -172,8 +175,8 @@ impl Volume {
 
     /// Creates an entry with its mtime, as the loader of an image does: an empty directory, or a file of as many zeros. A
     /// directory at the root sets the mtime of the root, which keeps its entries. EEXIST for a file at the root, ENOENT or
-    /// ENOTDIR if the parent is no directory, EEXIST if the path exists, EFBIG if the file would have more than 2^40 bytes,
-    /// ENOMEM if an allocation fails. If it fails, nothing changes.
+    /// ENOTDIR if the parent is not a directory, EEXIST if the path exists, EFBIG if the file would have more than 2^40
+    /// bytes, ENOMEM if an allocation fails. If it fails, nothing changes.
     pub fn plant_entry(&mut self, alloc: Global, path: &Path, meta: Meta) -> Result<(), Errno>
         ensures { Plants path.now meta result self.old self.new }
     {
@@ -241,8 +244,8 @@ impl Volume {
         Ok(())
     }
 
-    /// Tries a tree step in the live index that it names. Whatever the reply, the volume means what it meant; every reply but
-    /// `Did` leaves it unchanged.
+    /// Tries a tree step in the live index that it names. Whatever the reply, the volume abstracts to the same world; it is
+    /// unchanged unless the reply is `Did`.
     pub fn step(&mut self, alloc: Global, step: Step) -> StepReply
         ensures { Stepped step result self.old self.new }
     {
@@ -251,8 +254,8 @@ impl Volume {
         reply
     }
 
-    /// The invariant of the type: a volume means a world, has at most 64 snapshots, its live trees are lawful, and it has at
-    /// most 64 marks, each of a slot of its own in a live root. The call does nothing.
+    /// States the invariant of the type: a volume abstracts to a world, has at most 64 snapshots, its live trees are lawful,
+    /// and it has at most 64 marks, each of a slot of its own in a live root. Does nothing at run time.
     pub fn assert_invariant(&self)
         ensures { IsVolume self.now }
     {
@@ -327,8 +330,7 @@ impl Volume {
         self.snapshots.name(number)
     }
 
-    /// The flush of the slot of a live index with the most pending messages; `None` if nothing is pending. It allocates
-    /// nothing.
+    /// The flush of the fullest slot of a live index; `None` if no message is pending. It allocates nothing.
     pub fn heaviest(&self, index: Index) -> Option<TreeStep>
         ensures { HeaviestIn index result self.now.live.indexes }
     {
@@ -342,15 +344,16 @@ impl Volume {
         in_tree!(self.live.indexes(), index, tree => tree.shape_report())
     }
 
-    /// How many pieces of messages are pending in a live index. It reads the slots of the root, and allocates nothing.
+    /// The number of pending pieces in a live index. It reads the slots of the root, and allocates nothing.
     pub fn pending(&self, index: Index) -> u128
         ensures { result ≡ pending_in index self.now.live.indexes }
     {
         in_tree!(self.live.indexes(), index, tree => tree.pending())
     }
 
-    /// Does a tree step in the index with more pending pieces, or in that of the metadata if both have as many: the heaviest
-    /// flush or, if that has no room, a step that makes room for it. `None` exactly if nothing is pending in either.
+    /// Does a tree step in the index with more pending pieces (messages, each range-delete counted once in each of its
+    /// slots), or in the metadata index if both have as many: the fullest flush or, if that does not fit, a step that makes
+    /// space for it. `None` exactly if no message is pending in either.
     pub fn compact_step(&mut self, alloc: Global) -> Option<CompactStep>
         ensures nothing { (result ≡ None) ↔ ((pending_in Index.Meta self.old.live.indexes ≡ 0) × (pending_in Index.Block self.old.live.indexes ≡ 0)) }
         ensures unchanged { IfNone result (self.new ≡ self.old) }
@@ -364,7 +367,7 @@ impl Volume {
         relief
     }
 
-    /// The index with more pending pieces, or that of the metadata if both have as many. It allocates nothing.
+    /// The index with more pending pieces, or the metadata index if both have as many. It allocates nothing.
     pub fn busier(&self) -> Index
         ensures index { result ≡ busier self.now.live.indexes }
         ensures nothing { (pending_in result self.now.live.indexes ≡ 0) → (pending_in Index.Meta self.now.live.indexes ≡ 0) × (pending_in Index.Block self.now.live.indexes ≡ 0) }
@@ -378,28 +381,30 @@ impl Volume {
         }
     }
 
-    /// A step of the same index to try if this one has no room; `None` if none is known. It allocates nothing, and no claim
-    /// depends on its choice.
+    /// Another step of the same index to try if this one does not fit; `None` if none is known. It allocates nothing, and
+    /// no claim depends on its choice.
     pub fn make_room(&self, step: Step) -> Option<Step>
         ensures { IfSome result (λ other. other.index ≡ step.index) }
     {
         self.live.make_room(step)
     }
 
-    /// The slot of an index's root of which a job would move the most messages, the first of equals, and how many it would move
-    /// at most. A job can be taken of it. `None` means that no job of the index would move a message. It allocates nothing.
+    /// The slot of an index's root of which a job would move the most messages, the first of several, and how many it would
+    /// move at most. A job can be taken of it. `None` means that no job of the index would move a message. It allocates
+    /// nothing.
     pub fn backlog(&self, index: Index) -> Option<Backlog>
         ensures { BacklogIn index result (live_of self.now) }
     {
         self.live.backlog(index)
     }
 
-    /// Takes a job of the slot with this number of an index's root: a reference to the slot's child, and the slot's oldest
-    /// messages, as many as have room in the child. Its mark stays until the job is installed or cancelled, a snapshot is
-    /// restored, or a step makes another root or works at the slot or below it. Tickets count from 0, over both indexes.
+    /// Takes a job of the slot with this index in the root of a tree: a reference to the slot's child, and as many of the
+    /// slot's oldest messages as fit into the child. Its mark stays until the job is installed or cancelled, a snapshot is
+    /// restored, or a step replaces the root or changes the slot or a node below it. Tickets count from 0, over both
+    /// indexes.
     ///
     /// `NotThere`, without an allocation, if the slot does not exist, its child is a leaf, no message is pending there or it
-    /// has a mark; `NoRoom` if the child has no room for the first message, there are 64 marks, or no ticket is left.
+    /// has a mark; `NoRoom` if the first message does not fit into the child, there are 64 marks, or no ticket is left.
     pub fn take_job(&mut self, alloc: Global, index: Index, slot: u8) -> TakeReply
         ensures answers { AnswersTaking index slot result (live_of self.old) (live_of self.new) }
         ensures root { self.new.live.modified ≡ self.old.live.modified }
@@ -411,9 +416,9 @@ impl Volume {
         reply
     }
 
-    /// Installs what was built of a job: it replaces the child of the marked slot, and the messages that it includes are
-    /// removed from the slot, with the mark. Messages that came later stay in the slot. Whatever the reply, the volume means
-    /// what it meant.
+    /// Installs a built job: its subtree replaces the child of the marked slot, and the messages that it includes are
+    /// removed from the slot, with the mark. Messages that were appended since stay in the slot. Whatever the reply, the
+    /// volume abstracts to the same world.
     ///
     /// `Stale`, without an allocation, if the mark was removed.
     pub fn install(&mut self, done: Done) -> InstallReply

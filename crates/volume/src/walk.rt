@@ -1,7 +1,8 @@
 //! Iteration over a frozen tree: its entries, or the blocks of a file, a number of them at a time, or the blocks of one file after
 //! the other.
 //!
-//! Each request is one walk of an index from its root, without a search for each entry.
+//! Each request is one walk of an index from its root, without a search for each entry. A `BlockWalk` continues from one request
+//! to the next: the pairs that it read ahead follow its position without a gap.
 ghost use Rattle.std.specs.Prelude.{◌≡◌, ◌≢◌, ◌<◌, ◌≤◌, ◌^◌, ◌↔◌, ◌++◌, [], ◌∷◌, ℕ, List, All, IfOk, IfSome, true};
 ghost use Rattle.std.specs.Option.{option_to_list};
 ghost use Rattle.block_index.specs.Means.{blocks};
@@ -22,10 +23,10 @@ use std::alloc::Global;
 use std::marker::Model;
 
 impl Frozen {
-    /// The entries from a path on in key order, with the root, each with its path: the first `limit`, or all if there are
-    /// fewer.
+    /// The first `limit` entries from a path on, each with its path, in key order, or all if there are fewer; the root is
+    /// one of them.
     ///
-    /// To continue, ask from the path of the last entry on, and skip that one.
+    /// To continue, request the entries from the path of the last one on, and skip the first.
     pub fn entries(
         &self,
         alloc: Global,
@@ -41,10 +42,10 @@ impl Frozen {
         with_paths(alloc, pairs)
     }
 
-    /// The stored blocks of the file at the path from a number on, each with its number: the first `limit`, or all if there are
-    /// fewer; none if the path is not a file. A block that is not stored has only zeros.
+    /// The first `limit` stored blocks of the file at the path from a block number on, each with its number, or all if there
+    /// are fewer; none if the path is not a file. A block that is not stored has only zeros.
     ///
-    /// Each block is a reference to shared bytes. To continue, ask from the number after that of the last block.
+    /// Each block is a reference to shared bytes. To continue, request the blocks from the number after the last one on.
     pub fn blocks(
         &self,
         alloc: Global,
@@ -55,7 +56,7 @@ impl Frozen {
         ensures blocks { IfOk result (λ v. (t : Tree) → MeanRooted self.now t → AreBlocksAt (entry_at t path.now) from limit v.items) }
         ensures few { IfOk result (λ v. All (λ x. x.0 < most_blocks) v.items) }
     {
-        // The contract of `key` says that the path is valid.
+        // The postcondition of `key` states that the path is valid.
         let _key = path.key();
         if path.is_root() {
             return Ok(Vec::new(alloc));
@@ -67,10 +68,10 @@ impl Frozen {
     }
 }
 
-/// The stored blocks of one file after the other, of a frozen tree. Contracts see the tree.
+/// The stored blocks of one file after the other, of a frozen tree. In contracts it is the tree.
 ///
-/// If files are asked for in the order of their paths, and the blocks of each in the order of their numbers, all come from one walk
-/// of the index without a search. What is asked for in another order is searched for.
+/// If files are requested in the order of their paths, and the blocks of each in the order of their numbers, all are read in one
+/// walk of the index without a search. Any other order needs a search.
 #[derive(Drop)]
 pub struct BlockWalk<'a> {
     frozen: &'a Frozen,
@@ -108,7 +109,7 @@ impl<'a> BlockWalk<'a> {
     /// The first stored block of the file at the path from a number on, with its number; `None` if the file has no more, or the
     /// path is not a file. A block that is not stored has only zeros.
     ///
-    /// The block is a reference to shared bytes. It fails only if an allocation fails; the same may be asked for again then.
+    /// The block is a reference to shared bytes. It fails only if an allocation fails; then the same request may be repeated.
     pub fn next(
         &mut self,
         alloc: Global,
@@ -120,7 +121,7 @@ impl<'a> BlockWalk<'a> {
         ensures stored { IfOk result (λ r. path.now ≢ [] → IsNextStored (blocks self.old.indexes.block) path.now from r) }
         ensures tree { self.new ≡ self.old }
     {
-        // The contract of `key` says that the path is valid.
+        // The postcondition of `key` states that the path is valid.
         let _key = path.key();
         if path.is_root() {
             return Ok(None);

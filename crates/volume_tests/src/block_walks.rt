@@ -1,6 +1,7 @@
-//! A walk through the blocks of one file after the other of a frozen tree, in the order of paths and in others.
-use crate::asked::{USUAL, freeze, new_volume};
-use crate::changes::{Change, Row, goes};
+//! Tests of walks through the blocks of one file after the other of a frozen tree, in the order of paths and in other
+//! orders.
+use crate::changes::{Change, Row, all_succeed};
+use crate::requests::{USUAL, freeze, new_volume};
 use pathkey::NoMemory;
 use std::alloc::Global;
 use test_support::ask::path;
@@ -18,7 +19,7 @@ const FILLED: &[Row] = &[
     (8, "/c", Change::Write(4096, "four"), Ok(4)),
 ];
 
-/// The next block of a file. It ensures nothing, so that no proof of a test reads what a tree is.
+/// The next block of a file. It has no postcondition, so that the proofs of the tests do not unfold what a tree is.
 fn next(
     alloc: Global,
     walk: &mut BlockWalk,
@@ -28,7 +29,8 @@ fn next(
     walk.next(alloc, of, from)
 }
 
-/// Which file is asked for a block, from which number on, and the number and the bytes that it gives, if any.
+/// The file of which a block is requested, the number from which on, and the number and the bytes of the result, if
+/// there is one.
 type Step = (&'static str, u32, Option<(u32, &'static str)>);
 
 /// In the order of paths and numbers.
@@ -90,7 +92,7 @@ fn gives_each(alloc: Global, tree: &Frozen, steps: &[Step]) -> bool {
     true
 }
 
-/// Whether the live tree is walked so, frozen.
+/// Whether the walk of the frozen live tree is as expected.
 fn is_walked(alloc: Global, volume: &Volume) -> bool {
     match freeze(volume) {
         Ok(tree) => gives_each(alloc, &tree, IN_ORDER) && gives_each(alloc, &tree, IN_NO_ORDER),
@@ -98,12 +100,12 @@ fn is_walked(alloc: Global, volume: &Volume) -> bool {
     }
 }
 
-/// Whether the files are made in a volume, and walks through its live tree then give their blocks.
+/// Whether the files are created in a volume, and walks through its live tree return their blocks.
 fn is_reported(alloc: Global, volume: &mut Volume) -> bool {
-    goes(alloc, volume, FILLED) && is_walked(alloc, volume)
+    all_succeed(alloc, volume, FILLED) && is_walked(alloc, volume)
 }
 
-fn is_reported_anew(alloc: Global) -> bool {
+fn is_reported_in_new(alloc: Global) -> bool {
     match new_volume(alloc, USUAL) {
         Ok(mut volume) => is_reported(alloc, &mut volume),
         Err(_) => false,
@@ -112,5 +114,5 @@ fn is_reported_anew(alloc: Global) -> bool {
 
 #[test]
 fn gives_the_blocks_of_file_after_file(rt: HostRuntime) {
-    assert!(rt; is_reported_anew(rt.alloc()));
+    assert!(rt; is_reported_in_new(rt.alloc()));
 }

@@ -1,4 +1,4 @@
-//! Updates of single blocks, and a file's bytes through an index, in tables with the values written out.
+//! Tests of updates of single blocks, and of a file's bytes through an index, in tables with the values written out.
 
 use block_index::{Block, BlockIndex, BlockUpdate, Patch};
 use bytes::Bytes;
@@ -16,16 +16,16 @@ const SHAPE: Shape = Shape {
     leaf: 4,
 };
 
-/// An update of one block, as a table can hold it.
+/// An update of one block, in a form that constant tables can contain.
 #[derive(Clone, Copy)]
-pub enum Laid {
+pub enum SampleUpdate {
     /// Bytes from an offset on.
     Patch(u16, &'static [u8]),
-    /// A cut to so many bytes.
+    /// A cut to that many bytes.
     CutTo(u16),
 }
 
-/// A patch; none where it ends behind its block.
+/// A patch; `None` if it ends after its block.
 fn patch(off: u16, bytes: Bytes) -> Option<BlockUpdate> {
     if usize::from(off) > 4096 || bytes.len() > 4096 - usize::from(off) {
         return None;
@@ -33,7 +33,7 @@ fn patch(off: u16, bytes: Bytes) -> Option<BlockUpdate> {
     Some(BlockUpdate::Patch(Patch::new(off, bytes)))
 }
 
-/// A patch of these bytes; none where it ends behind its block, or memory is refused.
+/// A patch of these bytes; `None` if it ends after its block, or an allocation fails.
 fn patched(alloc: Global, off: u16, new: &[u8]) -> Option<BlockUpdate> {
     match Bytes::copy_from_slice(alloc, new) {
         Ok(bytes) => patch(off, bytes),
@@ -41,17 +41,17 @@ fn patched(alloc: Global, off: u16, new: &[u8]) -> Option<BlockUpdate> {
     }
 }
 
-impl Laid {
-    /// The update; none where a patch ends behind its block, or memory is refused.
+impl SampleUpdate {
+    /// The update; `None` if a patch ends after its block, or an allocation fails.
     pub fn update(self, alloc: Global) -> Option<BlockUpdate> {
         match self {
-            Laid::CutTo(len) => Some(BlockUpdate::CutTo(len)),
-            Laid::Patch(off, new) => patched(alloc, off, new),
+            SampleUpdate::CutTo(len) => Some(BlockUpdate::CutTo(len)),
+            SampleUpdate::Patch(off, new) => patched(alloc, off, new),
         }
     }
 }
 
-/// A block of these bytes; none where they are too many, or memory is refused.
+/// A block of these bytes; `None` if they are too many, or an allocation fails.
 fn block(alloc: Global, bytes: &[u8]) -> Option<Block> {
     if bytes.len() > 4096 {
         return None;
@@ -59,18 +59,18 @@ fn block(alloc: Global, bytes: &[u8]) -> Option<Block> {
     Block::copied(alloc, bytes).ok()
 }
 
-/// Changes a block; `false` where memory is refused. It ensures nothing, so that no proof of a test reads what an update means; nor do
-/// the next.
+/// Changes a block; `false` if an allocation fails. It has no postcondition, so that the proofs of the tests do not unfold what an
+/// update does; nor do the next functions.
 fn change(alloc: Global, update: &BlockUpdate, block: &mut Block) -> bool {
     matches!(update.apply_in_place(alloc, block), Ok(true))
 }
 
-/// Whether an update makes these bytes of a block.
+/// Whether an update turns a block into these bytes.
 fn changes_to(alloc: Global, update: &BlockUpdate, block: &mut Block, wanted: &[u8]) -> bool {
     change(alloc, update, block) && block.as_slice() == wanted
 }
 
-/// Whether an update makes of the five bytes of a block these.
+/// Whether an update turns the five bytes of a block into these.
 fn makes(alloc: Global, update: &BlockUpdate, wanted: &[u8]) -> bool {
     match block(alloc, b"12345") {
         Some(mut block) => changes_to(alloc, update, &mut block, wanted),
@@ -78,7 +78,7 @@ fn makes(alloc: Global, update: &BlockUpdate, wanted: &[u8]) -> bool {
     }
 }
 
-/// The update that two are.
+/// The join of two updates.
 fn join_both(
     alloc: Global,
     first: &BlockUpdate,
@@ -87,7 +87,7 @@ fn join_both(
     first.join(alloc, later)
 }
 
-/// Whether two updates are one that makes these bytes.
+/// Whether the join of two updates gives these bytes.
 fn join_to(alloc: Global, first: &BlockUpdate, later: &BlockUpdate, wanted: &[u8]) -> bool {
     match join_both(alloc, first, later) {
         Ok(Some(one)) => makes(alloc, &one, wanted),
@@ -95,8 +95,8 @@ fn join_to(alloc: Global, first: &BlockUpdate, later: &BlockUpdate, wanted: &[u8
     }
 }
 
-/// Two updates, and the bytes that the one which they are makes of five.
-struct Joined(Laid, Laid, &'static [u8]);
+/// Two updates, and the result of applying their join to five bytes.
+struct Joined(SampleUpdate, SampleUpdate, &'static [u8]);
 
 /// Whether an update and the later one of the row join as the row says.
 fn joins(alloc: Global, first: &BlockUpdate, row: &Joined) -> bool {
@@ -116,20 +116,68 @@ impl Holds for Joined {
 }
 
 const JOINED: &[Joined] = &[
-    Joined(Laid::Patch(4, b"ab"), Laid::Patch(2, b"c"), b"12c4ab"),
-    Joined(Laid::Patch(2, b"c"), Laid::Patch(4, b"ab"), b"12c4ab"),
-    Joined(Laid::Patch(7, b"c"), Laid::Patch(0, b"ab"), b"ab345\0\0c"),
-    Joined(Laid::Patch(2, b"c"), Laid::Patch(3, b"d"), b"12cd5"),
-    Joined(Laid::Patch(4, b"ab"), Laid::Patch(2, b"cd"), b"12cdab"),
-    Joined(Laid::Patch(1, b"aaa"), Laid::Patch(2, b"b"), b"1aba5"),
-    Joined(Laid::Patch(2, b"b"), Laid::Patch(1, b"aaa"), b"1aaa5"),
-    Joined(Laid::CutTo(2), Laid::CutTo(4), b"12"),
-    Joined(Laid::CutTo(4), Laid::CutTo(2), b"12"),
-    Joined(Laid::Patch(0, b"a"), Laid::CutTo(4), b"a234"),
-    Joined(Laid::Patch(1, b"abc"), Laid::CutTo(3), b"1ab"),
-    Joined(Laid::Patch(7, b"a"), Laid::CutTo(6), b"12345\0"),
-    Joined(Laid::CutTo(4), Laid::Patch(0, b"a"), b"a234"),
-    Joined(Laid::CutTo(2), Laid::Patch(4, b"a"), b"12\0\0a"),
+    Joined(
+        SampleUpdate::Patch(4, b"ab"),
+        SampleUpdate::Patch(2, b"c"),
+        b"12c4ab",
+    ),
+    Joined(
+        SampleUpdate::Patch(2, b"c"),
+        SampleUpdate::Patch(4, b"ab"),
+        b"12c4ab",
+    ),
+    Joined(
+        SampleUpdate::Patch(7, b"c"),
+        SampleUpdate::Patch(0, b"ab"),
+        b"ab345\0\0c",
+    ),
+    Joined(
+        SampleUpdate::Patch(2, b"c"),
+        SampleUpdate::Patch(3, b"d"),
+        b"12cd5",
+    ),
+    Joined(
+        SampleUpdate::Patch(4, b"ab"),
+        SampleUpdate::Patch(2, b"cd"),
+        b"12cdab",
+    ),
+    Joined(
+        SampleUpdate::Patch(1, b"aaa"),
+        SampleUpdate::Patch(2, b"b"),
+        b"1aba5",
+    ),
+    Joined(
+        SampleUpdate::Patch(2, b"b"),
+        SampleUpdate::Patch(1, b"aaa"),
+        b"1aaa5",
+    ),
+    Joined(SampleUpdate::CutTo(2), SampleUpdate::CutTo(4), b"12"),
+    Joined(SampleUpdate::CutTo(4), SampleUpdate::CutTo(2), b"12"),
+    Joined(
+        SampleUpdate::Patch(0, b"a"),
+        SampleUpdate::CutTo(4),
+        b"a234",
+    ),
+    Joined(
+        SampleUpdate::Patch(1, b"abc"),
+        SampleUpdate::CutTo(3),
+        b"1ab",
+    ),
+    Joined(
+        SampleUpdate::Patch(7, b"a"),
+        SampleUpdate::CutTo(6),
+        b"12345\0",
+    ),
+    Joined(
+        SampleUpdate::CutTo(4),
+        SampleUpdate::Patch(0, b"a"),
+        b"a234",
+    ),
+    Joined(
+        SampleUpdate::CutTo(2),
+        SampleUpdate::Patch(4, b"a"),
+        b"12\0\0a",
+    ),
 ];
 
 #[test]
@@ -137,17 +185,17 @@ fn two_updates_join(rt: HostRuntime) -> Result<(), usize> {
     all_hold(rt.alloc(), JOINED)
 }
 
-/// An update and the next one as one; none where they are not, or memory is refused.
-fn with_next(alloc: Global, first: &BlockUpdate, next: Laid) -> Option<BlockUpdate> {
+/// The join of an update and the next one; `None` if they do not join, or an allocation fails.
+fn with_next(alloc: Global, first: &BlockUpdate, next: SampleUpdate) -> Option<BlockUpdate> {
     match next.update(alloc) {
         Some(next) => join_both(alloc, first, &next).ok()?,
         None => None,
     }
 }
 
-/// The updates as one; none where they are not, or memory is refused.
-fn one_of(alloc: Global, laid: &[Laid]) -> Option<BlockUpdate> {
-    let (first, rest) = laid.split_first()?;
+/// The join of the updates; `None` if they do not join, or an allocation fails.
+fn one_of(alloc: Global, updates: &[SampleUpdate]) -> Option<BlockUpdate> {
+    let (first, rest) = updates.split_first()?;
     let mut one = first.update(alloc)?;
     for next in rest {
         one = with_next(alloc, &one, *next)?;
@@ -155,11 +203,15 @@ fn one_of(alloc: Global, laid: &[Laid]) -> Option<BlockUpdate> {
     Some(one)
 }
 
-/// Updates and then others, and the bytes that the one which they are makes of five.
-struct Several(&'static [Laid], &'static [Laid], &'static [u8]);
+/// Updates and then others, and the result of applying their join to five bytes.
+struct Several(
+    &'static [SampleUpdate],
+    &'static [SampleUpdate],
+    &'static [u8],
+);
 
 impl Several {
-    /// Whether what the first are, and then the others, make the bytes of the row.
+    /// Whether the join of the first ones, and then the others, give the bytes of the row.
     fn follow(&self, alloc: Global, first: &BlockUpdate) -> bool {
         match one_of(alloc, self.1) {
             Some(later) => join_to(alloc, first, &later, self.2),
@@ -179,18 +231,22 @@ impl Holds for Several {
 
 const SEVERAL: &[Several] = &[
     Several(
-        &[Laid::Patch(0, b"ab"), Laid::Patch(4, b"cd")],
-        &[Laid::Patch(2, b"x"), Laid::Patch(6, b"y")],
+        &[SampleUpdate::Patch(0, b"ab"), SampleUpdate::Patch(4, b"cd")],
+        &[SampleUpdate::Patch(2, b"x"), SampleUpdate::Patch(6, b"y")],
         b"abx4cdy",
     ),
     Several(
-        &[Laid::Patch(0, b"ab"), Laid::Patch(6, b"cd")],
-        &[Laid::CutTo(3), Laid::Patch(4, b"e")],
+        &[SampleUpdate::Patch(0, b"ab"), SampleUpdate::Patch(6, b"cd")],
+        &[SampleUpdate::CutTo(3), SampleUpdate::Patch(4, b"e")],
         b"ab3\0e",
     ),
     Several(
-        &[Laid::CutTo(2), Laid::Patch(3, b"a")],
-        &[Laid::CutTo(1), Laid::Patch(8, b"b"), Laid::Patch(4, b"c")],
+        &[SampleUpdate::CutTo(2), SampleUpdate::Patch(3, b"a")],
+        &[
+            SampleUpdate::CutTo(1),
+            SampleUpdate::Patch(8, b"b"),
+            SampleUpdate::Patch(4, b"c"),
+        ],
         b"1\0\0\0c\0\0\0b",
     ),
 ];
@@ -200,8 +256,8 @@ fn several_updates_join(rt: HostRuntime) -> Result<(), usize> {
     all_hold(rt.alloc(), SEVERAL)
 }
 
-/// An update of a block, the length that the block then has, and bytes with which it begins and ends.
-type Filled = (Laid, usize, &'static [u8], &'static [u8]);
+/// An update of a block, the length that the block then has, and its first and last bytes.
+type Filled = (SampleUpdate, usize, &'static [u8], &'static [u8]);
 
 /// Whether the block is as the row says.
 fn is_filled(block: &Block, row: &Filled) -> bool {
@@ -209,7 +265,7 @@ fn is_filled(block: &Block, row: &Filled) -> bool {
     bytes.len() == row.1 && bytes.starts_with(row.2) && bytes.ends_with(row.3)
 }
 
-/// Whether an update makes the block what the row says, and a share of it has so many bytes as before.
+/// Whether an update turns the block into what the row says, and a share of it keeps its length.
 fn fills_beside(
     alloc: Global,
     update: &BlockUpdate,
@@ -221,7 +277,7 @@ fn fills_beside(
     change(alloc, update, block) && is_filled(block, row) && share.as_slice().len() == old
 }
 
-/// Whether an update makes the block what the row says, and leaves a share of it as long as it was.
+/// Whether an update turns the block into what the row says, and leaves the length of a share of it unchanged.
 fn fills(alloc: Global, update: &BlockUpdate, block: &mut Block, row: &Filled) -> bool {
     match block.copy() {
         Ok(share) => fills_beside(alloc, update, block, &share, row),
@@ -229,7 +285,7 @@ fn fills(alloc: Global, update: &BlockUpdate, block: &mut Block, row: &Filled) -
     }
 }
 
-/// Whether the row's update makes the block what the row says.
+/// Whether the row's update turns the block into what the row says.
 fn fills_so(alloc: Global, block: &mut Block, row: &Filled) -> bool {
     match row.0.update(alloc) {
         Some(update) => fills(alloc, &update, block, row),
@@ -238,16 +294,16 @@ fn fills_so(alloc: Global, block: &mut Block, row: &Filled) -> bool {
 }
 
 const FILLED: &[Filled] = &[
-    (Laid::Patch(4095, b"x"), 4096, b"d\0\0\0", b"\0\0x"),
-    (Laid::Patch(4094, b"yz"), 4096, b"d\0", b"\0yz"),
-    (Laid::Patch(0, b"ab"), 4096, b"ab\0", b"\0yz"),
-    (Laid::CutTo(4096), 4096, b"ab\0", b"\0yz"),
-    (Laid::CutTo(2), 2, b"ab", b"ab"),
-    (Laid::CutTo(0), 0, b"", b""),
-    (Laid::Patch(1, b"c"), 2, b"\0c", b"\0c"),
+    (SampleUpdate::Patch(4095, b"x"), 4096, b"d\0\0\0", b"\0\0x"),
+    (SampleUpdate::Patch(4094, b"yz"), 4096, b"d\0", b"\0yz"),
+    (SampleUpdate::Patch(0, b"ab"), 4096, b"ab\0", b"\0yz"),
+    (SampleUpdate::CutTo(4096), 4096, b"ab\0", b"\0yz"),
+    (SampleUpdate::CutTo(2), 2, b"ab", b"ab"),
+    (SampleUpdate::CutTo(0), 0, b"", b""),
+    (SampleUpdate::Patch(1, b"c"), 2, b"\0c", b"\0c"),
 ];
 
-/// Whether all updates make the block what their rows say; the number of the first that does not.
+/// Whether all updates turn the block into what their rows say; otherwise the index of the first that does not.
 fn filled(alloc: Global, block: &mut Block) -> Result<(), usize> {
     let mut number = 0usize;
     for row in FILLED {
@@ -259,7 +315,8 @@ fn filled(alloc: Global, block: &mut Block) -> Result<(), usize> {
     Ok(())
 }
 
-/// Whether all updates make a block of one byte what their rows say; the number of the first that does not.
+/// Whether all updates turn a block of one byte into what their rows say; otherwise the index of the first that does
+/// not.
 fn one_byte_filled(alloc: Global) -> Result<(), usize> {
     match block(alloc, b"d") {
         Some(mut block) => filled(alloc, &mut block),
@@ -272,12 +329,12 @@ fn a_block_is_filled_to_its_end_and_cut_to_nothing(rt: HostRuntime) -> Result<()
     one_byte_filled(rt.alloc())
 }
 
-/// What an update makes where no block is.
+/// The result of an update if there is no block.
 fn made_of_nothing(alloc: Global, update: &BlockUpdate) -> Result<Option<Block>, NoMemory> {
     update.apply(alloc, None)
 }
 
-/// Whether an update makes these bytes where no block is; or none.
+/// Whether this is the result of an update if there is no block.
 fn makes_of_nothing(alloc: Global, update: &BlockUpdate, wanted: Option<&[u8]>) -> bool {
     match made_of_nothing(alloc, update) {
         Ok(Some(block)) => wanted == Some(block.as_slice()),
@@ -286,8 +343,8 @@ fn makes_of_nothing(alloc: Global, update: &BlockUpdate, wanted: Option<&[u8]>) 
     }
 }
 
-/// An update, and the bytes that it makes where no block is; or none.
-struct Begun(Laid, Option<&'static [u8]>);
+/// An update, and its result if there is no block.
+struct Begun(SampleUpdate, Option<&'static [u8]>);
 
 impl Holds for Begun {
     fn holds(&self, alloc: Global) -> bool {
@@ -299,8 +356,8 @@ impl Holds for Begun {
 }
 
 const BEGUN: &[Begun] = &[
-    Begun(Laid::Patch(2, b"a"), Some(b"\0\0a")),
-    Begun(Laid::CutTo(7), None),
+    Begun(SampleUpdate::Patch(2, b"a"), Some(b"\0\0a")),
+    Begun(SampleUpdate::CutTo(7), None),
 ];
 
 #[test]
@@ -308,18 +365,18 @@ fn a_block_that_is_absent_is_made_by_a_patch_alone(rt: HostRuntime) -> Result<()
     all_hold(rt.alloc(), BEGUN)
 }
 
-/// What is asked of an index about one file, with what comes of it.
+/// A request to an index about one file, with its result.
 #[derive(Clone, Copy)]
 pub enum SampleCall {
-    /// Writes bytes at an offset, by so many messages.
+    /// Writes bytes at an offset, with that many messages.
     Write(u64, &'static [u8], usize),
-    /// Cuts the file to a length, by so many messages.
+    /// Truncates the file to a length, with that many messages.
     Cut(u64, usize),
-    /// Reads at an offset so many bytes of a file of a length, and gets these.
+    /// Reads at an offset that many bytes of a file with this length, with this result.
     Read(u64, u64, u64, &'static [u8]),
 }
 
-/// The most bytes of a file, and its last place.
+/// The maximal length of a file, and its last byte.
 const LIMIT: u64 = 1_099_511_627_776;
 
 const LAST: u64 = 1_099_511_627_775;
@@ -327,7 +384,7 @@ const LAST: u64 = 1_099_511_627_775;
 /// Messages for an index.
 type Messages = Vec<Msg<BlockUpdate>>;
 
-/// The bytes of a file; none where it is the root, or memory is refused.
+/// The bytes of a file; `None` if it is the root, or an allocation fails.
 fn bytes_of(
     alloc: Global,
     index: &BlockIndex,
@@ -342,7 +399,7 @@ fn bytes_of(
     index.read(alloc, file, off, n, len).ok()
 }
 
-/// The messages of a cut.
+/// The messages of a truncation.
 fn cut(alloc: Global, index: &BlockIndex, file: &Path, len: u64) -> Option<Messages> {
     if file.is_root() || len > LIMIT {
         return None;
@@ -378,7 +435,7 @@ fn write_new(
     }
 }
 
-/// Appends messages; whether they are as many as wanted.
+/// Appends messages; returns whether there are as many as expected.
 fn append(alloc: Global, index: &mut BlockIndex, msgs: Option<Messages>, wanted: usize) -> bool {
     match msgs {
         Some(msgs) => msgs.len() == wanted && index.tree.append(alloc, msgs).is_ok(),
@@ -394,7 +451,7 @@ fn reads(read: Option<Vec<u8>>, wanted: &[u8]) -> bool {
     }
 }
 
-/// Whether what is asked about a file comes out as it should. What is sent is appended.
+/// Whether the request about a file has the expected result. Its messages are appended.
 pub fn is_answered(alloc: Global, index: &mut BlockIndex, file: &Path, ask: SampleCall) -> bool {
     match ask {
         SampleCall::Read(off, n, len, wanted) => {
@@ -426,41 +483,46 @@ const ASKED: &[SampleCall] = &[
     SampleCall::Read(LAST, 2, LIMIT, b"z"),
 ];
 
-/// What a new index goes through at a path.
-pub trait Course {
-    /// Whether it goes as it should; the number of what does not, where memory is refused too.
-    fn goes(&self, alloc: Global, index: &mut BlockIndex, path: &Path) -> Result<(), usize>;
+/// A test that runs on a new index at a path.
+pub trait IndexTest {
+    /// Whether it passes; otherwise the index of what fails, also if an allocation fails.
+    fn passes(&self, alloc: Global, index: &mut BlockIndex, path: &Path) -> Result<(), usize>;
 }
 
-/// Whether a new index of a shape goes through a course at a path.
-fn goes_at<C: Course>(alloc: Global, shape: Shape, path: &Path, course: &C) -> Result<(), usize> {
+/// Whether a test passes on a new index of a shape at a path.
+fn passes_at<C: IndexTest>(
+    alloc: Global,
+    shape: Shape,
+    path: &Path,
+    course: &C,
+) -> Result<(), usize> {
     if !shape.ok() {
         return Err(usize::MAX);
     }
     match BlockIndex::new(alloc, shape) {
-        Ok(mut index) => course.goes(alloc, &mut index, path),
+        Ok(mut index) => course.passes(alloc, &mut index, path),
         Err(_) => Err(usize::MAX),
     }
 }
 
-/// Whether a new index of a shape goes through a course at the path of a text.
-pub fn goes_anew<C: Course>(
+/// Whether a test passes on a new index of a shape at the path of a text.
+pub fn passes_on_new_index<C: IndexTest>(
     alloc: Global,
     shape: Shape,
     text: &str,
     course: &C,
 ) -> Result<(), usize> {
     match path(alloc, text) {
-        Ok(path) => goes_at(alloc, shape, &path, course),
+        Ok(path) => passes_at(alloc, shape, &path, course),
         Err(_) => Err(usize::MAX),
     }
 }
 
-/// What is asked about a file comes out as it should.
+/// The requests about a file have their expected results.
 struct Asking;
 
-impl Course for Asking {
-    fn goes(&self, alloc: Global, index: &mut BlockIndex, file: &Path) -> Result<(), usize> {
+impl IndexTest for Asking {
+    fn passes(&self, alloc: Global, index: &mut BlockIndex, file: &Path) -> Result<(), usize> {
         let mut number = 0usize;
         for ask in ASKED {
             if !is_answered(alloc, index, file, *ask) {
@@ -474,13 +536,13 @@ impl Course for Asking {
 
 #[test]
 fn bytes_are_read_as_they_were_written_and_cut(rt: HostRuntime) -> Result<(), usize> {
-    goes_anew(rt.alloc(), SHAPE, "/f", &Asking)
+    passes_on_new_index(rt.alloc(), SHAPE, "/f", &Asking)
 }
 
 /// The text of a file's path, and the number of a block of it.
 type Place = (&'static str, u32);
 
-/// Writes a byte at the start of a block; `false` where memory is refused.
+/// Writes a byte at the start of a block; `false` if an allocation fails.
 fn put(alloc: Global, index: &mut BlockIndex, place: &Place) -> bool {
     match path(alloc, place.0) {
         Ok(file) => is_answered(
@@ -493,7 +555,7 @@ fn put(alloc: Global, index: &mut BlockIndex, place: &Place) -> bool {
     }
 }
 
-/// The key of a block of a file; none where that is the root, or memory is refused.
+/// The key of a block of a file; `None` if that is the root, or an allocation fails.
 fn key_of_block(alloc: Global, file: &Path, block: u32) -> Option<Key> {
     if file.is_root() || block >= 268_435_456 {
         return None;
@@ -535,7 +597,7 @@ const BELOW_A: &[Place] = &[("/a/f", 0), ("/a/f", 1), ("/a/g", 0)];
 /// Pairs of an index.
 type Pairs = Vec<(Key, Block)>;
 
-/// The first pairs of a subtree; behind a key, where one is given.
+/// The first pairs of a subtree; those after a key, if one is given.
 fn pairs_of(
     alloc: Global,
     index: &BlockIndex,
@@ -553,7 +615,7 @@ fn pairs_of(
     }
 }
 
-/// The key of the first pair, where that is the block at the place.
+/// The key of the first pair, if that is the block at the place.
 fn first_key(alloc: Global, pairs: Option<Pairs>, place: &Place) -> Option<Key> {
     let pairs = pairs?;
     match pairs.first() {
@@ -570,8 +632,8 @@ fn are_none(pairs: Option<Pairs>) -> bool {
     }
 }
 
-/// Whether the blocks of a subtree are these, each the first behind the one before.
-fn goes_on(alloc: Global, index: &BlockIndex, above: &Path, limit: usize) -> bool {
+/// Whether the blocks of a subtree are these, each the first after the one before.
+fn continues(alloc: Global, index: &BlockIndex, above: &Path, limit: usize) -> bool {
     let mut behind: Option<Key> = None;
     for place in BELOW_A {
         let pairs = pairs_of(alloc, index, above, behind.as_ref(), limit);
@@ -583,7 +645,7 @@ fn goes_on(alloc: Global, index: &BlockIndex, above: &Path, limit: usize) -> boo
     are_none(pairs_of(alloc, index, above, behind.as_ref(), limit))
 }
 
-/// Puts the blocks into an index; `false` where memory is refused.
+/// Puts the blocks into an index; `false` if an allocation fails.
 fn fill(alloc: Global, index: &mut BlockIndex) -> bool {
     for place in BLOCKS {
         if !put(alloc, index, place) {
@@ -593,16 +655,16 @@ fn fill(alloc: Global, index: &mut BlockIndex) -> bool {
     true
 }
 
-/// The subtree of a path goes on so in an index of the blocks, whatever number of pairs is asked for.
+/// The subtree of a path continues as expected in an index of the blocks, for each limit.
 struct GoingOn;
 
-impl Course for GoingOn {
-    fn goes(&self, alloc: Global, index: &mut BlockIndex, above: &Path) -> Result<(), usize> {
+impl IndexTest for GoingOn {
+    fn passes(&self, alloc: Global, index: &mut BlockIndex, above: &Path) -> Result<(), usize> {
         if !fill(alloc, index) {
             return Err(usize::MAX);
         }
         for limit in LIMITS {
-            if !goes_on(alloc, index, above, *limit) {
+            if !continues(alloc, index, above, *limit) {
                 return Err(*limit);
             }
         }
@@ -610,10 +672,10 @@ impl Course for GoingOn {
     }
 }
 
-/// How many pairs are asked for at most.
+/// The limits of the scans.
 const LIMITS: &[usize] = &[1, 2, 3, usize::MAX];
 
 #[test]
-fn the_blocks_of_a_subtree_go_on_behind_each_of_their_keys(rt: HostRuntime) -> Result<(), usize> {
-    goes_anew(rt.alloc(), SHAPE, "/a", &GoingOn)
+fn the_blocks_of_a_subtree_continue_after_each_of_their_keys(rt: HostRuntime) -> Result<(), usize> {
+    passes_on_new_index(rt.alloc(), SHAPE, "/a", &GoingOn)
 }

@@ -1,4 +1,4 @@
-//! Changes of a volume by the calls that have an answer of their own, as a table can hold them.
+//! Changes of a volume by the typed calls, in a form that constant tables can contain.
 use pathkey::{Errno, Path};
 use std::alloc::Global;
 use test_support::ask::path;
@@ -13,10 +13,10 @@ pub enum Change<'a> {
     Rename(&'a str),
 }
 
-/// A moment, a path, what is done there, and how many bytes were written, or why not.
+/// A timestamp, a path, the change there, and how many bytes were written, or the error.
 pub type Row = (u64, &'static str, Change<'static>, Result<u64, Errno>);
 
-/// What a call that tells nothing back is answered: no bytes were written.
+/// The result of a call that returns nothing: no bytes were written.
 fn settled(reported: Result<(), Errno>) -> Result<u64, Errno> {
     match reported {
         Ok(()) => Ok(0),
@@ -24,7 +24,7 @@ fn settled(reported: Result<(), Errno>) -> Result<u64, Errno> {
     }
 }
 
-/// Moves to the path of a text.
+/// Renames to the path of a text.
 fn moves(alloc: Global, volume: &mut Volume, from: &Path, to: &str, at: u64) -> Result<u64, Errno> {
     match path(alloc, to) {
         Ok(to) => settled(volume.rename(alloc, from, &to, at)),
@@ -32,7 +32,7 @@ fn moves(alloc: Global, volume: &mut Volume, from: &Path, to: &str, at: u64) -> 
     }
 }
 
-/// Does a change of the path at a moment: how many bytes were written.
+/// Makes a change at the path with a timestamp; returns how many bytes were written.
 fn does(
     alloc: Global,
     volume: &mut Volume,
@@ -48,7 +48,7 @@ fn does(
     }
 }
 
-/// Does a change of the path of a text.
+/// Makes a change at the path of a text.
 pub fn outcome(
     alloc: Global,
     volume: &mut Volume,
@@ -62,8 +62,8 @@ pub fn outcome(
     }
 }
 
-/// Whether each change comes out so, in this order.
-pub fn goes(alloc: Global, volume: &mut Volume, rows: &[Row]) -> bool {
+/// Whether each change has its expected result, in this order.
+pub fn all_succeed(alloc: Global, volume: &mut Volume, rows: &[Row]) -> bool {
     for (at, text, change, wanted) in rows {
         if outcome(alloc, volume, text, *change, *at) != *wanted {
             return false;

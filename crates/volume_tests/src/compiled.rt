@@ -1,11 +1,11 @@
-//! What calls on indexes are answered and how many messages they send.
+//! Tests of compiled calls: their replies, and how many messages they send.
 use call_compiler::{Batch, Call, Indexes, Reply, compile};
 use node::Shape;
 use pathkey::{Errno, NoMemory};
 use std::alloc::Global;
 use test_support::ask::{ExpectedReply, SampleCall};
 
-/// The most bytes of a file, and the numbers beside it.
+/// The maximal length of a file, and the numbers next to it.
 const LIMIT: u64 = 1_099_511_627_776;
 
 const LAST: u64 = 1_099_511_627_775;
@@ -18,44 +18,44 @@ const SHAPE: Shape = Shape {
     leaf: 4,
 };
 
-/// How many messages go to the metadata, and to the blocks.
+/// The numbers of messages for the metadata, and for the blocks.
 type Counts = (usize, usize);
 
 /// A call, its reply, and its messages.
 type Row = (SampleCall<'static>, ExpectedReply<'static>, Counts);
 
-/// The moments of a table's calls.
+/// The timestamps of a table's calls.
 #[derive(Clone, Copy)]
-enum Moments {
-    /// Each call has a moment of its own, the row's number.
+enum Timestamps {
+    /// The timestamp of each call is the index of its row.
     Rising,
-    /// All calls have this one.
+    /// All calls have this timestamp.
     One(u64),
 }
 
-impl Moments {
-    /// The moment of the call with this number.
+impl Timestamps {
+    /// The timestamp of the call with this index.
     fn of(self, number: usize) -> u64 {
         match self {
-            Moments::Rising => number as u64,
-            Moments::One(at) => at,
+            Timestamps::Rising => number as u64,
+            Timestamps::One(at) => at,
         }
     }
 }
 
-/// Whether these are as many messages as the counts say. They are appended.
+/// Whether the batch has these numbers of messages. They are appended.
 fn are_sent(alloc: Global, indexes: &mut Indexes, batch: Batch, counts: Counts) -> bool {
     batch.meta.len() == counts.0
         && batch.block.len() == counts.1
         && indexes.append(alloc, batch).is_ok()
 }
 
-/// What a call is compiled to. It ensures nothing, so that no proof of a test reads what a call means.
+/// What a call is compiled to. It has no postcondition, so that the proofs of the tests do not unfold what a call does.
 fn compiled(alloc: Global, indexes: &Indexes, call: &Call, at: u64) -> Option<(Reply, Batch)> {
     compile(alloc, indexes, call, at).ok()
 }
 
-/// Whether a call at a moment is answered as its row says. What it sends is appended.
+/// Whether a call at a timestamp has the reply of its row. Its messages are appended.
 fn does(alloc: Global, indexes: &mut Indexes, call: &Call, at: u64, row: &Row) -> bool {
     match compiled(alloc, indexes, call, at) {
         Some((reply, batch)) => are_sent(alloc, indexes, batch, row.2) && row.1.is(&reply),
@@ -63,7 +63,7 @@ fn does(alloc: Global, indexes: &mut Indexes, call: &Call, at: u64, row: &Row) -
     }
 }
 
-/// Whether the row's call at a moment is answered as the row says. What it sends is appended.
+/// Whether the row's call at a timestamp has the reply of the row. Its messages are appended.
 fn is_answered(alloc: Global, indexes: &mut Indexes, at: u64, row: &Row) -> bool {
     match row.0.call(alloc) {
         Ok(call) => does(alloc, indexes, &call, at, row),
@@ -71,12 +71,17 @@ fn is_answered(alloc: Global, indexes: &mut Indexes, at: u64, row: &Row) -> bool
     }
 }
 
-/// Asks the calls in turn; how many are answered as their rows say, before the first that is not.
-fn answered_in(alloc: Global, indexes: &mut Indexes, moments: Moments, rows: &[Row]) -> usize {
+/// Executes the calls in turn; returns how many have the replies of their rows, before the first that does not.
+fn answered_in(
+    alloc: Global,
+    indexes: &mut Indexes,
+    timestamps: Timestamps,
+    rows: &[Row],
+) -> usize {
     let mut count = 0usize;
     for row in rows {
         let next = count.saturating_add(1);
-        if !is_answered(alloc, indexes, moments.of(next), row) {
+        if !is_answered(alloc, indexes, timestamps.of(next), row) {
             return count;
         }
         count = next;
@@ -84,15 +89,16 @@ fn answered_in(alloc: Global, indexes: &mut Indexes, moments: Moments, rows: &[R
     count
 }
 
-/// Indexes of nothing but the root directory.
+/// Indexes of only the root directory.
 fn new_indexes(alloc: Global) -> Result<Indexes, NoMemory> {
     Indexes::new(alloc, SHAPE)
 }
 
-/// Asks the calls in turn, from nothing but the root directory; how many are answered as their rows say, before the first that is not.
-fn answered(alloc: Global, moments: Moments, rows: &[Row]) -> usize {
+/// Executes the calls in turn on only the root directory; returns how many have the replies of their rows, before the first that does
+/// not.
+fn answered(alloc: Global, timestamps: Timestamps, rows: &[Row]) -> usize {
     match new_indexes(alloc) {
-        Ok(mut indexes) => answered_in(alloc, &mut indexes, moments, rows),
+        Ok(mut indexes) => answered_in(alloc, &mut indexes, timestamps, rows),
         Err(_) => 0,
     }
 }
@@ -570,7 +576,7 @@ const MOVES: &[Row] = &[
         ExpectedReply::Count(1),
         (1, 1),
     ),
-    // four entries, three blocks, a range-delete for each index, and the moment of the root
+    // four entries, three blocks, a range-delete for each index, and the mtime of the root
     (SampleCall::Rename("/a", "/b"), ExpectedReply::Done, (6, 4)),
     (
         SampleCall::Stat("/a"),
@@ -597,7 +603,7 @@ const MOVES: &[Row] = &[
         ExpectedReply::Data(b"\0\xdd"),
         (0, 0),
     ),
-    // one entry and one block, the blocks of the file that is replaced, and the moments of two directories
+    // one entry and one block, the blocks of the file that is replaced, and the mtimes of two directories
     (
         SampleCall::Rename("/b/x", "/a-b"),
         ExpectedReply::Done,
@@ -632,7 +638,7 @@ const MOVES: &[Row] = &[
     (SampleCall::Rmdir("/b"), ExpectedReply::Done, (2, 0)),
 ];
 
-/// A file that has no block, also where it once had one, and one that has a byte.
+/// A file that has no block, also after it had one, and one that has a byte.
 const BLOCKS_OF_FILES: &[Row] = &[
     (SampleCall::Create("/e"), ExpectedReply::Done, (2, 0)),
     (SampleCall::Unlink("/e"), ExpectedReply::Done, (2, 0)),
@@ -655,14 +661,14 @@ const BLOCKS_OF_FILES: &[Row] = &[
         ExpectedReply::Data(b"\xbb"),
         (0, 0),
     ),
-    // a file without blocks that has bytes: no block is asked for
+    // a file without blocks that has bytes: the index is not searched for a block
     (SampleCall::Truncate("/f-g", 0), ExpectedReply::Done, (1, 1)),
     (SampleCall::Truncate("/f-g", 9), ExpectedReply::Done, (1, 0)),
     (SampleCall::Unlink("/f-g"), ExpectedReply::Done, (2, 1)),
 ];
 
-/// Calls of one moment, in a root that has another at first.
-const ONE_MOMENT: &[Row] = &[
+/// Calls with the same timestamp, in a root whose mtime is another at first.
+const ONE_TIMESTAMP: &[Row] = &[
     (SampleCall::Create("/f"), ExpectedReply::Done, (2, 0)),
     (SampleCall::Create("/g"), ExpectedReply::Done, (1, 0)),
     (SampleCall::Mkdir("/a"), ExpectedReply::Done, (1, 0)),
@@ -696,8 +702,8 @@ const ONE_MOMENT: &[Row] = &[
     (SampleCall::Rmtree("/a"), ExpectedReply::Done, (2, 1)),
 ];
 
-/// Calls of which each has a moment of its own, in a root that has another at first.
-const RISING_MOMENTS: &[Row] = &[
+/// Calls with different timestamps, in a root whose mtime is another at first.
+const RISING_TIMESTAMPS: &[Row] = &[
     (SampleCall::Create("/f"), ExpectedReply::Done, (2, 0)),
     (SampleCall::Create("/g"), ExpectedReply::Done, (2, 0)),
     (SampleCall::Mkdir("/a"), ExpectedReply::Done, (2, 0)),
@@ -716,62 +722,70 @@ const RISING_MOMENTS: &[Row] = &[
     (SampleCall::Unlink("/f"), ExpectedReply::Done, (2, 1)),
 ];
 
-/// Each table, with what it shows, and the moments of its calls.
-const TABLES: &[(&str, Moments, &[Row])] = &[
+/// Each table, with what it shows, and the timestamps of its calls.
+const TABLES: &[(&str, Timestamps, &[Row])] = &[
     (
-        "a new entry wants a directory above, which gets its moment, and a free name",
-        Moments::Rising,
+        "a new entry needs a parent directory, whose mtime is set, and a free name",
+        Timestamps::Rising,
         NEW_ENTRIES,
     ),
-    ("an empty directory goes", Moments::Rising, EMPTY_DIRECTORY),
+    (
+        "an empty directory is removed",
+        Timestamps::Rising,
+        EMPTY_DIRECTORY,
+    ),
     (
         "a write is a patch for each block that it touches",
-        Moments::Rising,
+        Timestamps::Rising,
         WRITES,
     ),
-    ("a file ends at the limit", Moments::Rising, ENDS),
+    ("a file ends at the limit", Timestamps::Rising, ENDS),
     (
-        "a truncate cuts the blocks behind its end",
-        Moments::Rising,
+        "a truncate removes the blocks after its end",
+        Timestamps::Rising,
         TRUNCATES,
     ),
-    ("a file goes with its bytes", Moments::Rising, FILES),
     (
-        "a subtree goes by a range-delete for each index, and the moment of its directory",
-        Moments::Rising,
+        "a file is removed with its bytes",
+        Timestamps::Rising,
+        FILES,
+    ),
+    (
+        "a subtree is removed by a range-delete for each index, and its directory's mtime is set",
+        Timestamps::Rising,
         SUBTREES,
     ),
     (
-        "a move that is refused sends nothing",
-        Moments::Rising,
+        "a rename that fails sends nothing",
+        Timestamps::Rising,
         REFUSED_MOVES,
     ),
     (
-        "a move is one message for each pair, the ranges, and the moments of its directories",
-        Moments::Rising,
+        "a rename is one message for each pair, the ranges, and the mtimes of its directories",
+        Timestamps::Rising,
         MOVES,
     ),
     (
-        "an unlink clears no range of a file without bytes and blocks",
-        Moments::Rising,
+        "an unlink sends no range-delete for a file without bytes and blocks",
+        Timestamps::Rising,
         BLOCKS_OF_FILES,
     ),
     (
-        "what has its length and the moment is not told them again",
-        Moments::One(7),
-        ONE_MOMENT,
+        "no message is sent for a length and an mtime that the file already has",
+        Timestamps::One(7),
+        ONE_TIMESTAMP,
     ),
     (
-        "what has another moment is told the new one",
-        Moments::Rising,
-        RISING_MOMENTS,
+        "a message is sent for another mtime",
+        Timestamps::Rising,
+        RISING_TIMESTAMPS,
     ),
 ];
 
-/// Whether all tables are answered as they say; the name of the first that is not.
+/// Whether all tables pass; otherwise the name of the first that fails.
 fn all_answered(alloc: Global) -> Result<(), &'static str> {
-    for (name, moments, rows) in TABLES {
-        if answered(alloc, *moments, rows) != rows.len() {
+    for (name, timestamps, rows) in TABLES {
+        if answered(alloc, *timestamps, rows) != rows.len() {
             return Err(name);
         }
     }

@@ -1,6 +1,6 @@
-//! How often listings and reads ask the tree: never for what lies below a name, and once a block.
-use crate::blocks::{self, Course, goes_anew};
-use crate::metadata::{Asked, asks, put};
+//! Tests of the number of look-ups in listings and reads: none for what is below a listed name, and one for each block.
+use crate::blocks::{self, IndexTest, passes_on_new_index};
+use crate::metadata::{PathRequest, answers_at, put};
 use block_index::BlockIndex;
 use meta_index::{Kind, Meta, MetaIndex};
 use node::Shape;
@@ -36,28 +36,28 @@ fn fill(alloc: Global, index: &mut MetaIndex) -> bool {
         && put(alloc, index, "/b", Meta::Dir { modified: 0 })
 }
 
-/// What stands in the root: two names, for which the tree is walked three times at most, for 36 pairs.
-const BOTH: Asked = Asked::Listed(&[(Kind::Dir, "a"), (Kind::Dir, "b")], 3, 36);
+/// The entries of the root: two names, for which the tree is walked at most three times, for 36 pairs.
+const BOTH: PathRequest = PathRequest::Listed(&[(Kind::Dir, "a"), (Kind::Dir, "b")], 3, 36);
 
-/// Whether listings of an index with 2,000 files in one directory pass them all at once.
-fn passes(alloc: Global, index: &mut MetaIndex) -> bool {
+/// Whether listings of an index with 2,000 files in one directory skip them all at once.
+fn skips(alloc: Global, index: &mut MetaIndex) -> bool {
     fill(alloc, index)
-        && asks(alloc, index, "/", BOTH)
-        && asks(alloc, index, "/a", Asked::Told(false, 1))
-        && asks(alloc, index, "/b", Asked::Told(true, 1))
+        && answers_at(alloc, index, "/", BOTH)
+        && answers_at(alloc, index, "/a", PathRequest::EmptyBy(false, 1))
+        && answers_at(alloc, index, "/b", PathRequest::EmptyBy(true, 1))
 }
 
-/// Whether listings of a new index with 2,000 files in one directory pass them all at once.
-fn passes_anew(alloc: Global) -> bool {
+/// Whether listings of a new index with 2,000 files in one directory skip them all at once.
+fn skips_in_new_index(alloc: Global) -> bool {
     match MetaIndex::new(alloc, SHAPE) {
-        Ok(mut index) => passes(alloc, &mut index),
+        Ok(mut index) => skips(alloc, &mut index),
         Err(_) => false,
     }
 }
 
 #[test]
 fn a_listing_passes_what_lies_below_each_name(rt: HostRuntime) {
-    assert!(rt; passes_anew(rt.alloc()));
+    assert!(rt; skips_in_new_index(rt.alloc()));
 }
 
 /// Whether all bytes are 0.
@@ -78,7 +78,7 @@ fn end_with_one(bytes: &[u8], zeros: usize) -> bool {
     }
 }
 
-/// Whether so many look-ups read 1,048,576 bytes from the second on, and they are zeros and then a byte 1.
+/// Whether that many look-ups read 1,048,576 bytes from the second on, and they are zeros and then a byte 1.
 fn reads_in(alloc: Global, index: &BlockIndex, file: &Path, wanted: u64) -> bool {
     if file.is_root() {
         return false;
@@ -90,11 +90,11 @@ fn reads_in(alloc: Global, index: &BlockIndex, file: &Path, wanted: u64) -> bool
     }
 }
 
-/// A file of 1,048,577 bytes, of which the last alone is 1, is read by one look-up a block.
+/// A file of 1,048,577 bytes, of which only the last is 1, is read by one look-up for each block.
 struct Reading;
 
-impl Course for Reading {
-    fn goes(&self, alloc: Global, index: &mut BlockIndex, file: &Path) -> Result<(), usize> {
+impl IndexTest for Reading {
+    fn passes(&self, alloc: Global, index: &mut BlockIndex, file: &Path) -> Result<(), usize> {
         let last = blocks::SampleCall::Write(1_048_576, b"\x01", 1);
         if blocks::is_answered(alloc, index, file, last) && reads_in(alloc, index, file, 257) {
             Ok(())
@@ -105,6 +105,6 @@ impl Course for Reading {
 }
 
 #[test]
-fn a_read_asks_once_for_each_block(rt: HostRuntime) -> Result<(), usize> {
-    goes_anew(rt.alloc(), SHAPE, "/f", &Reading)
+fn a_read_looks_up_each_block_once(rt: HostRuntime) -> Result<(), usize> {
+    passes_on_new_index(rt.alloc(), SHAPE, "/f", &Reading)
 }

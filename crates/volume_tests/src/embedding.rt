@@ -1,6 +1,7 @@
-//! A volume as a program embeds it: a file is written, kept by a snapshot and unlinked, and its length is told.
-use crate::asked::{USUAL, new_volume};
+//! A test of a volume as a program embeds it: a file is written, kept in a snapshot and unlinked, and its length is
+//! read.
 use crate::look_alike::stat_of;
+use crate::requests::{USUAL, new_volume};
 use bytes::Bytes;
 use std::alloc::Global;
 use volume::{Call, Errno, Frozen, Kind, Path, Reply, SnapName, Volume};
@@ -29,7 +30,8 @@ fn call_of(line: Line, path: Path) -> Call {
     }
 }
 
-/// The reply to a call. It ensures nothing, so that no proof of a test reads what a call means; nor do the next ones.
+/// The reply to a call. It has no postcondition, so that the proofs of the tests do not unfold what a call does; nor do
+/// the next functions.
 fn reply_to(alloc: Global, volume: &mut Volume, call: &Call) -> Reply {
     volume.call(alloc, call, 0)
 }
@@ -42,7 +44,7 @@ fn kept_as(volume: &Volume, name: &SnapName) -> Result<Frozen, Errno> {
     volume.frozen(name)
 }
 
-/// Whether a call was answered so.
+/// Whether a call has this reply.
 fn is_ok(reply: &Reply, wanted: u64) -> bool {
     match reply {
         Reply::Count(count) => *count == wanted,
@@ -51,7 +53,7 @@ fn is_ok(reply: &Reply, wanted: u64) -> bool {
     }
 }
 
-/// Whether this tells of a file of so many bytes.
+/// Whether the reply is that of a file of that many bytes.
 fn is_long(reply: &Reply, wanted: u64) -> bool {
     match reply {
         Reply::Stat(Kind::File, length, _) => *length == wanted,
@@ -73,7 +75,7 @@ fn keeps(alloc: Global, volume: &mut Volume) -> bool {
     }
 }
 
-/// Whether the file of a tree that stands still has so many bytes.
+/// Whether the file of a frozen tree has that many bytes.
 fn has(alloc: Global, tree: &Frozen, wanted: u64) -> bool {
     match notes(alloc) {
         Ok(path) => is_long(&stat_of(alloc, tree, &path), wanted),
@@ -88,7 +90,7 @@ fn had_as(alloc: Global, volume: &Volume, name: &SnapName, wanted: u64) -> bool 
     }
 }
 
-/// Whether the file of the snapshot has so many bytes.
+/// Whether the file of the snapshot has that many bytes.
 fn had(alloc: Global, volume: &Volume, wanted: u64) -> bool {
     match before(alloc) {
         Ok(name) => had_as(alloc, volume, &name, wanted),
@@ -96,7 +98,7 @@ fn had(alloc: Global, volume: &Volume, wanted: u64) -> bool {
     }
 }
 
-/// Whether each line is answered as it must be.
+/// Whether each call has its expected reply.
 fn is_kept(alloc: Global, volume: &mut Volume) -> bool {
     does(alloc, volume, Line::Create, 0)
         && does(alloc, volume, Line::Write, 5)
@@ -105,8 +107,8 @@ fn is_kept(alloc: Global, volume: &mut Volume) -> bool {
         && had(alloc, volume, 5)
 }
 
-/// Whether each line in a new volume is answered as it must be.
-fn is_kept_anew(alloc: Global) -> bool {
+/// Whether each call in a new volume has its expected reply.
+fn is_kept_in_new(alloc: Global) -> bool {
     match new_volume(alloc, USUAL) {
         Ok(mut volume) => is_kept(alloc, &mut volume),
         Err(_) => false,
@@ -115,5 +117,5 @@ fn is_kept_anew(alloc: Global) -> bool {
 
 #[test]
 fn a_snapshot_keeps_what_is_unlinked(rt: HostRuntime) {
-    assert!(rt; is_kept_anew(rt.alloc()));
+    assert!(rt; is_kept_in_new(rt.alloc()));
 }

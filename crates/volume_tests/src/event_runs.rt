@@ -1,8 +1,9 @@
-//! Runs of events of every kind that look random, with jobs taken and finished among them, beside the plain program.
-use crate::asked::{SMALL, new_volume};
+//! Tests of runs of random events of every kind, with jobs taken and finished among them, against the reference
+//! program.
 use crate::look_alike::{is_reply, look_alike};
+use crate::requests::{SMALL, new_volume};
 use crate::runs::{Act, add, run};
-use crate::some_events::{some_ask, some_index, some_moment, some_snap, some_step};
+use crate::some_events::{some_ask, some_index, some_snap, some_step, some_timestamp};
 use node::{Place, Shape, StepKind, StepReply, TreeStep};
 use pathkey::{Errno, NoMemory, SnapName};
 use reference::plain::World;
@@ -18,7 +19,7 @@ const WIDER: Shape = Shape {
     leaf: 8,
 };
 
-/// Small nodes with room for many messages.
+/// Small nodes with space for many messages.
 const ROOMY: Shape = Shape {
     fanout: 4,
     pending: 64,
@@ -31,42 +32,42 @@ const EVENTS: u32 = 400;
 /// How many runs there are.
 const RUNS: u32 = 50;
 
-/// How many steps relieve the volume between two runs.
+/// The number of compaction steps between two runs.
 const STEPS: u32 = 10;
 
-/// Among how many of a run's first tickets one is finished: a run gives about as many.
+/// A job that is finished is one of this many first tickets of a run: a run takes about as many.
 const NEAR: u32 = 6;
 
-/// How many blocks of one file each run begins with.
+/// The number of blocks of one file that each run begins with.
 const BLOCKS: u64 = 64;
 
-/// What came of the events.
+/// The outcomes of the events.
 #[derive(Clone, Copy, Debug, Default)]
 struct Tally {
-    /// Jobs taken of the metadata and of the blocks.
+    /// Jobs taken from the metadata and from the blocks.
     taken: [u32; 2],
     /// Jobs installed.
     installed: u32,
-    /// Jobs whose mark was gone.
+    /// Jobs whose mark was removed.
     stale: u32,
     /// Steps done in the metadata and in the blocks.
     steps: [u32; 2],
-    /// The most levels of both trees.
+    /// The maximal number of levels of each tree.
     levels: [u128; 2],
 }
 
-/// The greater of a count and one more.
+/// Increments a count.
 fn next(count: &mut u32) {
     *count = count.saturating_add(1);
 }
 
 impl Tally {
-    /// How many tickets were given.
+    /// The number of tickets that were given.
     fn tickets(&self) -> u32 {
         self.taken[0].saturating_add(self.taken[1])
     }
 
-    /// Counts the answer to a taking; whether memory was found.
+    /// Counts the answer to taking a job; `false` if an allocation failed.
     fn take(&mut self, index: Index, answer: TakeAnswer) -> bool {
         if matches!(answer, TakeAnswer::Taken(_)) {
             next(&mut self.taken[index as usize]);
@@ -74,7 +75,7 @@ impl Tally {
         answer != TakeAnswer::NoMemory
     }
 
-    /// Counts the answer to a finishing; whether memory was found.
+    /// Counts the answer to finishing a job; `false` if an allocation failed.
     fn finish(&mut self, answer: FinishAnswer) -> bool {
         match answer {
             FinishAnswer::Installed => next(&mut self.installed),
@@ -85,7 +86,7 @@ impl Tally {
         true
     }
 
-    /// Counts the answer to a step; whether memory was found.
+    /// Counts the answer to a step; `false` if an allocation failed.
     fn step(&mut self, index: Index, reply: StepReply) -> bool {
         if matches!(reply, StepReply::Did(_)) {
             next(&mut self.steps[index as usize]);
@@ -93,7 +94,7 @@ impl Tally {
         reply != StepReply::NoMemory
     }
 
-    /// Keeps what is more than before.
+    /// Updates the maximal numbers of levels.
     fn look(&mut self, volume: &Volume) {
         let (meta, block) = (
             volume.shape_report(Index::Meta),
@@ -105,7 +106,7 @@ impl Tally {
         ];
     }
 
-    /// How many jobs there were, how many were installed, gone stale, and left: the least of these.
+    /// The least of the numbers of jobs that were installed, stale, and left.
     fn rarest(&self) -> u32 {
         let left = self
             .tickets()
@@ -115,7 +116,7 @@ impl Tally {
     }
 }
 
-/// A new root over the old one.
+/// A new root above the old one.
 fn root_up(index: Index) -> Act<'static> {
     let step = TreeStep {
         kind: StepKind::RootUp,
@@ -125,30 +126,30 @@ fn root_up(index: Index) -> Act<'static> {
     Act::Step(Step { index, step })
 }
 
-/// A taking at some slot of a root, mostly one of the first.
+/// Takes a job of some slot of a root, mostly one of the first.
 fn some_taking(random: &mut Random) -> Act<'static> {
     let slot = random.below(4).min(random.below(4)) as u8;
     Act::Take(some_index(random), slot)
 }
 
-/// The finishing of a job that may have been taken since this ticket, or is the last of those before.
+/// Finishes a job with a ticket from this one on, or the one before.
 fn some_finishing(random: &mut Random, first: u32) -> Act<'static> {
     let number = first.saturating_add(random.below(NEAR)).saturating_sub(1);
     Act::Finish(number as u64)
 }
 
-/// An act that looks random: of ten two are jobs, and two are steps.
+/// A random operation: of ten two are jobs, and two are steps.
 fn some_act(random: &mut Random, first: u32) -> Act<'static> {
     match random.below(10) {
         0 => some_taking(random),
         1 => some_finishing(random, first),
         2 | 3 => Act::Step(some_step(random)),
         _ if random.below(8) == 0 => Act::Snap(some_snap(random)),
-        _ => Act::Live(some_ask(random), some_moment(random)),
+        _ => Act::Live(some_ask(random), some_timestamp(random)),
     }
 }
 
-/// Adds a new root for each tree whose root has leaves below, since no job is taken there.
+/// Adds a new root for each tree whose root has leaves as children, since no job is taken there.
 fn add_roots(alloc: Global, events: &mut Vec<Event>, volume: &Volume) -> bool {
     for index in [Index::Meta, Index::Block] {
         if volume.shape_report(index).levels < 2 && !add(alloc, events, root_up(index)) {
@@ -158,7 +159,7 @@ fn add_roots(alloc: Global, events: &mut Vec<Event>, volume: &Volume) -> bool {
     true
 }
 
-/// Adds events that look random.
+/// Adds random events.
 fn add_all(alloc: Global, events: &mut Vec<Event>, random: &mut Random, first: u32) -> bool {
     for _ in 0..EVENTS {
         if !add(alloc, events, some_act(random, first)) {
@@ -168,28 +169,28 @@ fn add_all(alloc: Global, events: &mut Vec<Event>, random: &mut Random, first: u
     true
 }
 
-/// What the plain program replies to a call; none where memory is refused. It ensures nothing, so that no proof of a test reads what a
-/// call means; nor do the next ones.
+/// The reply of the reference program to a call; `None` if an allocation fails. It has no postcondition, so that the proofs of the
+/// tests do not unfold what a call does; nor do the next functions.
 fn plain_call(alloc: Global, plain: &mut World, call: &Call, at: u64) -> Option<Reply> {
     plain.call(alloc, call, at).ok()
 }
 
-/// What it replies to a snapshot.
+/// Its reply to taking a snapshot.
 fn plain_snapshot(alloc: Global, plain: &mut World, name: &SnapName) -> Result<(), Errno> {
     plain.snapshot(alloc, name)
 }
 
-/// What it replies to the drop of one.
+/// Its reply to dropping a snapshot.
 fn plain_drop(plain: &mut World, name: &SnapName) -> Result<(), Errno> {
     plain.drop_snapshot(name)
 }
 
-/// What it replies to the restoring of one.
+/// Its reply to restoring a snapshot.
 fn plain_restore(alloc: Global, plain: &mut World, name: &SnapName) -> Result<(), Errno> {
     plain.restore(alloc, name)
 }
 
-/// Whether the plain program replies so to a call.
+/// Whether the reference program has this reply to a call.
 fn replies(alloc: Global, plain: &mut World, call: &Call, at: u64, reply: &Reply) -> bool {
     match plain_call(alloc, plain, call, at) {
         Some(wanted) => is_reply(reply, &wanted),
@@ -197,7 +198,8 @@ fn replies(alloc: Global, plain: &mut World, call: &Call, at: u64, reply: &Reply
     }
 }
 
-/// Whether this is the answer to an event: that of the plain program, if it knows such events. The others are counted.
+/// Whether this is the answer to an event: that of the reference program, if it has such events. The other answers are
+/// counted.
 fn is_answer(
     alloc: Global,
     plain: &mut World,
@@ -219,7 +221,7 @@ fn is_answer(
     }
 }
 
-/// Whether these are the answers to events.
+/// Whether these are the answers to the events.
 fn are_answers(
     alloc: Global,
     plain: &mut World,
@@ -248,7 +250,7 @@ fn add_blocks(alloc: Global, events: &mut Vec<Event>) -> bool {
     are_added
 }
 
-/// Whether the volume answers events as the plain program does.
+/// Whether the volume answers the events as the reference program does.
 fn answer_alike(
     alloc: Global,
     volume: &mut Volume,
@@ -262,7 +264,7 @@ fn answer_alike(
     }
 }
 
-/// Whether both answer events that look random alike.
+/// Whether both answer the same to random events.
 fn run_alike(
     alloc: Global,
     random: &mut Random,
@@ -277,7 +279,7 @@ fn run_alike(
         && answer_alike(alloc, volume, plain, tally, events.as_slice())
 }
 
-/// Does what relieves a volume, so many times; whether memory was found.
+/// Does that many compaction steps; `false` if an allocation fails.
 fn relieve(alloc: Global, volume: &mut Volume) -> bool {
     for _ in 0..STEPS {
         if matches!(volume.compact_step(alloc), Some(relief) if relief.reply == StepReply::NoMemory)
@@ -288,7 +290,7 @@ fn relieve(alloc: Global, volume: &mut Volume) -> bool {
     true
 }
 
-/// How many runs are answered alike and leave one tree, before the first that does not.
+/// The number of runs that are answered the same and give the same tree, before the first that is not.
 fn count_alike(
     alloc: Global,
     seed: u32,
@@ -309,10 +311,10 @@ fn count_alike(
     RUNS
 }
 
-/// How many runs are answered alike, and what came of them.
+/// The number of runs that are answered the same, and their outcomes.
 type Seen = (u32, Tally);
 
-/// What is seen of a volume beside a plain program made here.
+/// The result for a volume against a reference program created here.
 fn see_beside(alloc: Global, seed: u32, volume: &mut Volume) -> Seen {
     let mut tally = Tally::default();
     match World::new(alloc) {
@@ -324,7 +326,7 @@ fn see_beside(alloc: Global, seed: u32, volume: &mut Volume) -> Seen {
     }
 }
 
-/// What is seen of a volume made here, beside a plain program.
+/// The result for a volume created here, against a reference program.
 fn see(alloc: Global, seed: u32, shape: Shape) -> Seen {
     match new_volume(alloc, shape) {
         Ok(mut volume) => see_beside(alloc, seed, &mut volume),
@@ -332,7 +334,7 @@ fn see(alloc: Global, seed: u32, shape: Shape) -> Seen {
     }
 }
 
-/// Whether all runs were answered alike, and much came of them: so many jobs of each index at least.
+/// Whether all runs were answered the same, with enough outcomes: that many jobs of each index at least.
 fn is_enough(seen: &Seen, jobs: u32) -> bool {
     let (alike, tally) = seen;
     *alike == RUNS

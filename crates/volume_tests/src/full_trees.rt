@@ -1,11 +1,11 @@
-//! Small trees in which no step that relief tried had room, though nothing but a choice was wrong.
-use crate::asked::{SMALL, answers, new_volume};
+//! Tests of small trees in which none of the steps that compaction tries fits, although another choice of steps would.
 use crate::changes::{Change, outcome};
+use crate::requests::{SMALL, answers, new_volume};
 use std::alloc::Global;
 use test_support::{ExpectedReply, SampleCall};
 use volume::Volume;
 
-/// Files that come, and how many steps of relief follow.
+/// Files that are created, and the number of compaction steps that follow.
 struct Arrival {
     files: &'static [&'static str],
     steps: u32,
@@ -33,7 +33,7 @@ const ARRIVALS: &[Arrival] = &[
     },
 ];
 
-/// Does so many steps of relief, or fewer if nothing is pending.
+/// Does that many compaction steps, or fewer if nothing is pending.
 fn relieve(alloc: Global, volume: &mut Volume, steps: u32) {
     for _ in 0..steps {
         if volume.compact_step(alloc).is_none() {
@@ -42,7 +42,7 @@ fn relieve(alloc: Global, volume: &mut Volume, steps: u32) {
     }
 }
 
-/// Whether all these files come.
+/// Whether all these files are created.
 fn arrive(alloc: Global, volume: &mut Volume, arrival: &Arrival) -> bool {
     for file in arrival.files {
         if !answers(alloc, volume, SampleCall::Create(file), ExpectedReply::Done) {
@@ -53,7 +53,7 @@ fn arrive(alloc: Global, volume: &mut Volume, arrival: &Arrival) -> bool {
     true
 }
 
-/// Whether all arrivals come, and then a file moves.
+/// Whether all files are created, and then one is renamed.
 fn arrive_all(alloc: Global, volume: &mut Volume) -> bool {
     for arrival in ARRIVALS {
         if !arrive(alloc, volume, arrival) {
@@ -63,8 +63,8 @@ fn arrive_all(alloc: Global, volume: &mut Volume) -> bool {
     outcome(alloc, volume, "/g710", Change::Rename("/a"), 0).is_ok()
 }
 
-/// Whether a few hundred steps then do all that is pending.
-fn comes_to_rest(alloc: Global, volume: &mut Volume) -> bool {
+/// Whether a few hundred steps then flush everything that is pending.
+fn becomes_idle(alloc: Global, volume: &mut Volume) -> bool {
     let is_done = arrive_all(alloc, volume);
     relieve(alloc, volume, 400);
     is_done && volume.compact_step(alloc).is_none()
@@ -73,7 +73,7 @@ fn comes_to_rest(alloc: Global, volume: &mut Volume) -> bool {
 /// The same in a new volume.
 fn rests(alloc: Global) -> bool {
     match new_volume(alloc, SMALL) {
-        Ok(mut volume) => comes_to_rest(alloc, &mut volume),
+        Ok(mut volume) => becomes_idle(alloc, &mut volume),
         Err(_) => false,
     }
 }

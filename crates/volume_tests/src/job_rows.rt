@@ -1,8 +1,8 @@
-//! Rows of jobs: what takings and finishings are answered, with calls, snapshots and steps between.
+//! Tests of jobs: the answers to taking and finishing them, with calls, snapshots and steps between.
 ghost use Rattle.volume.specs.Jobs.{DoneFits};
 ghost use Rattle.volume.specs.Volumes.{live_of};
 
-use crate::asked::{SMALL, Snap, answers, new_volume};
+use crate::requests::{SMALL, Snap, answers, new_volume};
 use crate::runs::{Turn, follows};
 use jobs::Ticket;
 use node::StepKind;
@@ -12,34 +12,34 @@ use std::alloc::Global;
 use test_support::{ExpectedReply, SampleCall};
 use volume::{Done, FinishAnswer, Index, InstallReply, TakeAnswer, TakeReply, Volume};
 
-/// A taking at the first slot of the metadata's root, where no job can be taken.
+/// Takes a job at the first slot of the metadata's root, where none can be taken.
 pub const TAKES_NOTHING: Turn<'static> = Turn::Take(Index::Meta, 0, TakeAnswer::NotThere);
 
-/// A taking at the first slot of the metadata's root, of the first job.
+/// Takes the first job at the first slot of the metadata's root.
 pub const TAKES: Turn<'static> = Turn::Take(
     Index::Meta,
     0,
     TakeAnswer::Taken(Ticket { number: 0 }),
 );
 
-/// A taking there of the second job.
+/// Takes the second job there.
 const TAKES_AGAIN: Turn<'static> = Turn::Take(
     Index::Meta,
     0,
     TakeAnswer::Taken(Ticket { number: 1 }),
 );
 
-/// The finishing of the first job.
+/// Finishes the first job.
 pub const INSTALLS: Turn<'static> = Turn::Finish(0, FinishAnswer::Installed);
 
-/// The finishing of the first job, whose mark is gone.
+/// Finishes the first job, whose mark was removed.
 const IS_STALE: Turn<'static> = Turn::Finish(0, FinishAnswer::Stale);
 
-/// The finishing of the first job, which the run does not hold.
+/// Finishes the first job, which the run does not hold.
 pub const HAS_NO_JOB: Turn<'static> = Turn::Finish(0, FinishAnswer::NotThere);
 
-/// A snapshot of the root alone; then five directories, all of them below a root with one slot over an inner node, and a sixth that
-/// waits there. A leaf takes four messages at once, so the second flush brings down the last of five.
+/// A snapshot of only the root; then five directories, all flushed below a root with one slot over an inner node, and a sixth that
+/// is pending there. A leaf receives four messages at once, so the second flush brings down the last of five.
 pub const OPENING: &[Turn<'static>] = &[
     Turn::Snap(Snap::Keep("s"), None),
     Turn::Live(SampleCall::Mkdir("/a"), ExpectedReply::Done),
@@ -57,7 +57,7 @@ pub const OPENING: &[Turn<'static>] = &[
     Turn::Live(SampleCall::Mkdir("/f"), ExpectedReply::Done),
 ];
 
-/// A file of five blocks, all of them below a root with one slot over an inner node, and a sixth that waits there.
+/// A file of five blocks, all flushed below a root with one slot over an inner node, and a sixth that is pending there.
 const BLOCKS: &[Turn<'static>] = &[
     Turn::Live(SampleCall::Create("/x"), ExpectedReply::Done),
     Turn::Live(SampleCall::Write("/x", 0, b"\xa0"), ExpectedReply::Count(1)),
@@ -86,7 +86,7 @@ const BLOCKS: &[Turn<'static>] = &[
     ),
 ];
 
-/// What the root has after the opening.
+/// The entries of the root after the opening.
 const SIX: ExpectedReply<'static> = ExpectedReply::Names(&[
     (Kind::Dir, "a"),
     (Kind::Dir, "b"),
@@ -96,7 +96,7 @@ const SIX: ExpectedReply<'static> = ExpectedReply::Names(&[
     (Kind::Dir, "f"),
 ]);
 
-/// What it has after one more call.
+/// The entries of the root after one more call.
 pub const SEVEN: ExpectedReply<'static> = ExpectedReply::Names(&[
     (Kind::Dir, "a"),
     (Kind::Dir, "b"),
@@ -107,13 +107,13 @@ pub const SEVEN: ExpectedReply<'static> = ExpectedReply::Names(&[
     (Kind::Dir, "g"),
 ]);
 
-/// The runs of a new volume, one behind the other.
+/// The runs of a new volume, one after the other.
 type Row = &'static [&'static [Turn<'static>]];
 
 const ROWS: &[Row] = &[
-    // nothing is taken where a leaf is below
+    // no job is taken if the child is a leaf
     &[&[TAKES_NOTHING]],
-    // what comes behind the taking waits, and the slot has one mark
+    // what is appended after the job was taken remains pending, and the slot has one mark
     &[
         OPENING,
         &[
@@ -125,7 +125,7 @@ const ROWS: &[Row] = &[
             Turn::Live(SampleCall::Readdir("/"), SEVEN),
         ],
     ],
-    // what a call takes away does not come again with the job
+    // what a call removes does not reappear with the job
     &[
         OPENING,
         &[
@@ -135,7 +135,7 @@ const ROWS: &[Row] = &[
             Turn::Live(SampleCall::Stat("/f"), ExpectedReply::Fault(Errno::ENOENT)),
         ],
     ],
-    // another tree is not the one that the job was taken from
+    // the restored tree is not the one from which the job was taken
     &[
         OPENING,
         &[
@@ -145,7 +145,7 @@ const ROWS: &[Row] = &[
             Turn::Live(SampleCall::Readdir("/"), ExpectedReply::Names(&[])),
         ],
     ],
-    // a step at the slot of the mark ends the job
+    // a step at the slot of the mark makes the job stale
     &[
         OPENING,
         &[
@@ -154,7 +154,7 @@ const ROWS: &[Row] = &[
             IS_STALE,
         ],
     ],
-    // with jobs all messages come down, and a job more has none
+    // jobs flush all messages, and one more job has none
     &[
         OPENING,
         &[
@@ -176,7 +176,7 @@ const ROWS: &[Row] = &[
             Turn::Live(SampleCall::Readdir("/"), SIX),
         ],
     ],
-    // tickets count over both indexes, and of two jobs the younger may be installed first
+    // tickets count over both indexes, and of two jobs the later may be installed first
     &[
         OPENING,
         BLOCKS,
@@ -201,7 +201,7 @@ const ROWS: &[Row] = &[
             ),
         ],
     ],
-    // a new root ends the jobs of its own index alone
+    // a new root makes only the jobs of its own index stale
     &[
         OPENING,
         BLOCKS,
@@ -217,7 +217,7 @@ const ROWS: &[Row] = &[
             ),
         ],
     ],
-    // the other index has no job there, nor has a slot that is not there
+    // the other index has no job there, nor does a slot that does not exist
     &[
         OPENING,
         &[
@@ -229,7 +229,7 @@ const ROWS: &[Row] = &[
     ],
 ];
 
-/// Whether each run has the answers of its turns.
+/// Whether each run has the expected answers.
 fn are_followed(alloc: Global, volume: &mut Volume, row: Row) -> bool {
     for turns in row {
         if !follows(alloc, volume, turns) {
@@ -239,7 +239,7 @@ fn are_followed(alloc: Global, volume: &mut Volume, row: Row) -> bool {
     true
 }
 
-/// Whether each run in a new volume has the answers of its turns.
+/// Whether each run in a new volume has the expected answers.
 fn is_followed(alloc: Global, row: Row) -> bool {
     match new_volume(alloc, SMALL) {
         Ok(mut volume) => are_followed(alloc, &mut volume, row),
@@ -254,14 +254,14 @@ fn jobs_are_answered_as_each_row_says(rt: HostRuntime) {
     }
 }
 
-/// What is asked of a volume by its own calls.
+/// A request to a volume by its own calls.
 #[derive(Clone, Copy)]
 enum Act {
-    /// A taking at the first slot of the metadata's root, and the ticket that is given, if one is.
+    /// Takes a job at the first slot of the metadata's root, with the ticket that is given, if one is.
     Take(Option<u64>),
-    /// The mark of this ticket goes.
+    /// Removes the mark of this ticket.
     Cancel(u64),
-    /// All marks go.
+    /// Removes all marks.
     CancelAll,
 }
 
@@ -278,8 +278,8 @@ const ACTS: &[Act] = &[
     Act::Take(Some(2)),
 ];
 
-/// The ticket of a job that is taken at the first slot of the metadata's root, if its child can have one more owner. All is let
-/// go.
+/// The ticket of a job that is taken at the first slot of the metadata's root, if its child can have one more owner. All is
+/// dropped.
 fn taken(alloc: Global, volume: &mut Volume) -> Option<u64> {
     match volume.take_job(alloc, Index::Meta, 0) {
         TakeReply::Taken(job) => job.subtree().is_some().then_some(job.ticket().number),
@@ -287,7 +287,7 @@ fn taken(alloc: Global, volume: &mut Volume) -> Option<u64> {
     }
 }
 
-/// Whether an act comes out as it says.
+/// Whether an operation has its expected result.
 fn is_done(alloc: Global, volume: &mut Volume, act: Act) -> bool {
     match act {
         Act::Take(wanted) => taken(alloc, volume) == wanted,
@@ -302,7 +302,7 @@ fn is_done(alloc: Global, volume: &mut Volume, act: Act) -> bool {
     }
 }
 
-/// How many acts come out as they say, before the first that does not.
+/// The number of operations with their expected results, before the first that fails.
 fn count_done(alloc: Global, volume: &mut Volume) -> usize {
     let mut count = 0usize;
     for act in ACTS {
@@ -314,7 +314,7 @@ fn count_done(alloc: Global, volume: &mut Volume) -> usize {
     count
 }
 
-/// How many acts behind the opening come out as they say, before the first that does not.
+/// The number of operations after the opening with their expected results, before the first that fails.
 fn count_behind_opening(alloc: Global, volume: &mut Volume) -> usize {
     if !follows(alloc, volume, OPENING) {
         return 0;
@@ -322,7 +322,8 @@ fn count_behind_opening(alloc: Global, volume: &mut Volume) -> usize {
     count_done(alloc, volume)
 }
 
-/// How many acts in a new volume, behind the opening, come out as they say, before the first that does not.
+/// The number of operations in a new volume, after the opening, with their expected results, before the first that
+/// fails.
 fn count_in_new(alloc: Global) -> usize {
     match new_volume(alloc, SMALL) {
         Ok(mut volume) => count_behind_opening(alloc, &mut volume),
@@ -335,7 +336,7 @@ fn marks_are_cancelled(rt: HostRuntime) {
     assert_eq!(rt; count_in_new(rt.alloc()), ACTS.len());
 }
 
-/// What installing is answered: whether it was done, or the mark was gone.
+/// The reply to installing: whether it was done, or the mark was removed.
 fn installed(volume: &mut Volume, done: Done) -> FinishAnswer
     requires { DoneFits done (live_of volume.old) }
 {
@@ -346,7 +347,7 @@ fn installed(volume: &mut Volume, done: Done) -> FinishAnswer
     }
 }
 
-/// Takes a job of this slot of the metadata's root, builds it and installs it, where its mark is cancelled before on demand.
+/// Takes a job of this slot of the metadata's root, builds it and installs it; its mark is cancelled before on request.
 fn take_and_install(alloc: Global, volume: &mut Volume, cancelled: bool) -> FinishAnswer {
     let TakeReply::Taken(job) = volume.take_job(alloc, Index::Meta, 0) else {
         return FinishAnswer::NotThere;
@@ -360,7 +361,7 @@ fn take_and_install(alloc: Global, volume: &mut Volume, cancelled: bool) -> Fini
     installed(volume, done)
 }
 
-/// Whether of two jobs in turn the first is cancelled, the second is installed, and the directories are then six.
+/// Whether of two jobs in turn the first is cancelled, the second is installed, and there are six directories then.
 fn installs(alloc: Global, volume: &mut Volume) -> bool {
     take_and_install(alloc, volume, true) == FinishAnswer::Stale
         && take_and_install(alloc, volume, false) == FinishAnswer::Installed
@@ -368,7 +369,7 @@ fn installs(alloc: Global, volume: &mut Volume) -> bool {
         && answers(alloc, volume, SampleCall::Readdir("/"), SIX)
 }
 
-/// Whether in a new volume, behind the opening, the first of two jobs is cancelled and the second is installed.
+/// Whether in a new volume, after the opening, the first of two jobs is cancelled and the second is installed.
 fn installs_behind_opening(alloc: Global) -> bool {
     match new_volume(alloc, SMALL) {
         Ok(mut volume) => { follows(alloc, &mut volume, OPENING) && installs(alloc, &mut volume) }

@@ -1,6 +1,6 @@
-//! Pending lists of blocks that condense: updates of one block are one message.
+//! Tests of pending lists of blocks: updates of one block are condensed into one message.
 
-use crate::blocks::Laid;
+use crate::blocks::SampleUpdate;
 use crate::metadata::key_of;
 use block_index::BlockUpdate;
 use message::Msg;
@@ -9,7 +9,7 @@ use pending::Pending;
 use std::alloc::Global;
 use test_support::{Holds, all_hold};
 
-/// The message of an update at a key; none where memory is refused.
+/// The message of an update at a key; `None` if an allocation fails.
 fn edit(alloc: Global, key: &Key, update: BlockUpdate) -> Option<Msg<BlockUpdate>> {
     match key.copy(alloc) {
         Ok(key) => Some(Msg::Edit(key, update)),
@@ -17,16 +17,21 @@ fn edit(alloc: Global, key: &Key, update: BlockUpdate) -> Option<Msg<BlockUpdate
     }
 }
 
-/// The message of a row's update at a key; none where memory is refused.
-fn message(alloc: Global, key: &Key, row: Laid) -> Option<Msg<BlockUpdate>> {
+/// The message of a row's update at a key; `None` if an allocation fails.
+fn message(alloc: Global, key: &Key, row: SampleUpdate) -> Option<Msg<BlockUpdate>> {
     match row.update(alloc) {
         Some(update) => edit(alloc, key, update),
         None => None,
     }
 }
 
-/// Adds an update at a key to a list, and gives how many messages wait then; none where memory is refused.
-fn push(alloc: Global, list: &mut Pending<BlockUpdate>, key: &Key, row: Laid) -> Option<usize> {
+/// Appends an update at a key to a list, and returns how many messages are pending then; `None` if an allocation fails.
+fn push(
+    alloc: Global,
+    list: &mut Pending<BlockUpdate>,
+    key: &Key,
+    row: SampleUpdate,
+) -> Option<usize> {
     if list.reserve(1).is_err() {
         return None;
     }
@@ -39,8 +44,13 @@ fn push(alloc: Global, list: &mut Pending<BlockUpdate>, key: &Key, row: Laid) ->
     }
 }
 
-/// Whether one message waits after each update of the rows.
-fn push_all(alloc: Global, list: &mut Pending<BlockUpdate>, key: &Key, rows: &[Laid]) -> bool {
+/// Whether one message is pending after each update of the rows.
+fn push_all(
+    alloc: Global,
+    list: &mut Pending<BlockUpdate>,
+    key: &Key,
+    rows: &[SampleUpdate],
+) -> bool {
     for row in rows {
         if push(alloc, list, key, *row) != Some(1) {
             return false;
@@ -49,7 +59,7 @@ fn push_all(alloc: Global, list: &mut Pending<BlockUpdate>, key: &Key, rows: &[L
     true
 }
 
-/// Whether a list makes these bytes of an absent block.
+/// Whether a list gives these bytes for an absent block.
 fn makes(alloc: Global, list: &Pending<BlockUpdate>, key: &Key, wanted: &[u8]) -> bool {
     match list.value_after(alloc, key, None) {
         Ok(Some(block)) => block.as_slice() == wanted,
@@ -58,13 +68,13 @@ fn makes(alloc: Global, list: &Pending<BlockUpdate>, key: &Key, wanted: &[u8]) -
 }
 
 /// Whether updates at a key leave one message, and these bytes.
-fn update(alloc: Global, key: &Key, rows: &[Laid], wanted: &[u8]) -> bool {
+fn update(alloc: Global, key: &Key, rows: &[SampleUpdate], wanted: &[u8]) -> bool {
     let mut list = Pending::new(alloc);
     push_all(alloc, &mut list, key, rows) && makes(alloc, &list, key, wanted)
 }
 
-/// Updates of one block, and the bytes that they make of none.
-struct Updates(&'static [Laid], &'static [u8]);
+/// Updates of one block, and the bytes that they give for an absent one.
+struct Updates(&'static [SampleUpdate], &'static [u8]);
 
 impl Holds for Updates {
     fn holds(&self, alloc: Global) -> bool {
@@ -78,48 +88,52 @@ impl Holds for Updates {
 const UPDATES: &[Updates] = &[
     Updates(
         &[
-            Laid::Patch(4, b"\xaa\xbb"),
-            Laid::Patch(2, b"\xcc"),
-            Laid::Patch(3, b"\xdd"),
+            SampleUpdate::Patch(4, b"\xaa\xbb"),
+            SampleUpdate::Patch(2, b"\xcc"),
+            SampleUpdate::Patch(3, b"\xdd"),
         ],
         b"\0\0\xcc\xdd\xaa\xbb",
     ),
     Updates(
         &[
-            Laid::Patch(2, b"\xcc"),
-            Laid::Patch(4, b"\xaa\xbb"),
-            Laid::Patch(3, b"\xdd"),
+            SampleUpdate::Patch(2, b"\xcc"),
+            SampleUpdate::Patch(4, b"\xaa\xbb"),
+            SampleUpdate::Patch(3, b"\xdd"),
         ],
         b"\0\0\xcc\xdd\xaa\xbb",
     ),
     Updates(
         &[
-            Laid::Patch(0, b"aaa"),
-            Laid::Patch(1, b"b"),
-            Laid::Patch(9, b"c"),
+            SampleUpdate::Patch(0, b"aaa"),
+            SampleUpdate::Patch(1, b"b"),
+            SampleUpdate::Patch(9, b"c"),
         ],
         b"aba\0\0\0\0\0\0c",
     ),
     Updates(
         &[
-            Laid::Patch(8, b"ab"),
-            Laid::Patch(0, b"cd"),
-            Laid::Patch(4, b"ef"),
-            Laid::Patch(1, b"ghijklmn"),
+            SampleUpdate::Patch(8, b"ab"),
+            SampleUpdate::Patch(0, b"cd"),
+            SampleUpdate::Patch(4, b"ef"),
+            SampleUpdate::Patch(1, b"ghijklmn"),
         ],
         b"cghijklmnb",
     ),
     Updates(
         &[
-            Laid::Patch(6, b"ab"),
-            Laid::Patch(0, b"c"),
-            Laid::CutTo(7),
-            Laid::Patch(3, b"d"),
+            SampleUpdate::Patch(6, b"ab"),
+            SampleUpdate::Patch(0, b"c"),
+            SampleUpdate::CutTo(7),
+            SampleUpdate::Patch(3, b"d"),
         ],
         b"c\0\0d\0\0a",
     ),
     Updates(
-        &[Laid::Patch(6, b"ab"), Laid::CutTo(2), Laid::Patch(4, b"c")],
+        &[
+            SampleUpdate::Patch(6, b"ab"),
+            SampleUpdate::CutTo(2),
+            SampleUpdate::Patch(4, b"c"),
+        ],
         b"\0\0\0\0c",
     ),
 ];
@@ -129,17 +143,23 @@ fn one_message_waits_for_a_block(rt: HostRuntime) -> Result<(), usize> {
     all_hold(rt.alloc(), UPDATES)
 }
 
-/// How many messages wait behind so many patches of one byte, of which no two touch; none where memory is refused.
+/// The number of pending messages after that many patches of one byte, of which no two touch; `None` if an allocation
+/// fails.
 fn waiting(alloc: Global, key: &Key, count: u8) -> Option<usize> {
     let mut list = Pending::new(alloc);
     let mut waiting = Some(0);
     for number in 0..count {
-        waiting = push(alloc, &mut list, key, Laid::Patch(number as u16 * 2, b"a"));
+        waiting = push(
+            alloc,
+            &mut list,
+            key,
+            SampleUpdate::Patch(number as u16 * 2, b"a"),
+        );
     }
     waiting
 }
 
-/// So many patches of one byte, and the messages that they are: a message has at most 128.
+/// A number of patches of one byte, and the number of messages that they become: a message has at most 128.
 struct Counted(u8, usize);
 
 impl Holds for Counted {

@@ -1,12 +1,10 @@
-//! Tests of file calls at each layer below a volume, which are the plain program, the indexes and compiled calls; and of volumes as typed
-//! calls: what each call answers with ample memory, which no contract can say, rows of calls with snapshots, steps and jobs between them,
-//! runs of events, and walks through trees that stand still.
+//! Tests of file calls at each layer below a volume, which are the reference program, the indexes and compiled calls; and of volumes by
+//! typed calls: the reply of each call with ample memory, which no contract states, tables of calls with snapshots, steps and jobs
+//! between them, runs of events, and walks through frozen trees.
 //!
-//! They stand in a crate of their own, since what a crate with tests proves is proved once more with them.
+//! They are in a crate of their own, since the proofs of a crate with tests are checked again with the tests.
 #![tactic(auto)]
 
-#[cfg(test)]
-mod asked;
 #[cfg(test)]
 mod block_walks;
 #[cfg(test)]
@@ -39,6 +37,8 @@ mod plain;
 mod removals;
 #[cfg(test)]
 mod reported;
+#[cfg(test)]
+mod requests;
 #[cfg(test)]
 mod runs;
 #[cfg(test)]

@@ -1,5 +1,5 @@
-//! Whether a volume and the plain program have one tree, by a walk through all of it.
-use crate::asked::freeze;
+//! Whether a volume and the reference program have the same tree, by a walk through all of it.
+use crate::requests::freeze;
 use pathkey::Path;
 use reference::plain::reading::{list_directory, read_file, stat};
 use reference::plain::{Tree, World};
@@ -7,7 +7,7 @@ use reference::{GREATEST_READ, Listing, Reply};
 use std::alloc::Global;
 use volume::{Frozen, Volume};
 
-/// Whether two listings are one.
+/// Whether two listings are equal.
 fn are_one(names: &Listing, wanted: &Listing) -> bool {
     let (names, wanted) = (names.as_slice(), wanted.as_slice());
     for (entry, other) in names.iter().zip(wanted.iter()) {
@@ -18,14 +18,14 @@ fn are_one(names: &Listing, wanted: &Listing) -> bool {
     names.len() == wanted.len()
 }
 
-/// Whether two replies are one.
+/// Whether two replies are equal.
 pub fn is_reply(reply: &Reply, wanted: &Reply) -> bool {
     match (reply, wanted) {
         (Reply::Done, Reply::Done) => true,
         (Reply::Count(count), Reply::Count(wanted)) => count == wanted,
         (Reply::Data(bytes), Reply::Data(wanted)) => bytes.as_slice() == wanted.as_slice(),
-        (Reply::Stat(kind, length, modified), Reply::Stat(other, wanted, moment)) => {
-            kind == other && length == wanted && modified == moment
+        (Reply::Stat(kind, length, modified), Reply::Stat(other, wanted, mtime)) => {
+            kind == other && length == wanted && modified == mtime
         }
         (Reply::Names(names), Reply::Names(wanted)) => are_one(names, wanted),
         (Reply::Fault(fault), Reply::Fault(wanted)) => fault == wanted,
@@ -33,38 +33,38 @@ pub fn is_reply(reply: &Reply, wanted: &Reply) -> bool {
     }
 }
 
-/// What a tree that stands still replies to a stat. It ensures nothing, so that no proof of a test reads what a tree means; nor do the
-/// next ones.
+/// The reply of a frozen tree to a stat. It has no postcondition, so that the proofs of the tests do not unfold what a tree is; nor do
+/// the next functions.
 pub fn stat_of(alloc: Global, frozen: &Frozen, path: &Path) -> Reply {
     frozen.stat(alloc, path)
 }
 
-/// What it replies to a read of a whole file.
+/// Its reply to a read of a whole file.
 fn bytes_of(alloc: Global, frozen: &Frozen, path: &Path) -> Reply {
     frozen.read(alloc, path, 0, GREATEST_READ)
 }
 
-/// What it replies to a listing.
+/// Its reply to a listing.
 fn names_of(alloc: Global, frozen: &Frozen, path: &Path) -> Reply {
     frozen.readdir(alloc, path)
 }
 
-/// What the plain program replies to a stat.
+/// The reply of the reference program to a stat.
 fn plain_stat(tree: &Tree, path: &Path) -> Reply {
     stat(tree, path)
 }
 
-/// What it replies to a read of a whole file; none where memory is refused.
+/// Its reply to a read of a whole file; `None` if an allocation fails.
 fn plain_bytes(alloc: Global, tree: &Tree, path: &Path) -> Option<Reply> {
     read_file(alloc, tree, path, 0, GREATEST_READ).ok()
 }
 
-/// What it replies to a listing.
+/// Its reply to a listing.
 fn plain_names(alloc: Global, tree: &Tree, path: &Path) -> Option<Reply> {
     list_directory(alloc, tree, path).ok()
 }
 
-/// Whether the same stands at a path, with the same bytes.
+/// Whether both have the same entry at a path, with the same bytes.
 fn have_one(alloc: Global, frozen: &Frozen, tree: &Tree, path: &Path) -> bool {
     match plain_bytes(alloc, tree, path) {
         Some(bytes) => is_reply(&bytes_of(alloc, frozen, path), &bytes)
@@ -73,12 +73,12 @@ fn have_one(alloc: Global, frozen: &Frozen, tree: &Tree, path: &Path) -> bool {
     }
 }
 
-/// Puts bytes behind the texts; whether there was memory for them.
+/// Appends bytes to the texts; `false` if an allocation fails.
 fn put(texts: &mut Vec<u8>, bytes: &[u8]) -> bool {
     texts.extend_from_slice(bytes).is_ok()
 }
 
-/// Puts the text of a path behind the texts, with a slash behind each of its names.
+/// Appends the text of a path to the texts, with a slash after each of its names.
 fn put_names(texts: &mut Vec<u8>, path: &Path) -> bool {
     for byte in path.key().as_bytes() {
         let shown = if *byte == 0 { b'/' } else { *byte };
@@ -89,7 +89,7 @@ fn put_names(texts: &mut Vec<u8>, path: &Path) -> bool {
     true
 }
 
-/// Puts the text of each entry of a directory behind the texts, and ends it with a line feed.
+/// Appends the text of each entry of a directory to the texts, and ends it with a line feed.
 fn put_entries(texts: &mut Vec<u8>, path: &Path, reply: &Reply) -> bool {
     let Reply::Names(names) = reply else {
         return true;
@@ -106,7 +106,7 @@ fn put_entries(texts: &mut Vec<u8>, path: &Path, reply: &Reply) -> bool {
     true
 }
 
-/// Whether a path lists alike; what it lists is put behind the texts.
+/// Whether both list a path the same; what it lists is appended to the texts.
 fn list_alike(
     alloc: Global,
     frozen: &Frozen,
@@ -121,7 +121,7 @@ fn list_alike(
     }
 }
 
-/// How many bytes stand before the first line feed, if there is one.
+/// The number of bytes before the first line feed, if there is one.
 fn line_end(text: &[u8]) -> Option<usize> {
     for (place, byte) in text.iter().enumerate() {
         if *byte == b'\n' {
@@ -131,7 +131,7 @@ fn line_end(text: &[u8]) -> Option<usize> {
     None
 }
 
-/// The path whose text begins at a place among the texts; the place then goes behind it.
+/// The path whose text begins at a position in the texts; the position is moved after it.
 fn next(alloc: Global, texts: &[u8], at: &mut usize) -> Option<Path> {
     let rest = texts.get(*at..)?;
     let end = line_end(rest)?;
@@ -139,10 +139,10 @@ fn next(alloc: Global, texts: &[u8], at: &mut usize) -> Option<Path> {
     Path::parse(alloc, rest.get(..end)?).ok()
 }
 
-/// The most paths that are looked at.
+/// The maximal number of paths that are compared.
 const MOST: u32 = 1_000_000;
 
-/// Whether both have one tree at and below each path of the texts.
+/// Whether both have the same tree at and below each path of the texts.
 fn walk(alloc: Global, frozen: &Frozen, tree: &Tree, texts: &mut Vec<u8>) -> bool {
     let mut at = 0usize;
     for _ in 0..MOST {
@@ -163,13 +163,13 @@ fn walk(alloc: Global, frozen: &Frozen, tree: &Tree, texts: &mut Vec<u8>) -> boo
     false
 }
 
-/// Whether a tree that stands still is a plain one.
+/// Whether a frozen tree is equal to a reference tree.
 fn is_tree(alloc: Global, frozen: &Frozen, tree: &Tree) -> bool {
     let mut texts = Vec::new(alloc);
     put(&mut texts, b"/\n") && walk(alloc, frozen, tree, &mut texts)
 }
 
-/// Whether the live trees of a volume and of the plain program are one.
+/// Whether the live trees of a volume and of the reference program are equal.
 pub fn look_alike(alloc: Global, volume: &Volume, plain: &World) -> bool {
     match freeze(volume) {
         Ok(frozen) => is_tree(alloc, &frozen, plain.live()),

@@ -1,4 +1,4 @@
-//! What an index answers, by rows of paths, beside the directory tree that the rows name.
+//! Tests of the metadata index, in tables of paths, against the directory tree that the rows name.
 
 use message::Msg;
 use meta_index::{At, Kind, Meta, MetaIndex, MetaUpdate};
@@ -22,7 +22,7 @@ fn nothing(alloc: Global) -> Result<MetaIndex, NoMemory> {
     })
 }
 
-/// The key of a text's path; none where the text is no path, or memory is refused.
+/// The key of a text's path; `None` if the text is not a path, or an allocation fails.
 pub fn key_of(alloc: Global, text: &str) -> Option<Key> {
     match path(alloc, text) {
         Ok(path) => path.key().copy(alloc).ok(),
@@ -30,7 +30,7 @@ pub fn key_of(alloc: Global, text: &str) -> Option<Key> {
     }
 }
 
-/// Appends a message to an index; `false` where memory is refused.
+/// Appends a message to an index; `false` if an allocation fails.
 fn append(alloc: Global, index: &mut MetaIndex, msg: Msg<MetaUpdate>) -> bool {
     let mut msgs = Vec::new(alloc);
     msgs.push(msg).is_ok() && index.tree.append(alloc, msgs).is_ok()
@@ -98,7 +98,7 @@ fn fill(alloc: Global, index: &mut MetaIndex) -> bool {
     true
 }
 
-/// An index of these entries; none where memory is refused.
+/// An index of these entries; `None` if an allocation fails.
 fn sample(alloc: Global) -> Option<MetaIndex> {
     let mut index = nothing(alloc).ok()?;
     if fill(alloc, &mut index) {
@@ -108,7 +108,8 @@ fn sample(alloc: Global) -> Option<MetaIndex> {
     }
 }
 
-/// What stands at a path. It ensures nothing, so that no proof of a test reads what an index means; nor do the next.
+/// The entry at a path. It has no postcondition, so that the proofs of the tests do not unfold what an index is; nor
+/// does the next function.
 fn find(alloc: Global, index: &MetaIndex, path: &Path) -> Option<At> {
     index.find(alloc, path).ok()
 }
@@ -121,45 +122,45 @@ fn has_fault(alloc: Global, index: &MetaIndex, path: &Path, wanted: Option<Errno
     }
 }
 
-/// What an index finds, in one line of a table: the length of a file, and the moment of last change.
+/// The entry that an index finds, in one line of a table: the length of a file, and the mtime.
 #[derive(Clone, Copy)]
-enum Stands {
+enum FoundEntry {
     File(u64, u64),
     Directory(u64),
     Nothing,
 }
 
-impl Stands {
+impl FoundEntry {
     fn found(self) -> At {
         match self {
-            Stands::File(len, modified) => At::Found(Meta::File { len, modified }),
-            Stands::Directory(modified) => At::Found(Meta::Dir { modified }),
-            Stands::Nothing => At::Missing,
+            FoundEntry::File(len, modified) => At::Found(Meta::File { len, modified }),
+            FoundEntry::Directory(modified) => At::Found(Meta::Dir { modified }),
+            FoundEntry::Nothing => At::Missing,
         }
     }
 }
 
-/// A path, an update of the entry there, and what then stands there.
-const UPDATES: &[(&str, MetaUpdate, Stands)] = &[
-    ("/f", MetaUpdate::Grow(3, 9), Stands::File(5, 9)),
-    ("/f", MetaUpdate::Grow(7, 4), Stands::File(7, 4)),
-    ("/f", MetaUpdate::SetLen(2, 6), Stands::File(2, 6)),
-    ("/f", MetaUpdate::Grow(4, 5), Stands::File(4, 5)),
-    ("/f", MetaUpdate::Touch(8), Stands::File(4, 8)),
-    ("/b", MetaUpdate::SetLen(2, 3), Stands::Directory(0)),
-    ("/b", MetaUpdate::Grow(2, 3), Stands::Directory(0)),
-    ("/b", MetaUpdate::Touch(7), Stands::Directory(7)),
-    ("/b", MetaUpdate::Touch(1), Stands::Directory(1)),
-    ("/c", MetaUpdate::Grow(2, 0), Stands::Nothing),
-    ("/c", MetaUpdate::Touch(2), Stands::Nothing),
+/// A path, an update of the entry there, and the entry there then.
+const UPDATES: &[(&str, MetaUpdate, FoundEntry)] = &[
+    ("/f", MetaUpdate::Grow(3, 9), FoundEntry::File(5, 9)),
+    ("/f", MetaUpdate::Grow(7, 4), FoundEntry::File(7, 4)),
+    ("/f", MetaUpdate::SetLen(2, 6), FoundEntry::File(2, 6)),
+    ("/f", MetaUpdate::Grow(4, 5), FoundEntry::File(4, 5)),
+    ("/f", MetaUpdate::Touch(8), FoundEntry::File(4, 8)),
+    ("/b", MetaUpdate::SetLen(2, 3), FoundEntry::Directory(0)),
+    ("/b", MetaUpdate::Grow(2, 3), FoundEntry::Directory(0)),
+    ("/b", MetaUpdate::Touch(7), FoundEntry::Directory(7)),
+    ("/b", MetaUpdate::Touch(1), FoundEntry::Directory(1)),
+    ("/c", MetaUpdate::Grow(2, 0), FoundEntry::Nothing),
+    ("/c", MetaUpdate::Touch(2), FoundEntry::Nothing),
 ];
 
-/// Whether all updates come to what their rows say; the number of the first that does not.
+/// Whether all updates give what their rows say; otherwise the index of the first that does not.
 fn updated_so(alloc: Global, index: &mut MetaIndex) -> Result<(), usize> {
     let mut number = 0usize;
     for (text, update, wanted) in UPDATES {
         if !edit(alloc, index, text, *update)
-            || !asks(alloc, index, text, Asked::Find(wanted.found()))
+            || !answers_at(alloc, index, text, PathRequest::Find(wanted.found()))
         {
             return Err(number);
         }
@@ -168,7 +169,7 @@ fn updated_so(alloc: Global, index: &mut MetaIndex) -> Result<(), usize> {
     Ok(())
 }
 
-/// Whether all updates of the sample come to what their rows say; the number of the first that does not.
+/// Whether all updates of the sample give what their rows say; otherwise the index of the first that does not.
 fn updated_in_sample(alloc: Global) -> Result<(), usize> {
     match sample(alloc) {
         Some(mut index) => updated_so(alloc, &mut index),
@@ -177,11 +178,11 @@ fn updated_in_sample(alloc: Global) -> Result<(), usize> {
 }
 
 #[test]
-fn lengths_and_moments_are_set(rt: HostRuntime) -> Result<(), usize> {
+fn lengths_and_mtimes_are_set(rt: HostRuntime) -> Result<(), usize> {
     updated_in_sample(rt.alloc())
 }
 
-/// Two updates, and the one that they are, if they are one.
+/// Two updates, and their join, if they join.
 struct Joined(MetaUpdate, MetaUpdate, Option<MetaUpdate>);
 
 impl Holds for Joined {
@@ -190,7 +191,7 @@ impl Holds for Joined {
     }
 }
 
-/// The moment is that of the later update, even where it is the smaller one.
+/// the mtime is that of the later update, even if it is the smaller one
 const JOINED: &[Joined] = &[
     Joined(
         MetaUpdate::SetLen(3, 9),
@@ -228,7 +229,7 @@ fn two_updates_are_one_where_they_join(rt: HostRuntime) -> Result<(), usize> {
     all_hold(rt.alloc(), JOINED)
 }
 
-/// Whether nothing lies below a path.
+/// Whether nothing is below a path.
 fn is_empty_at(alloc: Global, index: &MetaIndex, path: &Path) -> Option<bool> {
     index.is_empty_dir(alloc, path).ok()
 }
@@ -262,7 +263,7 @@ fn has_names(alloc: Global, index: &MetaIndex, path: &Path, wanted: &[Name]) -> 
     }
 }
 
-/// Whether the entries of the directory at a path are these, and are listed by so many walks of the tree at most.
+/// Whether the entries of the directory at a path are these, and are listed by at most that many walks of the tree.
 fn is_walked(alloc: Global, index: &MetaIndex, path: &Path, names: &[Name], most: u64) -> bool {
     let mut searches = 0;
     match index.children_counted(alloc, path, &mut searches) {
@@ -271,7 +272,7 @@ fn is_walked(alloc: Global, index: &MetaIndex, path: &Path, names: &[Name], most
     }
 }
 
-/// Whether they are listed by walks that ask for so many pairs at most.
+/// Whether they are listed by walks that request at most that many pairs.
 fn is_measured(alloc: Global, index: &MetaIndex, path: &Path, names: &[Name], most: u64) -> bool {
     let mut walks = 0;
     let mut pairs = 0;
@@ -281,11 +282,11 @@ fn is_measured(alloc: Global, index: &MetaIndex, path: &Path, names: &[Name], mo
     }
 }
 
-/// Whether so many searches tell that nothing lies below a path, or that something does.
+/// Whether that many searches find that nothing is below a path, or that something is.
 fn is_reported(alloc: Global, index: &MetaIndex, path: &Path, empty: bool, wanted: u64) -> bool {
     let mut searches = 0;
     match index.is_empty_dir_counted(alloc, path, &mut searches) {
-        Ok(told) => told == empty && searches == wanted,
+        Ok(found) => found == empty && searches == wanted,
         Err(_) => false,
     }
 }
@@ -311,7 +312,7 @@ fn have_keys(alloc: Global, pairs: &[(Key, Meta)], wanted: &[&str]) -> bool {
     true
 }
 
-/// The first pairs of a subtree, of which at most so many are asked for; behind a key, where one is given.
+/// The first pairs of a subtree, at most that many; those after a key, if one is given.
 fn pairs_of(
     alloc: Global,
     index: &MetaIndex,
@@ -344,116 +345,125 @@ fn holds(
     }
 }
 
-/// What is asked of the sample about a path, and what is answered.
+/// A request to the sample about a path, and its result.
 #[derive(Clone, Copy)]
-pub enum Asked {
-    /// What stands there.
+pub enum PathRequest {
+    /// The entry there.
     Find(At),
     /// The fault of its parent.
     Fault(Option<Errno>),
-    /// Whether nothing lies below.
+    /// Whether nothing is below.
     Empty(bool),
     /// The entries of the directory.
     Names(&'static [Name]),
-    /// The entries of the directory, and how many walks of the tree list them at most, and how many pairs these ask for.
+    /// The entries of the directory, and how many walks of the tree list them at most, and how many pairs these request.
     Listed(&'static [Name], u64, u64),
-    /// Whether nothing lies below, and how many searches tell.
-    Told(bool, u64),
-    /// So many pairs of its subtree, and the paths of those that come.
+    /// Whether nothing is below, and how many searches find that.
+    EmptyBy(bool, u64),
+    /// That many pairs of its subtree, and the paths of the result.
     Below(usize, &'static [&'static str]),
-    /// So many pairs of its subtree behind the key of a path, and the paths of those that come.
+    /// That many pairs of its subtree after the key of a path, and the paths of the result.
     Behind(&'static str, usize, &'static [&'static str]),
 }
 
 /// An entry is found, missing or blocked.
-const FOUND: &[(&str, Asked)] = &[
-    ("/", Asked::Find(At::Found(Meta::Dir { modified: 0 }))),
+const FOUND: &[(&str, PathRequest)] = &[
+    ("/", PathRequest::Find(At::Found(Meta::Dir { modified: 0 }))),
     (
         "/f",
-        Asked::Find(At::Found(Meta::File {
+        PathRequest::Find(At::Found(Meta::File {
             len: 5,
             modified: 0,
         })),
     ),
-    ("/a/d", Asked::Find(At::Found(Meta::Dir { modified: 0 }))),
+    (
+        "/a/d",
+        PathRequest::Find(At::Found(Meta::Dir { modified: 0 })),
+    ),
     (
         "/a/d/y",
-        Asked::Find(At::Found(Meta::File {
+        PathRequest::Find(At::Found(Meta::File {
             len: 9,
             modified: 0,
         })),
     ),
-    ("/c", Asked::Find(At::Missing)),
-    ("/c/d/e", Asked::Find(At::Missing)),
-    ("/a/d/z", Asked::Find(At::Missing)),
-    ("/f/g", Asked::Find(At::Blocked)),
-    ("/a/x/y/z", Asked::Find(At::Blocked)),
+    ("/c", PathRequest::Find(At::Missing)),
+    ("/c/d/e", PathRequest::Find(At::Missing)),
+    ("/a/d/z", PathRequest::Find(At::Missing)),
+    ("/f/g", PathRequest::Find(At::Blocked)),
+    ("/a/x/y/z", PathRequest::Find(At::Blocked)),
 ];
 
-/// A new entry wants a directory above.
-const FAULTS: &[(&str, Asked)] = &[
-    ("/", Asked::Fault(None)),
-    ("/c", Asked::Fault(None)),
-    ("/a/d/z", Asked::Fault(None)),
-    ("/a/x", Asked::Fault(None)),
-    ("/c/d", Asked::Fault(Some(Errno::ENOENT))),
-    ("/a/c/d/e", Asked::Fault(Some(Errno::ENOENT))),
-    ("/f/g", Asked::Fault(Some(Errno::ENOTDIR))),
-    ("/a/x/y/z", Asked::Fault(Some(Errno::ENOTDIR))),
+/// A new entry needs a parent directory.
+const FAULTS: &[(&str, PathRequest)] = &[
+    ("/", PathRequest::Fault(None)),
+    ("/c", PathRequest::Fault(None)),
+    ("/a/d/z", PathRequest::Fault(None)),
+    ("/a/x", PathRequest::Fault(None)),
+    ("/c/d", PathRequest::Fault(Some(Errno::ENOENT))),
+    ("/a/c/d/e", PathRequest::Fault(Some(Errno::ENOENT))),
+    ("/f/g", PathRequest::Fault(Some(Errno::ENOTDIR))),
+    ("/a/x/y/z", PathRequest::Fault(Some(Errno::ENOTDIR))),
 ];
 
-/// A directory is empty where nothing lies below.
-const EMPTY: &[(&str, Asked)] = &[
-    ("/", Asked::Empty(false)),
-    ("/a", Asked::Empty(false)),
-    ("/a/d", Asked::Empty(false)),
-    ("/b", Asked::Empty(true)),
-    ("/f", Asked::Empty(true)),
-    ("/c", Asked::Empty(true)),
+/// A directory is empty if nothing is below it.
+const EMPTY: &[(&str, PathRequest)] = &[
+    ("/", PathRequest::Empty(false)),
+    ("/a", PathRequest::Empty(false)),
+    ("/a/d", PathRequest::Empty(false)),
+    ("/b", PathRequest::Empty(true)),
+    ("/f", PathRequest::Empty(true)),
+    ("/c", PathRequest::Empty(true)),
 ];
 
 /// A directory lists its own entries in order.
-const LISTINGS: &[(&str, Asked)] = &[
+const LISTINGS: &[(&str, PathRequest)] = &[
     (
         "/",
-        Asked::Names(&[
+        PathRequest::Names(&[
             (Kind::Dir, "a"),
             (Kind::File, "a-b"),
             (Kind::Dir, "b"),
             (Kind::File, "f"),
         ]),
     ),
-    ("/a", Asked::Names(&[(Kind::Dir, "d"), (Kind::File, "x")])),
-    ("/a/d", Asked::Names(&[(Kind::File, "y")])),
-    ("/b", Asked::Names(&[])),
-    ("/f", Asked::Names(&[])),
-    ("/c", Asked::Names(&[])),
-];
-
-/// The pairs of a subtree stand in the order of their keys.
-const SUBTREE: &[(&str, Asked)] = &[
-    ("/a", Asked::Below(0, &[])),
-    ("/a", Asked::Below(1, &["/a"])),
-    ("/a", Asked::Below(3, &["/a", "/a/d", "/a/d/y"])),
-    ("/a", Asked::Below(9, &["/a", "/a/d", "/a/d/y", "/a/x"])),
     (
         "/a",
-        Asked::Below(usize::MAX, &["/a", "/a/d", "/a/d/y", "/a/x"]),
+        PathRequest::Names(&[(Kind::Dir, "d"), (Kind::File, "x")]),
+    ),
+    ("/a/d", PathRequest::Names(&[(Kind::File, "y")])),
+    ("/b", PathRequest::Names(&[])),
+    ("/f", PathRequest::Names(&[])),
+    ("/c", PathRequest::Names(&[])),
+];
+
+/// The pairs of a subtree are in the order of their keys.
+const SUBTREE: &[(&str, PathRequest)] = &[
+    ("/a", PathRequest::Below(0, &[])),
+    ("/a", PathRequest::Below(1, &["/a"])),
+    ("/a", PathRequest::Below(3, &["/a", "/a/d", "/a/d/y"])),
+    (
+        "/a",
+        PathRequest::Below(9, &["/a", "/a/d", "/a/d/y", "/a/x"]),
+    ),
+    (
+        "/a",
+        PathRequest::Below(usize::MAX, &["/a", "/a/d", "/a/d/y", "/a/x"]),
     ),
 ];
 
-/// A subtree goes on behind each of its keys.
-const BEHIND: &[(&str, Asked)] = &[
-    ("/a", Asked::Behind("/a", 2, &["/a/d", "/a/d/y"])),
-    ("/a", Asked::Behind("/a/d", 9, &["/a/d/y", "/a/x"])),
-    ("/a", Asked::Behind("/a/d/x", 1, &["/a/d/y"])),
-    ("/a", Asked::Behind("/a/d/y", usize::MAX, &["/a/x"])),
-    ("/a", Asked::Behind("/a/x", 9, &[])),
-    ("/a", Asked::Behind("/a", 0, &[])),
+/// A subtree continues after each of its keys.
+const BEHIND: &[(&str, PathRequest)] = &[
+    ("/a", PathRequest::Behind("/a", 2, &["/a/d", "/a/d/y"])),
+    ("/a", PathRequest::Behind("/a/d", 9, &["/a/d/y", "/a/x"])),
+    ("/a", PathRequest::Behind("/a/d/x", 1, &["/a/d/y"])),
+    ("/a", PathRequest::Behind("/a/d/y", usize::MAX, &["/a/x"])),
+    ("/a", PathRequest::Behind("/a/x", 9, &[])),
+    ("/a", PathRequest::Behind("/a", 0, &[])),
 ];
 
 /// Each table, with its name.
-const TABLES: &[(&str, &[(&str, Asked)])] = &[
+const TABLES: &[(&str, &[(&str, PathRequest)])] = &[
     ("found", FOUND),
     ("faults", FAULTS),
     ("empty", EMPTY),
@@ -462,8 +472,8 @@ const TABLES: &[(&str, &[(&str, Asked)])] = &[
     ("behind", BEHIND),
 ];
 
-/// Whether a subtree goes on so behind the key of a text's path.
-fn goes_on(
+/// Whether a subtree continues as expected after the key of a text's path.
+fn continues(
     alloc: Global,
     index: &MetaIndex,
     above: &Path,
@@ -477,62 +487,62 @@ fn goes_on(
     }
 }
 
-/// Whether what is asked about a path is answered so.
-fn is_answered(alloc: Global, index: &MetaIndex, path: &Path, asked: Asked) -> bool {
-    match asked {
-        Asked::Find(at) => find(alloc, index, path) == Some(at),
-        Asked::Fault(fault) => has_fault(alloc, index, path, fault),
-        Asked::Empty(empty) => is_empty_at(alloc, index, path) == Some(empty),
-        Asked::Names(names) => has_names(alloc, index, path, names),
-        Asked::Listed(names, walks, pairs) => {
+/// Whether the request about a path has this result.
+fn is_answered(alloc: Global, index: &MetaIndex, path: &Path, request: PathRequest) -> bool {
+    match request {
+        PathRequest::Find(at) => find(alloc, index, path) == Some(at),
+        PathRequest::Fault(fault) => has_fault(alloc, index, path, fault),
+        PathRequest::Empty(empty) => is_empty_at(alloc, index, path) == Some(empty),
+        PathRequest::Names(names) => has_names(alloc, index, path, names),
+        PathRequest::Listed(names, walks, pairs) => {
             is_walked(alloc, index, path, names, walks)
                 && is_measured(alloc, index, path, names, pairs)
         }
-        Asked::Told(empty, wanted) => is_reported(alloc, index, path, empty, wanted),
-        Asked::Below(limit, wanted) => holds(alloc, index, path, None, limit, wanted),
-        Asked::Behind(behind, limit, wanted) => {
-            goes_on(alloc, index, path, behind, limit, wanted)
+        PathRequest::EmptyBy(empty, wanted) => is_reported(alloc, index, path, empty, wanted),
+        PathRequest::Below(limit, wanted) => holds(alloc, index, path, None, limit, wanted),
+        PathRequest::Behind(behind, limit, wanted) => {
+            continues(alloc, index, path, behind, limit, wanted)
         }
     }
 }
 
-/// Whether an index answers so at the path of a text.
-pub fn asks(alloc: Global, index: &MetaIndex, text: &str, asked: Asked) -> bool {
+/// Whether the request to an index at the path of a text has this result.
+pub fn answers_at(alloc: Global, index: &MetaIndex, text: &str, request: PathRequest) -> bool {
     match path(alloc, text) {
-        Ok(path) => is_answered(alloc, index, &path, asked),
+        Ok(path) => is_answered(alloc, index, &path, request),
         Err(_) => false,
     }
 }
 
-/// Whether an index answers all rows as they say.
-fn asks_all(alloc: Global, index: &MetaIndex, rows: &[(&str, Asked)]) -> bool {
-    for (text, asked) in rows {
-        if !asks(alloc, index, text, *asked) {
+/// Whether all rows pass in an index.
+fn answers_all(alloc: Global, index: &MetaIndex, rows: &[(&str, PathRequest)]) -> bool {
+    for (text, request) in rows {
+        if !answers_at(alloc, index, text, *request) {
             return false;
         }
     }
     true
 }
 
-/// Whether an index answers each table as it says; the name of the first that is answered otherwise.
-fn asks_tables(alloc: Global, index: &MetaIndex) -> Result<(), &'static str> {
+/// Whether all tables pass in an index; otherwise the name of the first that fails.
+fn answers_tables(alloc: Global, index: &MetaIndex) -> Result<(), &'static str> {
     for (name, rows) in TABLES {
-        if !asks_all(alloc, index, rows) {
+        if !answers_all(alloc, index, rows) {
             return Err(name);
         }
     }
     Ok(())
 }
 
-/// Whether a sample made here answers each table as it says; the name of the first that is answered otherwise.
-fn asks_sample(alloc: Global) -> Result<(), &'static str> {
+/// Whether all tables pass in a sample created here; otherwise the name of the first that fails.
+fn answers_in_sample(alloc: Global) -> Result<(), &'static str> {
     match sample(alloc) {
-        Some(index) => asks_tables(alloc, &index),
+        Some(index) => answers_tables(alloc, &index),
         None => Err("no memory"),
     }
 }
 
 #[test]
 fn an_index_answers_as_each_table_says(rt: HostRuntime) -> Result<(), &'static str> {
-    asks_sample(rt.alloc())
+    answers_in_sample(rt.alloc())
 }

@@ -1,4 +1,5 @@
-//! Scripts of calls through the plain program, with the replies that the file system's definition gives, worked by hand.
+//! Tests of the reference program: tables of calls with the replies that the file system's definition gives, worked out
+//! by hand.
 use pathkey::{Errno, NoMemory, Path, SnapName};
 use reference::plain::reading::list_directory;
 use reference::plain::{Tree, World, image_of};
@@ -6,7 +7,7 @@ use reference::{Call, Kind, Reply};
 use std::alloc::{AllocError, Global};
 use test_support::ask::{ExpectedReply, SampleCall, path};
 
-/// A call on snapshots, with the text of the name.
+/// A snapshot call, with the text of the name.
 #[derive(Clone, Copy)]
 enum Snap<'a> {
     Keep(&'a str),
@@ -14,7 +15,7 @@ enum Snap<'a> {
     Restore(&'a str),
 }
 
-/// The name of a snapshot. It ensures nothing, as `path`.
+/// The name of a snapshot. It has no postcondition, as `path`.
 fn snap_name(alloc: Global, text: &str) -> Result<SnapName, Errno> {
     SnapName::parse(alloc, text.as_bytes())
 }
@@ -28,7 +29,7 @@ impl<'a> Snap<'a> {
     }
 }
 
-/// Does a call on the snapshot of a name.
+/// Executes a snapshot call.
 fn snapped(alloc: Global, world: &mut World, snap: Snap<'_>, name: &SnapName) -> Option<Errno> {
     match snap {
         Snap::Keep(_) => world.snapshot(alloc, name).err(),
@@ -37,7 +38,7 @@ fn snapped(alloc: Global, world: &mut World, snap: Snap<'_>, name: &SnapName) ->
     }
 }
 
-/// Why a call on snapshots is refused; none where it is done.
+/// The error of a snapshot call; `None` if it succeeds.
 fn fault_of(alloc: Global, world: &mut World, snap: Snap<'_>) -> Option<Errno> {
     match snap_name(alloc, snap.text()) {
         Ok(name) => snapped(alloc, world, snap, &name),
@@ -45,11 +46,11 @@ fn fault_of(alloc: Global, world: &mut World, snap: Snap<'_>) -> Option<Errno> {
     }
 }
 
-/// Whether this is the reply, or the fault of a text that is no path.
-fn is_reported(told: ExpectedReply<'_>, reply: Result<Reply, Errno>) -> bool {
+/// Whether this is the reply, or the error of a text that is not a path.
+fn is_reported(wanted: ExpectedReply<'_>, reply: Result<Reply, Errno>) -> bool {
     match reply {
-        Ok(reply) => told.is(&reply),
-        Err(fault) => matches!(told, ExpectedReply::Fault(wanted) if wanted == fault),
+        Ok(reply) => wanted.is(&reply),
+        Err(fault) => matches!(wanted, ExpectedReply::Fault(errno) if errno == fault),
     }
 }
 
@@ -62,9 +63,9 @@ fn list(alloc: Global, tree: &Tree, path: &Path) -> Result<Reply, Errno> {
 }
 
 /// Whether a directory of the tree has these entries.
-fn lists(alloc: Global, tree: &Tree, text: &str, told: ExpectedReply<'_>) -> bool {
+fn lists(alloc: Global, tree: &Tree, text: &str, wanted: ExpectedReply<'_>) -> bool {
     match path(alloc, text) {
-        Ok(path) => is_reported(told, list(alloc, tree, &path)),
+        Ok(path) => is_reported(wanted, list(alloc, tree, &path)),
         Err(_) => false,
     }
 }
@@ -75,18 +76,18 @@ fn lists_frozen(
     world: &World,
     name: &str,
     text: &str,
-    told: ExpectedReply<'_>,
+    wanted: ExpectedReply<'_>,
 ) -> bool {
     match snap_name(alloc, name) {
         Ok(name) => match world.frozen(&name) {
-            Some(tree) => lists(alloc, tree, text, told),
+            Some(tree) => lists(alloc, tree, text, wanted),
             None => false,
         },
         Err(_) => false,
     }
 }
 
-/// The reply to a call. It ensures nothing, so that no proof of a test reads what a call means.
+/// The reply to a call. It has no postcondition, so that the proofs of the tests do not unfold what a call does.
 fn reply_to(alloc: Global, world: &mut World, call: &Call) -> Result<Reply, Errno> {
     match world.call(alloc, call, 0) {
         Ok(reply) => Ok(reply),
@@ -94,10 +95,10 @@ fn reply_to(alloc: Global, world: &mut World, call: &Call) -> Result<Reply, Errn
     }
 }
 
-/// What is asked, and what is told.
+/// A call, and its reply.
 type Row<'a> = (SampleCall<'a>, ExpectedReply<'a>);
 
-/// Whether the row's reply comes to its call.
+/// Whether the row's call has its reply.
 fn is_answered(alloc: Global, world: &mut World, row: &Row<'_>) -> bool {
     match row.0.call(alloc) {
         Ok(call) => is_reported(row.1, reply_to(alloc, world, &call)),
@@ -105,7 +106,7 @@ fn is_answered(alloc: Global, world: &mut World, row: &Row<'_>) -> bool {
     }
 }
 
-/// Asks call after call; how many are answered as their rows say, before the first that is not.
+/// Executes call after call; returns how many have the replies of their rows, before the first that does not.
 fn follow_in(alloc: Global, world: &mut World, rows: &[Row<'_>]) -> usize {
     let mut count = 0usize;
     for row in rows {
@@ -117,30 +118,30 @@ fn follow_in(alloc: Global, world: &mut World, rows: &[Row<'_>]) -> usize {
     count
 }
 
-/// A new world. It ensures nothing, as `path`.
+/// A new world. It has no postcondition, as `path`.
 fn new_world(alloc: Global) -> Result<World, NoMemory> {
     World::new(alloc)
 }
 
-/// What a new world goes through.
-trait Course {
-    /// Whether it goes as it should; `false` where memory is refused.
-    fn goes(&self, alloc: Global, world: &mut World) -> bool;
+/// A test that runs on a new world.
+trait WorldTest {
+    /// Whether it passes; `false` if an allocation fails.
+    fn passes(&self, alloc: Global, world: &mut World) -> bool;
 }
 
-/// Whether a new world goes through a course.
-fn goes_anew<C: Course>(alloc: Global, course: &C) -> bool {
+/// Whether a test passes on a new world.
+fn passes_on_new_world<C: WorldTest>(alloc: Global, course: &C) -> bool {
     match new_world(alloc) {
-        Ok(mut world) => course.goes(alloc, &mut world),
+        Ok(mut world) => course.passes(alloc, &mut world),
         Err(_) => false,
     }
 }
 
-/// Whether a new world goes through each course; the number of the first through which it does not.
-fn all_go<C: Course>(alloc: Global, courses: &[C]) -> Result<(), usize> {
+/// Whether each test passes on a new world; otherwise the index of the first that fails.
+fn all_pass<C: WorldTest>(alloc: Global, courses: &[C]) -> Result<(), usize> {
     let mut number = 0usize;
     for course in courses {
-        if !goes_anew(alloc, course) {
+        if !passes_on_new_world(alloc, course) {
             return Err(number);
         }
         number = number.saturating_add(1);
@@ -148,12 +149,12 @@ fn all_go<C: Course>(alloc: Global, courses: &[C]) -> Result<(), usize> {
     Ok(())
 }
 
-/// Whether all calls are answered as their rows say.
+/// Whether all calls have the replies of their rows.
 fn follows(alloc: Global, world: &mut World, rows: &[Row<'_>]) -> bool {
     follow_in(alloc, world, rows) == rows.len()
 }
 
-/// The image of the live tree. It ensures nothing, as `path`.
+/// The image of the live tree. It has no postcondition, as `path`.
 fn image_now(alloc: Global, world: &World) -> Result<Vec<u8>, NoMemory> {
     image_of(alloc, world.live())
 }
@@ -166,7 +167,7 @@ fn has_image(alloc: Global, world: &World, wanted: &[u8]) -> bool {
     }
 }
 
-/// The text with a slash and a name of one letter, so many times, after it.
+/// The text followed by a slash and a name of one letter, that many times.
 fn longer(alloc: Global, text: &str, letter: &str, count: u32) -> Result<String, AllocError> {
     let mut longer = String::from_str(alloc, text)?;
     longer.push_str("/")?;
@@ -176,7 +177,7 @@ fn longer(alloc: Global, text: &str, letter: &str, count: u32) -> Result<String,
     Ok(longer)
 }
 
-/// A parent that is absent is another fault than a parent that is a file.
+/// An absent parent is another error than a parent that is a file.
 const PARENTS: &[Row<'static>] = &[
     (
         SampleCall::Mkdir("/x/y"),
@@ -189,7 +190,7 @@ const PARENTS: &[Row<'static>] = &[
     ),
 ];
 
-/// A name that begins as the removed one is not below it.
+/// A path that has the removed one's text as a prefix is not below it.
 const BELOW: &[Row<'static>] = &[
     (SampleCall::Mkdir("/a"), ExpectedReply::Done),
     (SampleCall::Create("/a/x"), ExpectedReply::Done),
@@ -229,7 +230,7 @@ const CUT: &[Row<'static>] = &[
     ),
 ];
 
-/// A directory is not moved below itself, and onto itself it stays.
+/// A directory is not moved below itself, and moving it to itself changes nothing.
 const ITSELF: &[Row<'static>] = &[
     (SampleCall::Mkdir("/a"), ExpectedReply::Done),
     (SampleCall::Mkdir("/a/b"), ExpectedReply::Done),
@@ -244,7 +245,7 @@ const ITSELF: &[Row<'static>] = &[
     ),
 ];
 
-/// A directory replaces an empty directory alone.
+/// A directory replaces only an empty directory.
 const EMPTY: &[Row<'static>] = &[
     (SampleCall::Mkdir("/p"), ExpectedReply::Done),
     (SampleCall::Mkdir("/q"), ExpectedReply::Done),
@@ -266,7 +267,7 @@ const EMPTY: &[Row<'static>] = &[
     ),
 ];
 
-/// Nothing is moved onto a directory that holds it, nor the root anywhere.
+/// Nothing is moved to a directory that contains it, nor the root anywhere.
 const HOLDERS: &[Row<'static>] = &[
     (SampleCall::Mkdir("/a"), ExpectedReply::Done),
     (SampleCall::Create("/a/f"), ExpectedReply::Done),
@@ -303,11 +304,11 @@ const LISTED: ExpectedReply<'static> = ExpectedReply::Names(&[(Kind::File, "x")]
 
 const RESTORED: &[Row<'static>] = &[(SampleCall::Readdir("/a"), LISTED)];
 
-/// A snapshot keeps what the live tree loses, and gives it back.
+/// A snapshot keeps what the live tree loses, and restores it.
 struct Keeping;
 
-impl Course for Keeping {
-    fn goes(&self, alloc: Global, world: &mut World) -> bool {
+impl WorldTest for Keeping {
+    fn passes(&self, alloc: Global, world: &mut World) -> bool {
         follows(alloc, world, BEFORE)
             && fault_of(alloc, world, Snap::Keep("s")).is_none()
             && follows(alloc, world, BEHIND)
@@ -319,10 +320,10 @@ impl Course for Keeping {
 
 #[test]
 fn snapshot_and_restore(rt: HostRuntime) {
-    assert!(rt; goes_anew(rt.alloc(), &Keeping));
+    assert!(rt; passes_on_new_world(rt.alloc(), &Keeping));
 }
 
-/// A file that is moved onto a longer one leaves none of its bytes, also where the file grows again.
+/// A file that replaces a longer one has none of its bytes, also after it is extended.
 const LONGER: &[Row<'static>] = &[
     (SampleCall::Create("/f"), ExpectedReply::Done),
     (SampleCall::Write("/f", 0, &[0xaa]), ExpectedReply::Count(1)),
@@ -370,7 +371,7 @@ const KINDS: &[Row<'static>] = &[
     (SampleCall::Read("/f", 9, 1), ExpectedReply::Data(&[])),
 ];
 
-/// Texts that are no paths.
+/// Texts that are not paths.
 const NO_PATHS: &[Row<'static>] = &[
     (
         SampleCall::Stat("/a//b"),
@@ -383,11 +384,11 @@ const NO_PATHS: &[Row<'static>] = &[
     (SampleCall::Stat(""), ExpectedReply::Fault(Errno::ENOENT)),
 ];
 
-/// How many letters a name has, and whether it can be made or is refused.
+/// The number of letters of a name, and whether it can be created or fails.
 struct Name(u32, ExpectedReply<'static>);
 
-impl Course for Name {
-    fn goes(&self, alloc: Global, world: &mut World) -> bool {
+impl WorldTest for Name {
+    fn passes(&self, alloc: Global, world: &mut World) -> bool {
         match longer(alloc, "", "n", self.0) {
             Ok(text) => is_answered(alloc, world, &(SampleCall::Create(text.as_str()), self.1)),
             Err(_) => false,
@@ -403,10 +404,10 @@ const LONGEST: &[Name] = &[
 
 #[test]
 fn longest_name(rt: HostRuntime) -> Result<(), usize> {
-    all_go(rt.alloc(), LONGEST)
+    all_pass(rt.alloc(), LONGEST)
 }
 
-/// Makes a directory; whether it is done.
+/// Creates a directory; returns whether it succeeds.
 fn makes(alloc: Global, world: &mut World, text: &str) -> bool {
     is_answered(
         alloc,
@@ -415,7 +416,7 @@ fn makes(alloc: Global, world: &mut World, text: &str) -> bool {
     )
 }
 
-/// Makes four directories in one another below `/a`, each with a name of 254 letters; the deepest text.
+/// Creates four directories, each in the one before, below `/a`, with names of 254 letters; returns the deepest text.
 fn deepest_text_in(alloc: Global, world: &mut World) -> Option<String> {
     let mut at = String::from_str(alloc, "/a").ok()?;
     for _ in 0..4 {
@@ -427,7 +428,7 @@ fn deepest_text_in(alloc: Global, world: &mut World) -> Option<String> {
     Some(at)
 }
 
-/// Whether the deepest text has so many bytes.
+/// Whether the deepest text has that many bytes.
 fn is_deep(alloc: Global, world: &mut World, wanted: usize) -> bool {
     match deepest_text_in(alloc, world) {
         Some(text) => text.len() == wanted,
@@ -443,21 +444,21 @@ const DEEP: &[Row<'static>] = &[
     (SampleCall::Rename("/a", "/ab"), ExpectedReply::Done),
 ];
 
-/// A subtree whose deepest text has 1,022 bytes can be moved to a name one byte longer, and no further.
+/// A subtree whose deepest text has 1,022 bytes can be moved to a name one byte longer, and not to a longer one.
 struct Deepest;
 
-impl Course for Deepest {
-    fn goes(&self, alloc: Global, world: &mut World) -> bool {
+impl WorldTest for Deepest {
+    fn passes(&self, alloc: Global, world: &mut World) -> bool {
         makes(alloc, world, "/a") && is_deep(alloc, world, 1022) && follows(alloc, world, DEEP)
     }
 }
 
 #[test]
 fn deepest_text(rt: HostRuntime) {
-    assert!(rt; goes_anew(rt.alloc(), &Deepest));
+    assert!(rt; passes_on_new_world(rt.alloc(), &Deepest));
 }
 
-/// Why a snapshot of the name with a number is refused; none where it is kept.
+/// The error of taking the snapshot of the name with a number; `None` if it is taken.
 fn fault_of_number(alloc: Global, world: &mut World, number: u32) -> Option<Errno> {
     match format!(in alloc; "s{number}") {
         Ok(name) => fault_of(alloc, world, Snap::Keep(name.as_str())),
@@ -465,7 +466,7 @@ fn fault_of_number(alloc: Global, world: &mut World, number: u32) -> Option<Errn
     }
 }
 
-/// Calls on snapshots where 64 of them are kept, and why each is refused.
+/// Snapshot calls if there are 64 snapshots, and the error of each.
 const SNAPSHOTS: &[(Snap<'static>, Option<Errno>)] = &[
     (Snap::Keep("s65"), Some(Errno::ENOSPC)),
     (Snap::Keep("s1"), Some(Errno::EEXIST)),
@@ -475,7 +476,7 @@ const SNAPSHOTS: &[(Snap<'static>, Option<Errno>)] = &[
     (Snap::Restore("zz"), Some(Errno::ENOENT)),
 ];
 
-/// Whether the calls on snapshots come out as their rows say.
+/// Whether the snapshot calls have the results of their rows.
 fn follows_snapshots(alloc: Global, world: &mut World) -> bool {
     for (snap, wanted) in SNAPSHOTS {
         if fault_of(alloc, world, *snap) != *wanted {
@@ -485,11 +486,11 @@ fn follows_snapshots(alloc: Global, world: &mut World) -> bool {
     true
 }
 
-/// 64 snapshots are kept and no more, and a name that is dropped is free again.
+/// At most 64 snapshots are taken, and a name that is dropped is free again.
 struct Most;
 
-impl Course for Most {
-    fn goes(&self, alloc: Global, world: &mut World) -> bool {
+impl WorldTest for Most {
+    fn passes(&self, alloc: Global, world: &mut World) -> bool {
         for number in 1u32..65 {
             if fault_of_number(alloc, world, number).is_some() {
                 return false;
@@ -501,7 +502,7 @@ impl Course for Most {
 
 #[test]
 fn most_snapshots(rt: HostRuntime) {
-    assert!(rt; goes_anew(rt.alloc(), &Most));
+    assert!(rt; passes_on_new_world(rt.alloc(), &Most));
 }
 
 const NESTED: &[Row<'static>] = &[
@@ -512,8 +513,8 @@ const NESTED: &[Row<'static>] = &[
 /// A table of calls, with what it shows.
 struct Table(&'static str, &'static [Row<'static>]);
 
-impl Course for Table {
-    fn goes(&self, alloc: Global, world: &mut World) -> bool {
+impl WorldTest for Table {
+    fn passes(&self, alloc: Global, world: &mut World) -> bool {
         follows(alloc, world, self.1)
     }
 }
@@ -530,10 +531,10 @@ const TABLES: &[Table] = &[
     Table("no paths", NO_PATHS),
 ];
 
-/// Whether all tables are answered as they say; the name of the first that is not.
+/// Whether all tables pass; otherwise the name of the first that fails.
 fn all_answered(alloc: Global) -> Result<(), &'static str> {
     for table in TABLES {
-        if !goes_anew(alloc, table) {
+        if !passes_on_new_world(alloc, table) {
             return Err(table.0);
         }
     }
@@ -545,17 +546,17 @@ fn answers_as_each_table_says(rt: HostRuntime) -> Result<(), &'static str> {
     all_answered(rt.alloc())
 }
 
-/// A table of calls, and the image that it comes to.
+/// A table of calls, and the image after them.
 struct Image(&'static [Row<'static>], &'static [u8]);
 
-impl Course for Image {
-    fn goes(&self, alloc: Global, world: &mut World) -> bool {
+impl WorldTest for Image {
+    fn passes(&self, alloc: Global, world: &mut World) -> bool {
         follows(alloc, world, self.0) && has_image(alloc, world, self.1)
     }
 }
 
-/// What was cut off reads as zeros once the file is longer again, and zeros stand in no line; the image has the root first, and each
-/// directory before what it holds.
+/// what was truncated reads as zeros after the file is extended again, and blocks of zeros have no line; the image begins with the
+/// root, and has each directory before its entries
 const IMAGES: &[Image] = &[
     Image(CUT, b"D / 0\nF /f 9000 0\nb 0 ffffffffff\n"),
     Image(&[], b"D / 0\n"),
@@ -563,6 +564,6 @@ const IMAGES: &[Image] = &[
 ];
 
 #[test]
-fn comes_to_each_image(rt: HostRuntime) -> Result<(), usize> {
-    all_go(rt.alloc(), IMAGES)
+fn has_each_image(rt: HostRuntime) -> Result<(), usize> {
+    all_pass(rt.alloc(), IMAGES)
 }

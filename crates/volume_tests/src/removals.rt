@@ -1,26 +1,27 @@
-//! How many nodes the trees of a volume have after files were removed: relief merges the nodes that removals leave nearly empty.
+//! Tests of the number of nodes of a volume's trees after files were removed: compaction merges the nodes that removals leave nearly
+//! empty.
 //!
-//! The measure is a new volume to which the same entries come. No function here ensures anything, so that no proof of a test reads the
-//! contract of a volume.
-use crate::asked::new_volume;
+//! The measure is a new volume with the same entries. No function here has a postcondition, so that the proofs of the tests do not
+//! unfold the contract of a volume.
 use crate::changes::{Change, outcome};
+use crate::requests::new_volume;
 use node::Shape;
 use std::alloc::Global;
 use volume::{Index, PathCall, Volume};
 
-/// How many files come.
+/// The number of files.
 const FILES: u32 = 4_000;
 
-/// How many nodes there may be for each node of a new tree of the same entries.
+/// The maximal number of nodes for each node of a new tree with the same entries.
 const MOST: u128 = 4;
 
-/// How many files are removed last.
+/// The number of files that are removed last.
 const FEW: usize = 40;
 
-/// How many places lie between two numbers in an order that looks random. It is a prime.
+/// The distance between two consecutive numbers in the pseudo-random order. It is a prime.
 const STRIDE: usize = 7_919;
 
-/// Does a change of the file with a number, and a step of relief for each tree.
+/// Makes a change of the file with a number, and a compaction step for each tree.
 fn change(alloc: Global, volume: &mut Volume, number: u32, change: Change<'_>) -> bool {
     let is_done = match format!(in alloc; "/d/f{number:05}") {
         Ok(text) => outcome(alloc, volume, text.as_str(), change, 0).is_ok(),
@@ -31,7 +32,7 @@ fn change(alloc: Global, volume: &mut Volume, number: u32, change: Change<'_>) -
     is_done
 }
 
-/// Does a change of each of these files.
+/// Makes a change of each of these files.
 fn change_all(alloc: Global, volume: &mut Volume, numbers: &[u32], of_each: Change<'_>) -> bool {
     for number in numbers {
         if !change(alloc, volume, *number, of_each) {
@@ -41,7 +42,7 @@ fn change_all(alloc: Global, volume: &mut Volume, numbers: &[u32], of_each: Chan
     true
 }
 
-/// Moves the file with each number over the next one.
+/// Renames the file with each number to the next one.
 fn move_all(alloc: Global, volume: &mut Volume, numbers: &[u32]) -> bool {
     for number in numbers {
         let is_done = match format!(in alloc; "/d/f{:05}", number.saturating_add(1)) {
@@ -55,7 +56,7 @@ fn move_all(alloc: Global, volume: &mut Volume, numbers: &[u32]) -> bool {
     true
 }
 
-/// Does all that is pending.
+/// Compacts until nothing is pending.
 fn settle(alloc: Global, volume: &mut Volume) -> bool {
     for _ in 0..1_000_000 {
         if volume.compact_step(alloc).is_none() {
@@ -65,12 +66,12 @@ fn settle(alloc: Global, volume: &mut Volume) -> bool {
     false
 }
 
-/// How many nodes the tree of an index has: the root, and a child in each slot.
+/// The number of nodes of an index's tree: the root, and the child in each slot.
 fn nodes(volume: &Volume, index: Index) -> u128 {
     volume.shape_report(index).slots.saturating_add(1)
 }
 
-/// Makes the directory and these files, each with a block.
+/// Creates the directory and these files, each with a block.
 fn make(alloc: Global, volume: &mut Volume, numbers: &[u32]) -> bool {
     outcome(alloc, volume, "/d", Change::Path(PathCall::Mkdir), 0).is_ok()
         && change_all(alloc, volume, numbers, Change::Path(PathCall::Create))
@@ -83,7 +84,7 @@ fn are_few(volume: &Volume, fresh: &Volume) -> bool {
         && nodes(volume, Index::Block) <= nodes(fresh, Index::Block).saturating_mul(MOST)
 }
 
-/// Whether a volume, which has these files, has few nodes for them once nothing is pending.
+/// Whether a volume with these files has few nodes for them once nothing is pending.
 fn is_small(alloc: Global, volume: &mut Volume, shape: Shape, numbers: &[u32]) -> bool {
     match new_volume(alloc, shape) {
         Ok(mut fresh) => {
@@ -96,7 +97,7 @@ fn is_small(alloc: Global, volume: &mut Volume, shape: Shape, numbers: &[u32]) -
     }
 }
 
-/// Half of the numbers: each second one from this on.
+/// Half of the numbers: every second one from this on.
 fn every_second(alloc: Global, from: u32) -> Option<Vec<u32>> {
     let mut numbers = Vec::new(alloc);
     for i in 0..FILES / 2 {
@@ -105,7 +106,7 @@ fn every_second(alloc: Global, from: u32) -> Option<Vec<u32>> {
     Some(numbers)
 }
 
-/// The numbers in an order that looks random: each is taken so many places behind the last one, and the list is a ring.
+/// The numbers in a pseudo-random order: each is a fixed distance after the one before, in a ring.
 fn mixed(alloc: Global, numbers: &[u32]) -> Option<Vec<u32>> {
     let mut order = Vec::new(alloc);
     let mut at = 0usize;
@@ -116,7 +117,7 @@ fn mixed(alloc: Global, numbers: &[u32]) -> Option<Vec<u32>> {
     Some(order)
 }
 
-/// Removes these files but for a few, and then those, and looks at the nodes each time.
+/// Removes these files except for a few, and then those, and counts the nodes each time.
 fn remove_all(alloc: Global, volume: &mut Volume, shape: Shape, files: &[u32]) -> bool {
     let (most, last) = files.split_at(files.len().saturating_sub(FEW));
     change_all(alloc, volume, most, Change::Path(PathCall::Unlink))
@@ -125,7 +126,7 @@ fn remove_all(alloc: Global, volume: &mut Volume, shape: Shape, files: &[u32]) -
         && is_small(alloc, volume, shape, &[])
 }
 
-/// Removes the files of the first half in order, and then the others in an order that looks random.
+/// Removes the files of the first half in order, and then the others in a pseudo-random order.
 fn remove(alloc: Global, volume: &mut Volume, shape: Shape, files: &[u32]) -> bool {
     let (first, others) = files.split_at(files.len() / 2);
     if !change_all(alloc, volume, first, Change::Path(PathCall::Unlink))
@@ -139,8 +140,8 @@ fn remove(alloc: Global, volume: &mut Volume, shape: Shape, files: &[u32]) -> bo
     }
 }
 
-/// Makes files, moves every second over the next one, and removes them all.
-fn come_and_go(alloc: Global, volume: &mut Volume, shape: Shape) -> bool {
+/// Creates files, renames every second one to the next, and removes them all.
+fn create_and_remove(alloc: Global, volume: &mut Volume, shape: Shape) -> bool {
     match (every_second(alloc, 0), every_second(alloc, 1)) {
         (Some(moved), Some(left)) => {
             make(alloc, volume, moved.as_slice())
@@ -158,8 +159,8 @@ fn come_and_go(alloc: Global, volume: &mut Volume, shape: Shape) -> bool {
     }
 }
 
-/// Makes directories, which then go in order.
-fn directories_go(alloc: Global, volume: &mut Volume, shape: Shape) -> bool {
+/// Creates directories, and then removes them in order.
+fn remove_directories(alloc: Global, volume: &mut Volume, shape: Shape) -> bool {
     match every_second(alloc, 0) {
         Some(numbers) => {
             change_all(
@@ -182,7 +183,8 @@ fn directories_go(alloc: Global, volume: &mut Volume, shape: Shape) -> bool {
 fn stays_small(alloc: Global, shape: Shape) -> bool {
     match new_volume(alloc, shape) {
         Ok(mut volume) => {
-            come_and_go(alloc, &mut volume, shape) && directories_go(alloc, &mut volume, shape)
+            create_and_remove(alloc, &mut volume, shape)
+                && remove_directories(alloc, &mut volume, shape)
         }
         Err(_) => false,
     }

@@ -1,5 +1,5 @@
-//! What a volume tells of its trees, and what a tree that stands still tells.
-use crate::asked::{SMALL, USUAL, answers, freeze, frozen, new_volume, tells};
+//! Tests of what a volume reports of its trees, and of frozen trees.
+use crate::requests::{SMALL, USUAL, answers, freeze, frozen, new_volume, replies_frozen};
 use node::{Place, Shape, StepKind, TreeStep};
 use pathkey::Errno;
 use reference::Kind;
@@ -21,7 +21,7 @@ pub fn first_leaf(index: Index) -> Step {
     at_first_slot(index, StepKind::FlushLeaf)
 }
 
-/// How many messages wait in an index, if there is a flush for them.
+/// The number of pending messages in an index, if there is a flush for them.
 fn waiting(volume: &Volume, index: Index) -> u128 {
     match volume.heaviest(index) {
         Some(_) => volume.pending(index),
@@ -29,7 +29,8 @@ fn waiting(volume: &Volume, index: Index) -> u128 {
     }
 }
 
-/// Whether each index is told of by itself: the root, a file and its length wait in one, its bytes in the other.
+/// Whether the report of each index is separate: the root, a file and its length are pending in one, its bytes in the
+/// other.
 fn is_reported_of(alloc: Global, volume: &mut Volume) -> bool {
     answers(alloc, volume, SampleCall::Create("/f"), ExpectedReply::Done)
         && waiting(volume, Index::Meta) == 2
@@ -43,7 +44,7 @@ fn is_reported_of(alloc: Global, volume: &mut Volume) -> bool {
         && waiting(volume, Index::Block) == 1
 }
 
-/// Whether each index of a new volume is told of by itself.
+/// Whether the report of each index of a new volume is separate.
 fn new_is_reported_of(alloc: Global) -> bool {
     match new_volume(alloc, SMALL) {
         Ok(mut volume) => is_reported_of(alloc, &mut volume),
@@ -56,7 +57,7 @@ fn each_index_is_reported_of(rt: HostRuntime) {
     assert!(rt; new_is_reported_of(rt.alloc()));
 }
 
-/// Whether relief takes this index, once a file is made and bytes are written.
+/// Whether compaction chooses this index, after a file is created and bytes are written.
 fn is_relieved(alloc: Global, volume: &mut Volume, bytes: &[u8], index: Index) -> bool {
     let count = bytes.len() as u64;
     answers(alloc, volume, SampleCall::Create("/f"), ExpectedReply::Done)
@@ -69,7 +70,7 @@ fn is_relieved(alloc: Global, volume: &mut Volume, bytes: &[u8], index: Index) -
         && matches!(volume.compact_step(alloc), Some(relief) if relief.step.index == index)
 }
 
-/// Whether relief of a new volume takes this index, once a file is made and bytes are written.
+/// Whether compaction of a new volume chooses this index, after a file is created and bytes are written.
 fn new_is_relieved(alloc: Global, bytes: &[u8], index: Index) -> bool {
     match new_volume(alloc, USUAL) {
         Ok(mut volume) => is_relieved(alloc, &mut volume, bytes, index),
@@ -77,7 +78,7 @@ fn new_is_relieved(alloc: Global, bytes: &[u8], index: Index) -> bool {
     }
 }
 
-/// The root and the file wait in the metadata, and each block in the other index.
+/// The root and the file are pending in the metadata, and each block in the other index.
 const RELIEVED: &[(&[u8], Index)] = &[
     (b"", Index::Meta),
     (&[0xaa; 4_096], Index::Meta),
@@ -98,20 +99,20 @@ fn relief_takes_the_index_in_which_more_waits(rt: HostRuntime) {
 
 /// Whether a tree has the file, with its byte.
 fn has_file(alloc: Global, tree: &Frozen) -> bool {
-    tells(
+    replies_frozen(
         alloc,
         tree,
         SampleCall::Readdir("/"),
         ExpectedReply::Names(&[(Kind::File, "f")]),
-    ) && tells(
+    ) && replies_frozen(
         alloc,
         tree,
         SampleCall::Read("/f", 0, 9),
         ExpectedReply::Data(b"\xaa"),
-    ) && tells(alloc, tree, SampleCall::Stat("/f"), ExpectedReply::File(1))
+    ) && replies_frozen(alloc, tree, SampleCall::Stat("/f"), ExpectedReply::File(1))
 }
 
-/// Whether the file goes from the live tree, and stays in one that stood before.
+/// Whether the file is removed from the live tree, and remains in one that was frozen before.
 fn stays_beside(alloc: Global, volume: &mut Volume, before: &Frozen) -> bool {
     answers(alloc, volume, SampleCall::Unlink("/f"), ExpectedReply::Done)
         && answers(
@@ -123,7 +124,7 @@ fn stays_beside(alloc: Global, volume: &mut Volume, before: &Frozen) -> bool {
         && has_file(alloc, before)
 }
 
-/// Whether a file is made, goes from the live tree, and stays in one that stood before.
+/// Whether a file is created, removed from the live tree, and remains in one that was frozen before.
 fn stays(alloc: Global, volume: &mut Volume) -> bool {
     if !answers(alloc, volume, SampleCall::Create("/f"), ExpectedReply::Done)
         || !answers(
@@ -141,7 +142,7 @@ fn stays(alloc: Global, volume: &mut Volume) -> bool {
     }
 }
 
-/// Whether a file of a new volume goes from the live tree, and stays in one that stood before.
+/// Whether a file of a new volume is removed from the live tree, and remains in one that was frozen before.
 fn new_stays(alloc: Global) -> bool {
     match new_volume(alloc, SMALL) {
         Ok(mut volume) => stays(alloc, &mut volume),
@@ -154,7 +155,7 @@ fn frozen_tree_stays(rt: HostRuntime) {
     assert!(rt; new_stays(rt.alloc()));
 }
 
-/// Why a new volume has no tree of a snapshot.
+/// The error of requesting a snapshot that a new volume does not have.
 fn fault_of_unknown(alloc: Global) -> Option<Errno> {
     match new_volume(alloc, SMALL) {
         Ok(volume) => frozen(alloc, &volume, "s").err(),
@@ -167,7 +168,7 @@ fn unknown_snapshot_is_refused(rt: HostRuntime) {
     assert_eq!(rt; fault_of_unknown(rt.alloc()), Some(Errno::ENOENT));
 }
 
-/// Fewer messages may wait than a node has slots.
+/// Fewer messages may be pending than a node has slots.
 const NARROW: Shape = Shape {
     fanout: 8,
     pending: 4,

@@ -1,6 +1,6 @@
-//! Lists of events.
-use crate::asked::{SMALL, Snap, new_volume, snap_name};
+//! Tests of runs of events, in a form that constant tables can contain.
 use crate::reported::{at_first_slot, first_leaf};
+use crate::requests::{SMALL, Snap, new_volume, snap_name};
 use jobs::Ticket;
 use node::{StepKind, StepReply};
 use pathkey::{Errno, SnapName};
@@ -8,39 +8,39 @@ use std::alloc::Global;
 use test_support::{ExpectedReply, SampleCall};
 use volume::{Answer, Event, FinishAnswer, Index, Step, TakeAnswer, Volume};
 
-/// What an event is to be, as a number or a text can say it.
+/// An event, in terms of numbers and texts.
 #[derive(Clone, Copy)]
 pub enum Act<'a> {
-    /// A file call at a moment.
+    /// A file call at a timestamp.
     Live(SampleCall<'a>, u64),
-    /// A call on snapshots.
+    /// A snapshot call.
     Snap(Snap<'a>),
     /// A tree step.
     Step(Step),
-    /// A taking at this slot of an index's root.
+    /// Takes a job at this slot of an index's root.
     Take(Index, u8),
-    /// The finishing of the job with this ticket.
+    /// Finishes the job with this ticket.
     Finish(u64),
 }
 
-/// What an event is to be, and what it is answered.
+/// An event, and its answer.
 #[derive(Clone, Copy)]
 pub enum Turn<'a> {
     /// A file call.
     Live(SampleCall<'a>, ExpectedReply<'a>),
-    /// A call on snapshots, and why it is refused, if it is.
+    /// A snapshot call, and its error, if it fails.
     Snap(Snap<'a>, Option<Errno>),
     /// The flush of the leaf below the root's first slot, and whether it is done.
     Flush(Index, bool),
-    /// A step at the root's first slot, which is done, and how many messages leave their slots at least and at most.
+    /// A step at the root's first slot, which is done, and the least and greatest number of messages that it moves.
     Step(Index, StepKind, u32, u32),
-    /// A taking at this slot of an index's root.
+    /// Takes a job at this slot of an index's root.
     Take(Index, u8, TakeAnswer),
-    /// The finishing of the job with this ticket.
+    /// Finishes the job with this ticket.
     Finish(u64, FinishAnswer),
 }
 
-/// A call on the snapshot of a name.
+/// The event of a snapshot call.
 fn snap_event(snap: Snap<'_>, name: SnapName) -> Event {
     match snap {
         Snap::Keep(_) => Event::Snapshot(name),
@@ -49,7 +49,7 @@ fn snap_event(snap: Snap<'_>, name: SnapName) -> Event {
     }
 }
 
-/// The event of a file call at a moment.
+/// The event of a file call at a timestamp.
 fn call_event(alloc: Global, ask: SampleCall<'_>, at: u64) -> Option<Event> {
     match ask.call(alloc) {
         Ok(call) => Some(Event::Call(call, at)),
@@ -57,7 +57,7 @@ fn call_event(alloc: Global, ask: SampleCall<'_>, at: u64) -> Option<Event> {
     }
 }
 
-/// The event of a call on snapshots.
+/// The event of a snapshot call.
 fn named_event(alloc: Global, snap: Snap<'_>) -> Option<Event> {
     match snap_name(alloc, snap.text()) {
         Ok(name) => Some(snap_event(snap, name)),
@@ -65,7 +65,7 @@ fn named_event(alloc: Global, snap: Snap<'_>) -> Option<Event> {
     }
 }
 
-/// The event of an act; none where memory is refused.
+/// The event; `None` if an allocation fails.
 fn event_of(alloc: Global, act: Act<'_>) -> Option<Event> {
     match act {
         Act::Live(ask, at) => call_event(alloc, ask, at),
@@ -77,7 +77,7 @@ fn event_of(alloc: Global, act: Act<'_>) -> Option<Event> {
 }
 
 impl<'a> Turn<'a> {
-    /// What its event is to be.
+    /// The event of a turn.
     fn act(&self) -> Act<'a> {
         match self {
             Turn::Live(ask, _) => Act::Live(*ask, 0),
@@ -90,7 +90,7 @@ impl<'a> Turn<'a> {
     }
 }
 
-/// Whether a call on snapshots was refused so.
+/// Whether a snapshot call has this result.
 fn is_settled(fault: Option<Errno>, settled: &Result<(), Errno>) -> bool {
     match settled {
         Ok(()) => fault.is_none(),
@@ -98,7 +98,7 @@ fn is_settled(fault: Option<Errno>, settled: &Result<(), Errno>) -> bool {
     }
 }
 
-/// Whether a step was done, and so many messages have left their slots.
+/// Whether a step was done, and moved a number of messages within the bounds.
 fn is_done(least: u32, most: u32, reply: StepReply) -> bool {
     match reply {
         StepReply::Did(count) => least <= count && count <= most,
@@ -119,7 +119,7 @@ pub fn is_answer(turn: &Turn<'_>, answer: &Answer) -> bool {
     }
 }
 
-/// Puts the event of an act behind others, and says whether that was done.
+/// Appends the event to the others, and returns whether that succeeded.
 pub fn add(alloc: Global, events: &mut Vec<Event>, act: Act<'_>) -> bool {
     match event_of(alloc, act) {
         Some(event) => events.push(event).is_ok(),
@@ -127,7 +127,7 @@ pub fn add(alloc: Global, events: &mut Vec<Event>, act: Act<'_>) -> bool {
     }
 }
 
-/// The events of turns, in their order; of those before one that has none.
+/// The events of turns, in order, up to the first that has none.
 pub fn events_of(alloc: Global, turns: &[Turn<'_>]) -> Vec<Event> {
     let mut events = Vec::new(alloc);
     for turn in turns {
@@ -138,13 +138,13 @@ pub fn events_of(alloc: Global, turns: &[Turn<'_>]) -> Vec<Event> {
     events
 }
 
-/// What a volume answers to events; nothing where memory is refused. It ensures nothing, so that no proof of a test reads what a
-/// run means.
+/// The answers of a volume to events; none if an allocation fails. It has no postcondition, so that the proofs of the tests do
+/// not unfold what a run does.
 pub fn run(alloc: Global, volume: &mut Volume, events: &[Event]) -> Option<Vec<Answer>> {
     volume.run(alloc, events).ok()
 }
 
-/// How many answers are those of the turns, before the first that is not.
+/// The number of answers that are those of the turns, before the first that is not.
 fn count_answers(turns: &[Turn<'_>], answers: &[Answer]) -> usize {
     let mut count = 0usize;
     for (turn, answer) in turns.iter().zip(answers.iter()) {
@@ -156,7 +156,7 @@ fn count_answers(turns: &[Turn<'_>], answers: &[Answer]) -> usize {
     count
 }
 
-/// How many answers a run has, and how many of them are those of the turns, before the first that is not.
+/// The number of answers of a run, and how many of them are those of the turns, before the first that is not.
 fn answered_in(alloc: Global, volume: &mut Volume, turns: &[Turn<'_>]) -> (usize, usize) {
     let events = events_of(alloc, turns);
     match run(alloc, volume, events.as_slice()) {
@@ -165,7 +165,8 @@ fn answered_in(alloc: Global, volume: &mut Volume, turns: &[Turn<'_>]) -> (usize
     }
 }
 
-/// How many answers a run in a new volume has, and how many of them are those of the turns, before the first that is not.
+/// The number of answers of a run in a new volume, and how many of them are those of the turns, before the first that is
+/// not.
 fn answered(alloc: Global, turns: &[Turn<'_>]) -> (usize, usize) {
     match new_volume(alloc, SMALL) {
         Ok(mut volume) => answered_in(alloc, &mut volume, turns),
@@ -201,7 +202,7 @@ const TURNS: &[Turn<'static>] = &[
     Turn::Snap(Snap::Restore("s"), Some(Errno::ENOENT)),
 ];
 
-/// A message is flushed, and none waits in the other index.
+/// A message is flushed, and none is pending in the other index.
 const FLUSHED: &[Turn<'static>] = &[
     Turn::Live(SampleCall::Mkdir("/a"), ExpectedReply::Done),
     Turn::Step(Index::Meta, StepKind::FlushLeaf, 1, u32::MAX),
@@ -209,7 +210,7 @@ const FLUSHED: &[Turn<'static>] = &[
     Turn::Live(SampleCall::Stat("/a"), ExpectedReply::Dir),
 ];
 
-/// Events are done in their order; where there are none there is no answer.
+/// Events are executed in order; without events there are no answers.
 const RUNS: &[(&str, &[Turn<'static>])] = &[
     ("turns", TURNS),
     ("flushed", FLUSHED),

@@ -1,16 +1,16 @@
-//! What looks random: file calls at few paths and their moments, calls on three snapshots, steps of all eight kinds.
-use crate::asked::Snap;
+//! Random events: file calls at few paths and their timestamps, calls on three snapshots, steps of all eight kinds.
+use crate::requests::Snap;
 use node::{Place, StepKind, TreeStep};
 use test_support::{Random, SampleCall};
 use volume::{Index, Step};
 
-/// Paths where directories come and go.
+/// Paths at which directories are created and removed.
 const DIRECTORIES: [&str; 16] = [
     "/a", "/a!", "/ab", "/b", "/a/a", "/a/b", "/a/c", "/a!/b", "/ab/a", "/b/a", "/b/ab", "/a/b/a",
     "/a/b/c", "/b/a/b", "/b/a/c", "/a/b/a/c",
 ];
 
-/// Paths where files come and go.
+/// Paths at which files are created and removed.
 const FILES: [&str; 12] = [
     "/f", "/f!", "/a/f", "/a/f!", "/ab/f", "/b/f", "/b/f!", "/a/b/f", "/a/b/f!", "/b/a/f",
     "/a!/b/f", "/a/b/a/f",
@@ -19,7 +19,7 @@ const FILES: [&str; 12] = [
 /// Names of snapshots.
 const SNAPSHOTS: [&str; 3] = ["s", "s.1", "T_-"];
 
-/// Places among a file's first bytes, at and beside the ends of its first two blocks, and behind the longest file.
+/// Offsets among a file's first bytes, at and next to the ends of its first two blocks, and after the longest file.
 const PLACES: [u64; 12] = [
     0,
     1,
@@ -50,8 +50,8 @@ const WRITTEN: [&[u8]; 8] = [
     &[0x7d; 8_200],
 ];
 
-/// Moments, the least and the greatest too.
-const MOMENTS: [u64; 6] = [0, 1, 2, 9, 1_700_000_000, u64::MAX];
+/// Timestamps, including the least and the greatest.
+const TIMESTAMPS: [u64; 6] = [0, 1, 2, 9, 1_700_000_000, u64::MAX];
 
 fn some_directory(random: &mut Random) -> &'static str {
     DIRECTORIES[random.below(16) as usize]
@@ -83,7 +83,7 @@ fn some_bytes(random: &mut Random) -> &'static [u8] {
     WRITTEN[random.below(8).min(random.below(8)) as usize]
 }
 
-/// A move, mostly of a directory to a directory's path or of a file to a file's.
+/// A rename, mostly of a directory to a directory's path or of a file to a file's.
 fn some_move(random: &mut Random) -> SampleCall<'static> {
     match random.below(8) {
         0..=2 => SampleCall::Rename(some_directory(random), some_directory(random)),
@@ -92,7 +92,7 @@ fn some_move(random: &mut Random) -> SampleCall<'static> {
     }
 }
 
-/// A call that changes a file or asks for its bytes.
+/// A call that changes a file or reads its bytes.
 fn some_file_call(random: &mut Random) -> SampleCall<'static> {
     let path = some_file(random);
     match random.below(16) {
@@ -104,7 +104,7 @@ fn some_file_call(random: &mut Random) -> SampleCall<'static> {
     }
 }
 
-/// A call that makes a directory, takes it out or asks what stands.
+/// A call that creates or removes a directory, or reads an entry.
 fn some_directory_call(random: &mut Random) -> SampleCall<'static> {
     let path = some_directory(random);
     match random.below(16) {
@@ -142,12 +142,12 @@ pub fn some_ask(random: &mut Random) -> SampleCall<'static> {
     }
 }
 
-/// The moment of a call, which may be below that of the call before.
-pub fn some_moment(random: &mut Random) -> u64 {
-    MOMENTS[random.below(6) as usize]
+/// The timestamp of a call, which may be below that of the call before.
+pub fn some_timestamp(random: &mut Random) -> u64 {
+    TIMESTAMPS[random.below(6) as usize]
 }
 
-/// A call on a snapshot: they are kept more often than dropped.
+/// A snapshot call: snapshots are taken more often than dropped.
 pub fn some_snap(random: &mut Random) -> Snap<'static> {
     let name = SNAPSHOTS[random.below(3) as usize];
     match random.below(4) {
@@ -166,7 +166,7 @@ pub fn some_index(random: &mut Random) -> Index {
     }
 }
 
-/// The place that up to three numbers of slots lead to, where a node may be.
+/// The node at which up to three slot indexes lead; it need not exist.
 fn somewhere(random: &mut Random) -> Place {
     let mut at = Place::root();
     for _ in 0..random.below(4) {
@@ -178,7 +178,7 @@ fn somewhere(random: &mut Random) -> Place {
     at
 }
 
-/// A kind of step. Those that make a tree lower come more often than those that make it higher.
+/// A kind of step. Those that make a tree lower are more frequent than those that make it higher.
 fn some_kind(random: &mut Random) -> StepKind {
     match random.below(20) {
         0..=3 => StepKind::FlushInner,
@@ -192,7 +192,7 @@ fn some_kind(random: &mut Random) -> StepKind {
     }
 }
 
-/// A step of some kind somewhere.
+/// A step of some kind at some node.
 pub fn some_step(random: &mut Random) -> Step {
     let step = TreeStep {
         kind: some_kind(random),

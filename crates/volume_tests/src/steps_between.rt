@@ -1,12 +1,12 @@
-//! Many files with steps of both trees between the calls: the answers are the same whatever steps are done.
-use crate::asked::{SMALL, answers, creates, new_volume};
+//! Tests of many files with steps of both trees between the calls: the answers are the same whichever steps are done.
+use crate::requests::{SMALL, answers, creates, new_volume};
 use node::StepReply;
 use reference::Kind;
 use std::alloc::Global;
 use test_support::{ExpectedReply, SampleCall};
 use volume::{Index, Step, Volume};
 
-/// The next step of an index: the heaviest flush, or what makes room where the step before had none.
+/// The next step of an index: the fullest flush, or a step that makes space if the one before did not fit.
 fn next(volume: &Volume, index: Index, refused: Option<Step>) -> Option<Step> {
     match refused {
         Some(step) => volume.make_room(step),
@@ -17,7 +17,7 @@ fn next(volume: &Volume, index: Index, refused: Option<Step>) -> Option<Step> {
     }
 }
 
-/// Tries a step; gives it back where it is refused.
+/// Tries a step, and returns it if it fails.
 fn refused(alloc: Global, volume: &mut Volume, step: Step) -> Option<Step> {
     match volume.step(alloc, step) {
         StepReply::Did(_) => None,
@@ -25,7 +25,7 @@ fn refused(alloc: Global, volume: &mut Volume, step: Step) -> Option<Step> {
     }
 }
 
-/// Tries at most so many steps of an index; how many were done.
+/// Tries at most that many steps of an index; returns how many were done.
 fn tidy(alloc: Global, volume: &mut Volume, index: Index, turns: u32) -> u32 {
     let mut last = None;
     let mut done = 0u32;
@@ -41,13 +41,13 @@ fn tidy(alloc: Global, volume: &mut Volume, index: Index, turns: u32) -> u32 {
     done
 }
 
-/// Tries at most so many steps of each index; how many were done.
+/// Tries at most that many steps of each index; returns how many were done.
 fn tidy_both(alloc: Global, volume: &mut Volume, turns: u32) -> u32 {
     let meta = tidy(alloc, volume, Index::Meta, turns);
     meta.saturating_add(tidy(alloc, volume, Index::Block, turns))
 }
 
-/// Creates 300 files below `/d`, with so many steps after each; how many were created.
+/// Creates 300 files below `/d`, with that many steps after each; returns how many were created.
 fn create_all(alloc: Global, volume: &mut Volume, turns: u32) -> u32 {
     let mut created = 0u32;
     for number in 0..300u32 {
@@ -65,7 +65,8 @@ const REMOVED: &[SampleCall<'static>] = &[
     SampleCall::Create("/d/n"),
 ];
 
-/// The directory goes and comes again with one file, with so many steps after each call; how many calls were done.
+/// Removes the directory and creates it again with one file, with that many steps after each call; returns how many
+/// calls succeeded.
 fn remove(alloc: Global, volume: &mut Volume, turns: u32) -> usize {
     let mut done = 0usize;
     for ask in REMOVED {
@@ -77,7 +78,7 @@ fn remove(alloc: Global, volume: &mut Volume, turns: u32) -> usize {
     done
 }
 
-/// Whether all of that is answered so, and the directory then has the one file.
+/// Whether all of these calls have their expected replies, and the directory then has the one file.
 fn is_reported(alloc: Global, volume: &mut Volume, turns: u32) -> bool {
     answers(alloc, volume, SampleCall::Mkdir("/d"), ExpectedReply::Done)
         && create_all(alloc, volume, turns) == 300
@@ -95,7 +96,7 @@ fn lists(alloc: Global, volume: &mut Volume) -> bool {
     )
 }
 
-/// How many of so many steps at the end are done, if all is answered as it should be and the one file stays.
+/// The number of steps that are done at the end, if all replies are as expected and the one file remains.
 fn reported_in(alloc: Global, volume: &mut Volume, turns: u32, last: u32) -> Option<u32> {
     let before = is_reported(alloc, volume, turns);
     let done = tidy_both(alloc, volume, last);
@@ -103,7 +104,7 @@ fn reported_in(alloc: Global, volume: &mut Volume, turns: u32, last: u32) -> Opt
     is_reported.then_some(done)
 }
 
-/// How many of so many steps at the end are done in a new volume, if all is answered as it should be.
+/// The number of steps that are done at the end in a new volume, if all replies are as expected.
 fn reported(alloc: Global, turns: u32, last: u32) -> Option<u32> {
     match new_volume(alloc, SMALL) {
         Ok(mut volume) => reported_in(alloc, &mut volume, turns, last),
@@ -111,17 +112,17 @@ fn reported(alloc: Global, turns: u32, last: u32) -> Option<u32> {
     }
 }
 
-/// After how many steps each call comes.
+/// The numbers of steps after each call.
 const TURNS: &[u32] = &[0, 1, 1_000];
 
 #[test]
-fn directory_comes_again_whatever_steps_are_done(rt: HostRuntime) {
+fn directory_is_created_again_whatever_steps_are_done(rt: HostRuntime) {
     for turns in TURNS {
         assert_eq!(rt; reported(rt.alloc(), *turns, 0), Some(0), "{turns}");
     }
 }
 
 #[test]
-fn directory_stands_after_many_steps(rt: HostRuntime) {
+fn directory_exists_after_many_steps(rt: HostRuntime) {
     assert!(rt; matches!(reported(rt.alloc(), 0, 1_000), Some(1..)));
 }

@@ -1,11 +1,11 @@
-//! The calls that have an answer of their own: each is done once, and refused once.
-use crate::asked::{USUAL, freeze, new_volume};
-use crate::changes::{Change, Row, goes};
+//! Tests of the typed calls: each succeeds once, and fails once.
+use crate::changes::{Change, Row, all_succeed};
+use crate::requests::{USUAL, freeze, new_volume};
 use std::alloc::Global;
 use test_support::ask::path;
 use volume::{Errno, Frozen, Kind, Path, PathCall, Volume};
 
-/// What is done in a new volume, in this order. The moments do not rise.
+/// The changes of a new volume, in this order. Their timestamps do not increase.
 const ROWS: &[Row] = &[
     (1, "/a", Change::Path(PathCall::Mkdir), Ok(0)),
     (2, "/a", Change::Path(PathCall::Create), Err(Errno::EEXIST)),
@@ -31,7 +31,7 @@ const ROWS: &[Row] = &[
     ),
 ];
 
-/// A tree goes with all below it.
+/// A directory is removed with everything below it.
 const WHOLE: &[Row] = &[
     (5, "/a", Change::Path(PathCall::Rmtree), Ok(0)),
     (5, "/a", Change::Path(PathCall::Rmtree), Err(Errno::ENOENT)),
@@ -56,37 +56,37 @@ fn is_listed(answer: Result<Vec<(Kind, Vec<u8>)>, Errno>, wanted: &[u8]) -> bool
     }
 }
 
-/// Whether a volume and its frozen tree tell of the file at a path.
-fn tell_file(alloc: Global, volume: &Volume, tree: &Frozen, file: &Path) -> bool {
+/// Whether a volume and its frozen tree report the file at a path.
+fn report_file(alloc: Global, volume: &Volume, tree: &Frozen, file: &Path) -> bool {
     is_read(volume.read(alloc, file, 0, 100), b"\0\0\0wor")
         && is_read(tree.try_read(alloc, file, 0, 100), b"\0\0\0wor")
         && volume.stat(alloc, file) == Ok((Kind::File, 6, 7))
 }
 
-/// Whether they tell of the directory at a path.
-fn tell_directory(alloc: Global, volume: &Volume, tree: &Frozen, directory: &Path) -> bool {
+/// Whether they report the directory at a path.
+fn report_directory(alloc: Global, volume: &Volume, tree: &Frozen, directory: &Path) -> bool {
     tree.try_stat(alloc, directory) == Ok((Kind::Dir, 0, 4))
         && is_listed(volume.readdir(alloc, directory), b"g")
         && is_listed(tree.try_readdir(alloc, directory), b"g")
 }
 
-/// Whether `/a/g` has these bytes, with its moment of last change, as all looks tell.
+/// Whether `/a/g` has these bytes and its mtime, according to all reads.
 fn has_file(alloc: Global, volume: &Volume, tree: &Frozen) -> bool {
     match path(alloc, "/a/g") {
-        Ok(file) => tell_file(alloc, volume, tree, &file),
+        Ok(file) => report_file(alloc, volume, tree, &file),
         Err(_) => false,
     }
 }
 
-/// Whether `/a` has that one file, with its moment of last change.
+/// Whether `/a` has that one file and its mtime.
 fn has_directory(alloc: Global, volume: &Volume, tree: &Frozen) -> bool {
     match path(alloc, "/a") {
-        Ok(directory) => tell_directory(alloc, volume, tree, &directory),
+        Ok(directory) => report_directory(alloc, volume, tree, &directory),
         Err(_) => false,
     }
 }
 
-/// Whether all looks tell what the rows left.
+/// Whether all reads report what the rows left.
 fn looks(alloc: Global, volume: &Volume) -> bool {
     match freeze(volume) {
         Ok(tree) => has_file(alloc, volume, &tree) && has_directory(alloc, volume, &tree),
@@ -94,12 +94,12 @@ fn looks(alloc: Global, volume: &Volume) -> bool {
     }
 }
 
-/// Whether all rows are answered, looks tell what they left, and the whole goes.
+/// Whether all rows pass, reads report what they left, and everything is removed.
 fn is_done(alloc: Global, volume: &mut Volume) -> bool {
-    goes(alloc, volume, ROWS) && looks(alloc, volume) && goes(alloc, volume, WHOLE)
+    all_succeed(alloc, volume, ROWS) && looks(alloc, volume) && all_succeed(alloc, volume, WHOLE)
 }
 
-fn is_done_anew(alloc: Global) -> bool {
+fn is_done_in_new(alloc: Global) -> bool {
     match new_volume(alloc, USUAL) {
         Ok(mut volume) => is_done(alloc, &mut volume),
         Err(_) => false,
@@ -108,5 +108,5 @@ fn is_done_anew(alloc: Global) -> bool {
 
 #[test]
 fn each_call_by_its_name(rt: HostRuntime) {
-    assert!(rt; is_done_anew(rt.alloc()));
+    assert!(rt; is_done_in_new(rt.alloc()));
 }

@@ -1,12 +1,13 @@
-//! Walks through a frozen tree: its entries from a path on, and the blocks of a file from a number on, so many at most.
-use crate::asked::{USUAL, freeze, new_volume};
-use crate::changes::{Change, Row, goes};
+//! Tests of walks through a frozen tree: its entries from a path on, and the blocks of a file from a number on, with a
+//! limit.
+use crate::changes::{Change, Row, all_succeed};
+use crate::requests::{USUAL, freeze, new_volume};
 use pathkey::NoMemory;
 use std::alloc::Global;
 use test_support::ask::path;
 use volume::{Block, Frozen, Meta, Path, PathCall, Volume};
 
-/// A directory with a file of three blocks, of which the second is a hole, and an empty file beside the directory.
+/// A directory with a file of three blocks, of which the second is a hole, and an empty file next to the directory.
 const FILLED: &[Row] = &[
     (1, "/a", Change::Path(PathCall::Mkdir), Ok(0)),
     (2, "/a/f", Change::Path(PathCall::Create), Ok(0)),
@@ -15,10 +16,10 @@ const FILLED: &[Row] = &[
     (5, "/a/f", Change::Write(8192, "three"), Ok(5)),
 ];
 
-/// The directory goes, with all below it.
+/// The directory is removed, with everything below it.
 const EMPTIED: &[Row] = &[(9, "/a", Change::Path(PathCall::Rmtree), Ok(0))];
 
-/// An entry: a text of its path, and what is told of it.
+/// An entry: the text of its path, and its metadata.
 type Entry = (&'static str, Meta);
 
 const ROOT: Entry = ("/", Meta::Dir { modified: 3 });
@@ -60,7 +61,7 @@ fn are_entries(alloc: Global, entries: &[(Path, Meta)], wanted: &[Entry]) -> boo
     true
 }
 
-/// The entries from a path on. It ensures nothing, so that no proof of a test reads what a tree is.
+/// The entries from a path on. It has no postcondition, so that the proofs of the tests do not unfold what a tree is.
 fn entries(
     alloc: Global,
     tree: &Frozen,
@@ -70,7 +71,7 @@ fn entries(
     tree.entries(alloc, from, limit)
 }
 
-/// Where a walk begins, how many entries it lists at most, and which.
+/// The path where a walk begins, its limit, and its entries.
 type Walk = (&'static str, usize, &'static [Entry]);
 
 const WALKS: &[Walk] = &[
@@ -97,7 +98,7 @@ fn is_walked(alloc: Global, tree: &Frozen, walk: Walk) -> bool {
     }
 }
 
-/// A block: its number, and what is stored of it.
+/// A block: its number, and its stored bytes.
 type Stored = (u32, &'static str);
 
 fn are_blocks(blocks: &[(u32, Block)], wanted: &[Stored]) -> bool {
@@ -112,7 +113,7 @@ fn are_blocks(blocks: &[(u32, Block)], wanted: &[Stored]) -> bool {
     true
 }
 
-/// The blocks of a file from a number on. It ensures nothing either.
+/// The blocks of a file from a number on. It has no postcondition either.
 fn blocks(
     alloc: Global,
     tree: &Frozen,
@@ -123,7 +124,7 @@ fn blocks(
     tree.blocks(alloc, of, from, limit)
 }
 
-/// Of which file blocks are listed, from which number on, how many at most, and which.
+/// The file whose blocks are listed, the number from which on, the limit, and the blocks.
 type Listing = (&'static str, u32, usize, &'static [Stored]);
 
 const FIRST: Stored = (0, "one");
@@ -174,25 +175,25 @@ fn are_listed(alloc: Global, tree: &Frozen) -> bool {
     true
 }
 
-/// Whether a frozen tree is walked so, though its volume goes on.
-fn goes_on(alloc: Global, volume: &mut Volume, tree: &Frozen) -> bool {
-    goes(alloc, volume, EMPTIED) && are_walked(alloc, tree) && are_listed(alloc, tree)
+/// Whether walks of a frozen tree are as expected, though its volume changes.
+fn is_unchanged(alloc: Global, volume: &mut Volume, tree: &Frozen) -> bool {
+    all_succeed(alloc, volume, EMPTIED) && are_walked(alloc, tree) && are_listed(alloc, tree)
 }
 
-/// Whether the live tree is walked as it should be once it is frozen, though its volume goes on.
+/// Whether walks of the live tree are as expected after it is frozen, though its volume changes.
 fn freezes(alloc: Global, volume: &mut Volume) -> bool {
     match freeze(volume) {
-        Ok(tree) => goes_on(alloc, volume, &tree),
+        Ok(tree) => is_unchanged(alloc, volume, &tree),
         Err(_) => false,
     }
 }
 
-/// Whether the files are made in a volume, and its tree is then walked as it should be once it is frozen.
+/// Whether the files are created in a volume, and walks of its tree are as expected after it is frozen.
 fn is_reported(alloc: Global, volume: &mut Volume) -> bool {
-    goes(alloc, volume, FILLED) && freezes(alloc, volume)
+    all_succeed(alloc, volume, FILLED) && freezes(alloc, volume)
 }
 
-fn is_reported_anew(alloc: Global) -> bool {
+fn is_reported_in_new(alloc: Global) -> bool {
     match new_volume(alloc, USUAL) {
         Ok(mut volume) => is_reported(alloc, &mut volume),
         Err(_) => false,
@@ -201,5 +202,5 @@ fn is_reported_anew(alloc: Global) -> bool {
 
 #[test]
 fn walks_through_a_frozen_tree(rt: HostRuntime) {
-    assert!(rt; is_reported_anew(rt.alloc()));
+    assert!(rt; is_reported_in_new(rt.alloc()));
 }

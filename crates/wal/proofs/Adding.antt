@@ -1,4 +1,4 @@
--- Lines that tell one change after the other.
+-- Lines that represent one change after the other.
 use Rattle.std.proofs.Common.{◌≡◌, ◌≢◌, inl, inr, ℕ, zero, suc, ◌+◌, ◌<◌, List, [], ◌∷◌, ◌++◌, length, get_or, map, take, drop, true, refl, sym, ap, subst, ◌∙◌, append_assoc, append-nil, arith, take-append-drop}
 use Rattle.std.specs.List.{AllByRecursion}
 use Rattle.std.proofs.lemmas.Grind.{flat_map-append}
@@ -30,7 +30,7 @@ added_line t ts a b c one two =
     two ∙ ap (λ (l : Text). l ++ line t) one ∙ append_assoc a (script ts) (line t)
     ∙ ap (λ (l : Text). a ++ l) (ap (λ (l : Text). script ts ++ l) (sym (append-nil (line t))) ∙ sym (flat_map-append line ts (t ∷ [])))
 
--- told by one line
+-- a change that is one line
 pub adds_one : (c : WalEntry) (a b : Text) → Tells c (Makes c ∷ []) → AddsLine (Makes c) a b → Adds c a b
 adds_one c a b tells one = record {
   lines = Makes c ∷ [];
@@ -39,7 +39,7 @@ adds_one c a b tells one = record {
   added = one.added ∙ ap (λ (l : Text). a ++ l) (sym (append-nil (line (Makes c))));
 }
 
--- told by the line of its moment and its own
+-- a change that is the line of its timestamp and its own line
 pub adds_two : (c : WalEntry) (n : ℕ) (a b d : Text) → Tells c (At n ∷ Makes c ∷ []) → AddsLine (At n) a b → AddsLine (Makes c) b d → Adds c a d
 adds_two c n a b d tells one two = record {
   lines = At n ∷ Makes c ∷ [];
@@ -48,7 +48,7 @@ adds_two c n a b d tells one two = record {
   added = added_line (Makes c) (At n ∷ []) a b d (one.added ∙ ap (λ (l : Text). a ++ l) (sym (append-nil (line (At n))))) two.added;
 }
 
--- a write is told by the line of its moment and those of its parts
+-- a write is the line of its timestamp and the lines of its parts
 pub adds_write : (p : Path) (off : ℕ) (w : List ℕ) (n : ℕ) (a b d : Text) → AddsLine (At n) a b → AddsParts p off w n b d → Adds (Write p off w n) a d
 adds_write p off w n a b d one parts = record {
   lines = At n ∷ map Makes parts.writes;
@@ -59,7 +59,8 @@ adds_write p off w n a b d one parts = record {
 
 -- ---- parts of a write
 
--- lines of writes were added that lay the bytes up to a place; if there are bytes, each of the writes has some, and the rest has some
+-- lines were added for writes of the bytes up to a position; if there are bytes, none of these writes is empty, and the rest is not
+-- empty
 pub record Partly (p : Path) (off : ℕ) (w : List ℕ) (at : ℕ) (from : ℕ) (rest : List ℕ) (old new : Text) : Type 0 where
   pub writes : List WalEntry
   pub others : (cs : List WalEntry) → AreParts p from rest at cs → AreParts p off w at (writes ++ cs)
@@ -79,13 +80,13 @@ map_more : (cs : List WalEntry) (c : WalEntry) → map Makes (cs ++ c ∷ []) �
 map_more [] c = refl
 map_more (d ∷ cs) c = ap (λ (ts : List DumpLine). Makes d ∷ ts) (map_more cs c)
 
--- of what is left, some bytes are some
+-- a part of nonempty bytes is not empty
 pub part_some : (rest part : List ℕ) (n : ℕ) → part ≡ take n rest → (length rest ≢ 0 → 0 < n) → rest ≢ [] → part ≢ []
 part_some [] part n is some there none = there refl
 part_some (x ∷ rest) part zero is some there none = let some_one : length (x ∷ rest) ≢ 0 = omega arith in let h = some some_one in absurd (omega (arith, h))
 part_some (x ∷ rest) part (suc n) is some there none = let e : x ∷ take n rest ≡ [] = sym is ∙ none in cc
 
--- what is left, cut in two
+-- the rest is a part and the bytes after it
 pub rest_cut : (rest part behind : List ℕ) (n : ℕ) → part ≡ take n rest → behind ≡ drop n rest → rest ≡ part ++ behind
 rest_cut rest part behind n front back = sym (take-append-drop n rest) ∙ ap (λ (x : List ℕ). x ++ drop n rest) (sym front) ∙ ap (λ (x : List ℕ). part ++ x) (sym back)
 
@@ -112,7 +113,7 @@ module _ (p : Path) (off : ℕ) (w : List ℕ) (at from : ℕ) (rest part behind
     added = more_added;
   }
 
-  -- the last
+  -- the last part
   pub parts_all : behind ≡ [] → AddsParts p off w at a c
   parts_all none = record {
     writes = so_far.writes ++ this ∷ [];
@@ -140,7 +141,7 @@ adds_more cs c a b d all one = record {
 pub adds_next : (cs : List WalEntry) (i : ℕ) (c : WalEntry) (a b d : Text) → i < length cs → c ≡ get_or cs i c → AddsAll (take i cs) a b → Adds c b d → AddsAll (take (i + 1) cs) a d
 adds_next cs i c a b d lt is all one = subst (λ (xs : List WalEntry). AddsAll xs a d) (sym (take_more cs i c lt ∙ ap (λ (x : WalEntry). take i cs ++ x ∷ []) (sym is))) (adds_more (take i cs) c a b d all one)
 
--- a change that reaches too far
+-- a change that ends too far
 pub far_there : (cs : List WalEntry) (i : ℕ) (c : WalEntry) → i < length cs → c ≡ get_or cs i c → exceeds_range c ≡ true → HasFar cs
 far_there [] i c lt e h = absurd (omega (arith, lt))
 far_there (d ∷ cs) zero c lt e h = inl (subst (λ (x : WalEntry). exceeds_range x ≡ true) e h)

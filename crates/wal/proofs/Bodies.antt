@@ -1,4 +1,4 @@
--- Bodies of records: their changes are told by their bytes.
+-- Bodies of records: the bytes of a body determine its changes.
 use Rattle.std.proofs.Common.{◌≡◌, ⊎_elim, inl, inr, ℕ, ◌≤◌, List, [], ◌∷◌, ◌++◌, length, refl, ap, ap₂, sym, ◌∙◌, arith, append_assoc, append-nil, Result, Ok}
 use Rattle.std.specs.List.{AllByRecursion}
 use Rattle.std.proofs.lemmas.Grind.{flat_map-append}
@@ -18,7 +18,7 @@ use Rattle.wal.specs.Entries.{IsChange, IsEntryOf, IsHead, IsNoBody, IsNoEntry, 
 use Rattle.wal.proofs.Changes.{fit}
 use Rattle.wal.proofs.Cuts.{entry_once, shorter_behind}
 
--- ---- changes that were read so far
+-- ---- changes that were decoded so far
 
 pub body_more : (body rest behind : List ℕ) (cs : List WalEntry) (c : WalEntry) (h : EntryHeader) (f s : List ℕ) → body ≡ body_of cs ++ rest → rest ≡ entry h f s ++ behind → IsEntryOf h f s c
     → body ≡ body_of (cs ++ c ∷ []) ++ behind
@@ -28,9 +28,9 @@ body_more body rest behind cs c h f s before is reported =
     ∙ sym (append_assoc (body_of cs) (printed c) behind)
     ∙ ap (λ (x : List ℕ). x ++ behind) (ap (λ (x : List ℕ). body_of cs ++ x) (sym (append-nil (printed c))) ∙ sym (flat_map-append printed cs (c ∷ [])))
 
--- ---- changes that bytes would have to be
+-- ---- the changes that the bytes encode, if they are a body
 
--- where the whole is the body of changes, so is the rest
+-- if the whole is the body of some changes, so is the rest
 pub Continues : List ℕ → List ℕ → Type 0
 Continues body rest = (cs : List WalEntry) → AllByRecursion IsChange cs → body ≡ body_of cs → (ds : List WalEntry) × AllByRecursion IsChange ds × (rest ≡ body_of ds)
 
@@ -46,7 +46,7 @@ record Leads (h : EntryHeader) (f s behind : List ℕ) : Type 0 where
   reported : IsEntryOf h f s d
   same : behind ≡ body_of ds
 
--- the first change is that of the entry, and the others are behind it
+-- the first change is that of the first entry, and the other changes are those of the bytes after it
 leads : (h : EntryHeader) (f s behind rest : List ℕ) (ds : List WalEntry) → IsHead h → IsWord (length f) → IsWord (length s) → rest ≡ entry h f s ++ behind → AllByRecursion IsChange ds → rest ≡ body_of ds → Leads h f s behind
 leads h f s behind rest [] ph pf ps is all e =
     let less = shorter_behind h f s rest behind is in
@@ -64,7 +64,7 @@ continues_more body rest behind h f s fits is before = λ cs all e.
     let found = leads h f s behind rest now.0 fits.0 fits.1 fits.2 is now.1 now.2 in
     (found.ds, found.all, found.same)
 
--- a rest that begins with no entry, or with one of no change, is no body
+-- if the rest does not begin with the entry of a change, the whole is not a body
 pub no_entry : (body rest : List ℕ) → Continues body rest → (length rest ≡ 0 → ⊥) → LacksEntry rest → IsNoBody body
 unfolding Continues
 no_entry body rest before some lacks = λ cs all e. let now = before cs all e in go now.0 now.1 now.2

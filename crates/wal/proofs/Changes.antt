@@ -1,4 +1,4 @@
--- Texts of paths, and the sizes of what a change has.
+-- Texts of paths, and the sizes of the parts of a change.
 use Rattle.std.proofs.Common.{◌≡◌, ◌≢◌, ⊎_elim, ℕ, ◌<◌, ◌≤◌, List, [], ◌∷◌, length, get_or, nat_le, true, Fits, w8, refl, ap, sym, ◌∙◌, arith, Ok, Err, IsOk, length-append}
 use Rattle.std.specs.List.{list_all}
 use Rattle.std.proofs.lemmas.Bool.{and_parts}
@@ -26,7 +26,7 @@ text_read text p bytes reported = ⊎_elim
     (λ (u : (Ok p ≡ Err ENOMEM) × IsOk (parsed text)). let e = u.0 in cc)
     reported
 
--- the text names this path
+-- the text is that of this path
 pub text_names : (text : List ℕ) (p : Path) → ((i : ℕ) → Fits w8 (get_or text i 0)) → IsOrLacksMemory (Ok p) (parsed text) → (parsed text ≡ Ok p) × (text_of p ≡ text)
 text_names text p bytes reported = (
   ⊎_elim

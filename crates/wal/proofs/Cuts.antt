@@ -1,4 +1,4 @@
--- What bytes begin with is told by the bytes: numbers, and entries.
+-- Unique parsing: the bytes determine the number or the entry with which they begin.
 use Rattle.std.proofs.Common.{◌≡◌, ⊎_elim, ℕ, ◌+◌, ◌<◌, ◌≤◌, List, ◌++◌, length, get_or, take, drop, All, Fits, w8, refl, ap, sym, subst, ◌∙◌, arith, append_assoc, length-append}
 use Rattle.std.specs.Int.{w64, from_le_bytes, to_le_bytes}
 use Rattle.std.proofs.lemmas.Bool.{cases_lt}
@@ -116,7 +116,7 @@ shorter_behind h f s bytes rest e = let size = after_entry h f s bytes rest e in
 pub too_few : (bytes : List ℕ) → length bytes < 48 → LacksEntry bytes
 too_few bytes few = λ h f s rest fits fits2 e. let size = after_entry h f s bytes rest e in omega arith
 
--- the parts of an entry, where its lengths fit
+-- the parts of an entry, if its lengths fit
 lengths_once : (h k : EntryHeader) (m n : ℕ) (r f s rest : List ℕ) → IsWord m → IsWord n → IsWord (length f) → IsWord (length s)
     → numbers h ++ (word m ++ (word n ++ r)) ≡ entry k f s ++ rest → (numbers h ≡ numbers k) × (m ≡ length f) × (n ≡ length s) × (r ≡ f ++ (s ++ rest))
 lengths_once h k m n r f s rest pm pn pf ps e =

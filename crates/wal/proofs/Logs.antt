@@ -1,4 +1,4 @@
--- Logs: which records count is told by the bytes, wherever they are cut.
+-- The bytes of a log determine its valid records, wherever the log is cut.
 use Rattle.std.proofs.Common.{◌≡◌, ◌≢◌, ◌⊎◌, ⊎_elim, ℕ, zero, suc, ◌+◌, ◌-◌, ◌<◌, ◌≤◌, ◌*◌, List, [], ◌∷◌, ◌++◌, length, take, drop, true, false, nat_le, cond, refl, ap, ap₂, sym, subst, ◌∙◌, arith, append_assoc, append-nil, length-append, add-zero, length-take}
 use Rattle.std.specs.List.{AllByRecursion}
 use Rattle.std.proofs.lemmas.List.{append_cancel_left, take-append-drop}
@@ -54,7 +54,7 @@ after_record salt n b r bytes e =
 no_record_in_nothing : (salt : List ℕ) (n : ℕ) → LacksRecord salt n []
 no_record_in_nothing salt n = λ b r fits e. let size = after_record salt n b r [] e in omega arith
 
--- ---- what counts
+-- ---- which records are valid
 
 lacks_first : (salt : List ℕ) (n : ℕ) (r : List ℕ) → LacksRecord salt (n + 0) r → LacksRecord salt n r
 lacks_first salt n r h = subst (λ (k : ℕ). LacksRecord salt k r) (add-zero n) h
@@ -80,7 +80,7 @@ one_reading salt n log bs cs r s p q = count_once salt n bs cs r s p.fit q.fit p
 
 -- ---- a log that is cut
 
--- a beginning of a record is no record
+-- a proper prefix of a record is not a record
 no_beginning : (salt : List ℕ) (n k : ℕ) (b w : List ℕ) → IsWord (length b) → k < length (record_of salt n b) → LacksRecord salt n (take k (record_of salt n b ++ w))
 no_beginning salt n k b w fits short = λ c y fc e.
     let all : List ℕ = record_of salt n b ++ w in
@@ -181,9 +181,9 @@ other_salt salt other n body rest fits differ = λ c r fc e.
 pub other_number : (salt : List ℕ) (n : ℕ) (bytes : List ℕ) → take 16 bytes ≢ magic salt ++ word n → LacksRecord salt n bytes
 other_number salt n bytes differ = λ b r fits e. differ (ap (take 16) (e ∙ parts_of salt n b r) ∙ front_begins salt n (length b) (b ++ (digest salt n b ++ r)))
 
--- ---- a log as it is read
+-- ---- parsing a log
 
--- what stands before the bytes of a record is a front
+-- the bytes before the body of a record are its header
 front_first : (salt : List ℕ) (n : ℕ) (log f behind body rest : List ℕ) → log ≡ f ++ behind → length f ≡ 24 → log ≡ record_of salt n body ++ rest → (f ≡ front salt n (length body)) × (behind ≡ body ++ (digest salt n body ++ rest))
 front_first salt n log f behind body rest e size is = same_split 24 f (front salt n (length body)) behind (body ++ (digest salt n body ++ rest)) size (length-front salt n (length body)) (sym e ∙ is ∙ parts_of salt n body rest)
 
@@ -220,7 +220,7 @@ has_record salt n len log f behind body end rest e ef eb size es =
     ∙ ap (λ (x : List ℕ). x ++ (body ++ (sha256 (salt ++ x ++ body) ++ rest))) same
     ∙ sym (parts_of salt n body rest)
 
--- ---- what stands before a body, as it is read
+-- ---- parsing what is before a body
 
 pub front_parts : (salt : List ℕ) (n len : ℕ) → front salt n len ≡ magic salt ++ (word n ++ word len)
 unfolding front

@@ -1,4 +1,4 @@
--- A change that a volume was asked for is done, or refused, as each world that it meant says.
+-- A change requested from a volume succeeds or fails as it does in each world to which the volume abstracts.
 use Rattle.std.proofs.Common.{◌≡◌, ⊎_elim, inl, inr, [], ◌∷◌, false, Bool, cond, refl, ap, sym, subst, ◌∙◌, Some, None, Result, Ok, Err, IfErr, MatchResult, ℕ}
 use Rattle.std.specs.Prelude.{◌⊎◌}
 use Rattle.pathkey.specs.Names.{Path}
@@ -30,11 +30,12 @@ no_lack (Replied (Fault e)) h = cc
 no_lack (Settled (Ok u)) h = refl
 no_lack (Settled (Err e)) h = cc
 
--- the answer fits each world that the volume meant; where it is no refusal, the world refuses nothing, and the volume now means the next one
+-- the answer fits each world to which the volume abstracts; if it is a success, the change succeeds in the world, and the new volume
+-- abstracts to the next world
 pub Answers : WalEntry → Answer → PVolume → PVolume → Type 0
 Answers c a old new = (w : World) → Means old w → FitsEffect w (effect_in w c) a × (fault_of a ≡ None → (fault_in w c ≡ None) × Means new (made w c))
 
--- of an event that a world is asked for
+-- for a change that is an event of a world
 pub answers_from : (c : WalEntry) (event : World → Event) (a : Answer) (old new : PVolume) → ((w : World) → effect_in w c ≡ Happens (event w)) → ((w : World) → Means old w → Fits w (event w) a × Means new (next w (event w) a)) → Answers c a old new
 unfolding Answers
 answers_from c event a old new is h = λ w m.
@@ -76,7 +77,7 @@ pub called_makes : (c : WalEntry) (r : Result (Unit {0}) Errno) (old new : PVolu
 called_makes c (Ok u) old new h kept = done_from c (Replied Done) old new h refl
 called_makes c (Err e) old new h kept = (kept e refl, refused_from c (Replied (Fault e)) e old new h refl)
 
--- of a call that tells a number, that is left out
+-- for a call that returns a number, which is dropped
 pub counted_makes : (c : WalEntry) (counted : Result ℕ Errno) (r : Result (Unit {0}) Errno) (old new : PVolume) → MatchResult counted (λ n. r ≡ Ok tt) (λ e. r ≡ Err e)
     → Answers c (Replied (replied (λ n. Count n) counted)) old new → ((e : Errno) → replied (λ n. Count n) counted ≡ Fault e → new ≡ old) → Makes c r old new
 counted_makes c (Ok n) r old new report h kept = subst (λ (s : Result (Unit {0}) Errno). Makes c s old new) (sym report) (done_from c (Replied (Count n)) old new h refl)

@@ -1,4 +1,4 @@
--- A line that is written is read as what it tells.
+-- A printed line is parsed as the change that it represents.
 use Rattle.std.proofs.Common.{◌≡◌, ◌≢◌, ⊎_elim, ℕ, ◌+◌, ◌*◌, ◌≤◌, nat_le, List, [], ◌∷◌, ◌++◌, length, map, true, refl, sym, ap, ◌∙◌, arith, append_assoc, length-append, Some, Ok, decimal, flat_map, codes, All}
 use Rattle.std.specs.List.{AllByRecursion, list_all}
 use Rattle.std.proofs.lemmas.Bool.{and_parts, leb-true}
@@ -247,7 +247,7 @@ all_unbroken (Makes (Keep what s)) h = spaced (keeping_word what) s (unbroken (k
 pub is_one : (t : DumpLine) → Fits t → All (λ b. b ≢ 10) (spelled t)
 is_one t h = All-from_recursion (λ b. b ≢ 10) (spelled t) (all_unbroken t h)
 
--- ---- lines one behind the other
+-- ---- consecutive lines
 
 -- a text of such lines has these lines
 pub lines_reported : (ts : List DumpLine) → AllByRecursion Fits ts → lines_of (script ts) ≡ map spelled ts

@@ -1,4 +1,4 @@
--- Records that were done so far.
+-- Records that were applied so far.
 use Rattle.std.proofs.Common.{◌≡◌, ⊎_elim, ℕ, zero, suc, ◌+◌, ◌-◌, ◌<◌, ◌≤◌, List, [], ◌∷◌, ◌++◌, length, take, refl, ap, sym, subst, ◌∙◌, arith, append_assoc, append-nil, length-append, add-zero, Some, None, Ok, Err}
 use Rattle.std.proofs.lemmas.Grind.{flat_map-append}
 use Rattle.volume.specs.Volumes.{PVolume}
@@ -12,7 +12,7 @@ use Rattle.wal.specs.declared.replay_error.ReplayError.{ReplayError}
 use Rattle.wal.specs.Runs.{Reaches, RunsBody}
 use Rattle.wal.proofs.Reaching.{reaches_join, reaches_none}
 
--- these records of the log were done
+-- these records of the log were applied
 pub record Done (salt : List ℕ) (n : ℕ) (log : List ℕ) (records : ℕ) (rest : List ℕ) (old now : PVolume) : Type 0 where
   pub css : List (List WalEntry)
   pub is : log ≡ written salt n (bodies css) ++ rest
@@ -46,7 +46,7 @@ length-bodies (cs ∷ css) = ap suc (length-bodies css)
 length-push : (css : List (List WalEntry)) (cs : List WalEntry) → length (css ++ cs ∷ []) ≡ length css + 1
 length-push css cs = length-append css (cs ∷ [])
 
--- behind a record less is left
+-- the log after a record is shorter
 pub behind_shorter : (salt : List ℕ) (k : ℕ) (rest body behind : List ℕ) → rest ≡ record_of salt k body ++ behind → length behind < length rest
 behind_shorter salt k rest body behind is =
     let all = after_record salt k body behind rest is in
@@ -73,7 +73,7 @@ done_more salt n records log rest body behind old now new cs before is fits repo
           (reaches_join (all_of before.css) (cs ++ []) old now new before.reaches (subst (λ (xs : List WalEntry). Reaches xs now new) (sym (append-nil cs)) reached));
     }
 
--- ---- where a log ends, or a record is not done
+-- ---- the log ends, or a record is not applied
 
 size_reported : (salt : List ℕ) (n records : ℕ) (log rest : List ℕ) (old now : PVolume) (d : Done salt n log records rest old now) → length log - length rest ≡ length (written salt n (bodies d.css))
 size_reported salt n records log rest old now d =
@@ -108,7 +108,7 @@ replays_stop salt n records log rest body behind s old now new d is run = record
   ends = (body, behind, subst (λ (k : ℕ). rest ≡ record_of salt (n + k) body ++ behind) d.count is, run);
 }
 
--- a record more that was done
+-- one more record was applied
 pub done_after : (salt : List ℕ) (n records : ℕ) (log rest body behind : List ℕ) (old now new : PVolume) → Done salt n log records rest old now → rest ≡ record_of salt (n + records) body ++ behind → IsWord (length body) → RunsBody body (Ok tt) now new
     → Done salt n log (records + 1) behind old new
 done_after salt n records log rest body behind old now new d is fits run = ⊎_elim

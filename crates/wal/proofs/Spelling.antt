@@ -1,8 +1,8 @@
--- What is written part by part is a line.
+-- The parts that are appended form a line.
 use Rattle.std.proofs.Common.{◌≡◌, [], ◌∷◌, ◌++◌, ap, ◌∙◌, append_assoc}
 use Rattle.reference.specs.Image.{Text}
 
--- three words behind a first, and a line feed
+-- a word, three more words, and a line feed
 pub seven_parts : (a b c d e f g h : Text) (w x y z : Text) → b ≡ a ++ w → c ≡ b ++ x → d ≡ c ++ 32 ∷ [] → e ≡ d ++ y → f ≡ e ++ 32 ∷ [] → g ≡ f ++ z → h ≡ g ++ 10 ∷ []
     → h ≡ a ++ ((w ++ (x ++ 32 ∷ (y ++ 32 ∷ z))) ++ 10 ∷ [])
 seven_parts a b c d e f g h w x y z one two three four five six seven =

@@ -36,7 +36,7 @@ missing_stands p z e = let clash : Missing ≡ Found z = sym (fold-Missing p) �
 blocked_stands : (p : Path) (z : Tree) → fold onward Blocked p ≡ Found z → ⊥
 blocked_stands p z e = let clash : Blocked ≡ Found z = sym (fold-Blocked p) ∙ e in cc
 
--- what was put where something stands stands there, and goes where other is put there
+-- putting a subtree at an existing path succeeds, and a second put replaces the first
 pub put_there : (t : Tree) (n : Name) (p : Path) (x y z : Tree) → entry_at t (n ∷ p) ≡ Found z
     → (entry_at (edited t (n ∷ p) (Some x)) (n ∷ p) ≡ Found x) × (edited (edited t (n ∷ p) (Some x)) (n ∷ p) (Some y) ≡ edited t (n ∷ p) (Some y))
 put_there (File date b) n p x y z e = absurd (blocked_stands p z e)
@@ -56,7 +56,7 @@ put_there (Dir date es) n (m ∷ p) x y z e = elim (named n es) as (λ c. named 
           )
     ] refl e
 
--- ---- bytes that are laid in two parts
+-- ---- bytes that are written in two parts
 
 over_join : (b : List ℕ) (off : ℕ) (x y : List ℕ) → over (over b off x) (off + length x) y ≡ over b off (x ++ y)
 over_join b off x y =
@@ -82,9 +82,9 @@ over_join b off x y =
     (cases_lt i (off + length x)))
     (cases_lt i off))
 
--- ---- what a write makes of a file
+-- ---- what a write does to a file
 
--- the bytes end behind the greatest file
+-- the bytes end after the maximal length of a file
 abbrev too_far : ℕ → List ℕ → Bool
 too_far off w = not (is_empty w) && nat_lt greatest_file (off + length w)
 
@@ -99,7 +99,7 @@ near_end off (c ∷ w) h = le-ltb _ _ (h (omega arith))
 abbrev encoded : ℕ → Tree → Path → ℕ → List ℕ → List ℕ → Outcome
 encoded at t p off b w = cond (is_empty w) (t, Count 0) (with_entry t p (File at (over b off w)), Count (length w))
 
--- what a write makes where this stands
+-- the outcome of a write over what is at the path
 abbrev made : ℕ → Tree → Path → ℕ → List ℕ → At → Outcome
 made at t p off w a = unless t (faults_of_file a EISDIR ++ when (too_far off w) EFBIG ∷ []) (encoded at t p off (bytes_of a) w)
 
@@ -136,11 +136,11 @@ write_done at t p off w date b there near =
 file_root : (t : Tree) (date : ℕ) (b : List ℕ) → IsTree t → Found t ≡ Found (File date b) → ⊥
 file_root t date b is e = let one : t ≡ File date b = cc in (subst IsTree one is).root
 
--- a write, and one where it ended, of the bytes that one write has
+-- a write of both parts has the effect of two writes, of which the second begins where the first ends
 abbrev InTwo : ℕ → Tree → Path → ℕ → List ℕ → List ℕ → Type 0
 InTwo at t p off x y = ((does at t (Write p off x)).1 ≡ Count (length x)) × (does at (does at t (Write p off x)).0 (Write p (off + length x) y) ≡ ((does at t (Write p off (x ++ y))).0, Count (length y)))
 
--- the first of no bytes
+-- the first part is empty
 first_empty : (at : ℕ) (t : Tree) (p : Path) (off : ℕ) (y : List ℕ) (date : ℕ) (b : List ℕ) → entry_at t p ≡ Found (File date b) → (does at t (Write p off y)).1 ≡ Count (length y) → InTwo at t p off [] y
 first_empty at t p off y date b there done =
     let front : does at t (Write p off []) ≡ (t, Count 0) = write_done at t p off [] date b there refl in (
@@ -160,7 +160,7 @@ module _ (at : ℕ) (t : Tree) (n : Name) (q : Path) (off : ℕ) (a : ℕ) (xs :
   abbrev between : Tree
   between = edited t p (Some (File at (over b off x)))
 
-  -- what the second makes
+  -- the outcome of the second write
   abbrev second : List ℕ → Outcome
   second y = encoded at between p (off + length x) (over b off x) y
 

@@ -1,4 +1,4 @@
--- What is told of a body.
+-- From the lines of a body to their specification.
 use Rattle.std.proofs.Common.{◌≡◌, inl, inr, List, ℕ, [], ◌++◌, sym, ap, subst, ◌∙◌}
 use Rattle.pathkey.specs.declared.errno.Errno.{Errno}
 use Rattle.reference.specs.Image.{Text}
@@ -9,7 +9,7 @@ use Rattle.wal.specs.Added.{AddsAll, script}
 use Rattle.wal.specs.Dump.{AreRead, IsScriptOf, RefusesLines, RefusesTelling}
 use Rattle.wal.proofs.Reading.{all_read, lines_reported}
 
--- the lines that were added to an empty text are a script
+-- lines that are appended to an empty text are a script
 pub script_reported : (body : List ℕ) (cs : List WalEntry) (none text : Text) → body ≡ body_of cs → none ≡ [] → AddsAll cs none text → IsScriptOf body text
 script_reported body cs none text is empty all =
     let lines = ap lines_of (all.added ∙ ap (λ (l : Text). l ++ script all.lines) empty) ∙ lines_reported all.lines all.fit in

@@ -1,4 +1,4 @@
--- Lines that were added to a text.
+-- Lines that are appended to a text.
 use Rattle.std.specs.Prelude.{◌≡◌, ◌≢◌, ◌≤◌, ℕ, List, [], ◌++◌, length, flat_map, map, true}
 use Rattle.std.specs.List.{AllByRecursion}
 use Rattle.pathkey.specs.Heads.{AreBytes}
@@ -11,7 +11,8 @@ use Rattle.wal.specs.declared.wal_entry.WalEntry.TheVariants.{OnPath, Rename, Tr
 use Rattle.wal.specs.Lines.{DumpLine, At, Makes, line}
 use Rattle.wal.specs.Dump.{AreParts, HasBytes, TellAll, Tells}
 
--- a line has room for the change: its paths and names are some, its numbers fit, and a write has few bytes
+-- the change fits on a line: its paths and names are valid, its numbers are below 2^64, and a write has at most 28,672
+-- bytes
 abbrev pub HasRoom : WalEntry → Type 0
 HasRoom (OnPath what p at) = IsPath p
 HasRoom (Rename o n at) = IsPath o × IsPath n
@@ -21,21 +22,21 @@ HasRoom (Punch p off n at) = IsPath p × IsWord off × IsWord n
 HasRoom (SetMtime p at) = IsPath p × IsWord at
 HasRoom (Keep what s) = is_snap_name s ≡ true
 
--- the same of a moment
+-- the same for a line with a timestamp
 abbrev pub Fits : DumpLine → Type 0
 Fits (At n) = IsWord n
 Fits (Makes c) = HasRoom c
 
--- the lines of these, one behind the other
+-- the lines one after the other
 abbrev pub script : List DumpLine → Text
 script ts = flat_map line ts
 
--- the line of one of these was added, and it fits
+-- the line was appended, and it fits
 pub record AddsLine (t : DumpLine) (old new : Text) : Type 0 where
   pub fits : Fits t
   pub added : new ≡ old ++ line t
 
--- lines of writes were added that lay these bytes
+-- lines of writes of consecutive parts of these bytes were appended
 pub record AddsParts (p : Path) (off : ℕ) (w : List ℕ) (at : ℕ) (old new : Text) : Type 0 where
   pub writes : List WalEntry
   pub some : writes ≢ []
@@ -44,14 +45,14 @@ pub record AddsParts (p : Path) (off : ℕ) (w : List ℕ) (at : ℕ) (old new :
   pub fit : AllByRecursion Fits (map Makes writes)
   pub added : new ≡ old ++ script (map Makes writes)
 
--- lines that tell a change were added
+-- lines that represent the change were appended
 pub record Adds (c : WalEntry) (old new : Text) : Type 0 where
   pub lines : List DumpLine
   pub tells : Tells c lines
   pub fit : AllByRecursion Fits lines
   pub added : new ≡ old ++ script lines
 
--- lines that tell changes, in their order
+-- lines that represent the changes were appended, in order
 pub record AddsAll (cs : List WalEntry) (old new : Text) : Type 0 where
   pub lines : List DumpLine
   pub tells : TellAll cs lines

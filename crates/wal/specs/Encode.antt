@@ -1,4 +1,4 @@
--- Changes asked in texts, as bytes in a buffer.
+-- Changes, given as texts, as bytes in a buffer.
 use Rattle.std.specs.Prelude.{◌≡◌, ◌⊎◌, ℕ, List, ◌++◌, length, drop, nat_le, if◌then◌else◌, Result, Ok, Err}
 use Rattle.pathkey.specs.Names.{Path}
 use Rattle.pathkey.specs.Texts.{text_of}
@@ -8,31 +8,31 @@ use Rattle.wal.specs.Entries.{printed}
 use Rattle.wal.specs.declared.wal_entry.WalEntry.{WalEntry}
 use Rattle.wal.specs.declared.wal_entry.WalEntry.TheVariants.{Rename}
 
--- the buffer with bytes at its front, where they fit, and else as it was
+-- the buffer with the bytes at its front if they fit, and otherwise unchanged
 abbrev pub encoded : List ℕ → List ℕ → List ℕ
 encoded bytes out = if nat_le (length bytes) (length out) then bytes ++ drop (length bytes) out else out
 
--- the change of what a text was read as, or why there is none
+-- the change with the parsed value, or the error of parsing
 abbrev pub asked : {A : Type 0} → (A → WalEntry) → Result A Errno → Result WalEntry Errno
 asked change (Ok a) = Ok (change a)
 asked change (Err e) = Err e
 
--- the move between two paths that were read, or why there is none: the first is refused before the second
+-- the rename between the two paths that were parsed, or the error of the first that is not a path
 abbrev pub moved : ℕ → Result Path Errno → Result Path Errno → Result WalEntry Errno
 moved at (Ok o) n = asked (λ p. Rename o p at) n
 moved at (Err e) n = Err e
 
--- the bytes are in the buffer where they fit, and this is how many they are; or nothing changed
+-- the buffer has the bytes if they fit, and the result is their length; or it failed, and nothing changed
 abbrev pub EncodesBytes : {E : Type 0} → List ℕ → Result ℕ E → List ℕ → List ℕ → Type 0
 EncodesBytes bytes (Ok n) old new = (n ≡ length bytes) × (new ≡ encoded bytes old)
 EncodesBytes bytes (Err e) old new = new ≡ old
 
--- the change is in the buffer so; or the texts are refused so, or memory was refused
+-- the buffer has the encoding of the change if it fits; or the result is the error of the texts, or ENOMEM
 abbrev pub Encodes : Result WalEntry Errno → Result ℕ Errno → List ℕ → List ℕ → Type 0
 Encodes wanted (Ok n) old new = (c : WalEntry) × (wanted ≡ Ok c) × (n ≡ length (printed c)) × (new ≡ encoded (printed c) old)
 Encodes wanted (Err e) old new = ((wanted ≡ Err e) ⊎ (e ≡ ENOMEM)) × (new ≡ old)
 
--- the text is that of a path; or it is refused so, or memory was refused
+-- the text is that of a path; or the result is its error, or ENOMEM
 abbrev pub Checks : List ℕ → Result Path Errno → Result (Unit {0}) Errno → Type 0
 Checks text parsed (Ok u) = (p : Path) × (parsed ≡ Ok p) × (text_of p ≡ text)
 Checks text parsed (Err e) = (parsed ≡ Err e) ⊎ (e ≡ ENOMEM)

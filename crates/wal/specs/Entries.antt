@@ -15,7 +15,7 @@ use Rattle.reference.specs.declared.path_call.PathCall.{PathCall}
 use Rattle.reference.specs.declared.path_call.PathCall.TheVariants.{Mkdir, Create, Unlink, Rmdir, Rmtree}
 use Rattle.wal.specs.declared.entry.EntryHeader.{EntryHeader}
 
--- a number in eight bytes, least first
+-- a number as eight bytes in little-endian order
 unfoldable pub word : ℕ → List ℕ
 word n = to_le_bytes w64 n
 
@@ -23,11 +23,11 @@ word n = to_le_bytes w64 n
 unfoldable pub numbers : EntryHeader → List ℕ
 numbers h = word h.kind ++ word h.at ++ word h.offset ++ word h.count
 
--- an entry up to its second text: its numbers, the lengths of two texts, and the first of them
+-- an entry up to its second text: its numbers, the lengths of its two texts, and the first text
 unfoldable pub entry_front : EntryHeader → List ℕ → ℕ → List ℕ
 entry_front h first len = numbers h ++ word (length first) ++ word len ++ first
 
--- an entry: that, and the second text
+-- the whole entry
 unfoldable pub entry : EntryHeader → List ℕ → List ℕ → List ℕ
 entry h first second = entry_front h first (length second) ++ second
 
@@ -45,7 +45,7 @@ keeping_kind Snapshot = 10
 keeping_kind Remove = 11
 keeping_kind Restore = 12
 
--- the numbers: which change it is, its moment, and those that it has beside it
+-- the numbers of a change: its kind, its timestamp, and two more
 abbrev pub head_of : WalEntry → EntryHeader
 head_of (OnPath what p at) = record { kind = path_kind what; at = at; offset = 0; count = 0 }
 head_of (Rename o n at) = record { kind = 6; at = at; offset = 0; count = 0 }
@@ -55,7 +55,7 @@ head_of (Punch p off n at) = record { kind = 9; at = at; offset = off; count = n
 head_of (SetMtime p at) = record { kind = 13; at = at; offset = 0; count = 0 }
 head_of (Keep what s) = record { kind = keeping_kind what; at = 0; offset = 0; count = 0 }
 
--- the text of its path, or the name of the snapshot
+-- the first text: the change's path, or the name of the snapshot
 abbrev pub first_of : WalEntry → List ℕ
 first_of (OnPath what p at) = text_of p
 first_of (Rename o n at) = text_of o
@@ -65,7 +65,7 @@ first_of (Punch p off n at) = text_of p
 first_of (SetMtime p at) = text_of p
 first_of (Keep what s) = s
 
--- the text of the path to which it moves something, or the bytes that it writes
+-- the second text: the new path of a rename, or the bytes of a write
 abbrev pub second_of : WalEntry → List ℕ
 second_of (Rename o n at) = text_of n
 second_of (Write p off w at) = w
@@ -89,7 +89,7 @@ pub record IsHead (h : EntryHeader) : Type 0 where
   pub offset : IsWord h.offset
   pub count : IsWord h.count
 
--- its paths and names are some, its numbers fit, and its bytes are bytes
+-- the change can be encoded: its paths and names are valid, its numbers are below 2^64, and its bytes are bytes
 abbrev pub IsChange : WalEntry → Type 0
 IsChange (OnPath what p at) = IsPath p × IsWord at
 IsChange (Rename o n at) = IsPath o × IsPath n × IsWord at
@@ -99,13 +99,13 @@ IsChange (Punch p off n at) = IsPath p × IsWord off × IsWord n × IsWord at
 IsChange (SetMtime p at) = IsPath p × IsWord at
 IsChange (Keep what s) = is_snap_name s ≡ true
 
--- ---- what bytes are read as
+-- ---- how bytes are decoded
 
--- no entry stands at their front
+-- the bytes do not begin with an entry
 abbrev pub LacksEntry : List ℕ → Type 0
 LacksEntry bytes = (h : EntryHeader) (first second rest : List ℕ) → IsWord (length first) → IsWord (length second) → bytes ≢ entry h first second ++ rest
 
--- why something is refused: EINVAL where it is none; or memory was refused
+-- why decoding fails: EINVAL for bytes that are not valid, or ENOMEM
 abbrev pub Refuses : Type 0 → Errno → Type 0
 Refuses IsNone e = ((e ≡ EINVAL) × IsNone) ⊎ (e ≡ ENOMEM)
 
@@ -115,7 +115,7 @@ IsNoText text = (p : Path) → IsPath p → text_of p ≢ text
 abbrev pub IsNoName : List ℕ → Type 0
 IsNoName text = is_snap_name text ≢ true
 
--- an entry has no number but its moment
+-- all numbers of the entry but its timestamp are 0
 abbrev pub has_no_numbers : EntryHeader → Bool
 has_no_numbers h = (h.offset == 0) && (h.count == 0)
 

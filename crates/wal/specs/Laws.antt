@@ -16,28 +16,28 @@ use Rattle.wal.specs.declared.wal_entry.WalEntry.{WalEntry}
 abbrev pub OneBodyLaw : Type 0
 OneBodyLaw = (cs ds : List WalEntry) → AllByRecursion IsChange cs → AllByRecursion IsChange ds → body_of cs ≡ body_of ds → cs ≡ ds
 
--- what counts of a log is told by its bytes
+-- the bytes of a log determine its valid records
 abbrev pub OneReadingLaw : Type 0
 OneReadingLaw = (salt : List ℕ) (n : ℕ) (log : List ℕ) (bs cs : List (List ℕ)) (r s : List ℕ) → Counts salt n log bs r → Counts salt n log cs s → (bs ≡ cs) × (r ≡ s)
 
--- of a log that is cut anywhere the records count that lie whole before the cut, and no other
+-- in a log that is cut anywhere, exactly the records that are whole before the cut are valid
 abbrev pub CutLaw : Type 0
 CutLaw = (salt : List ℕ) (n k : ℕ) (bs : List (List ℕ)) → AreBodies bs → (rest : List ℕ) × Counts salt n (take k (written salt n bs)) (whole salt k n bs) rest
 
--- they are the first records of the log, and among them are all that lie whole before byte k
+-- these are the first records of the log, and among them are all that are whole before byte k
 abbrev pub FirstLaw : Type 0
 FirstLaw = (salt : List ℕ) (n k : ℕ) (bs : List (List ℕ)) → (m : ℕ) × (m ≤ length bs) × (whole salt k n bs ≡ take m bs) × ((s : ℕ) → s ≤ length bs → length (written salt n (take s bs)) ≤ k → s ≤ m)
 
--- whatever stands behind records, these are the first that count
+-- whatever follows the records, they are the first valid ones
 abbrev pub TailLaw : Type 0
 TailLaw = (salt : List ℕ) (n : ℕ) (bs cs : List (List ℕ)) (tail rest : List ℕ) → AreBodies bs → Counts salt n (written salt n bs ++ tail) cs rest → (ds : List (List ℕ)) × (cs ≡ bs ++ ds)
 
--- a record whose body became another of that length is none, where the digest tells them apart
+-- a record is no longer valid if its body is replaced by one of the same length with another digest
 abbrev pub DigestLaw : Type 0
 DigestLaw = (salt : List ℕ) (n : ℕ) (body other rest : List ℕ) → IsWord (length body) → length other ≡ length body → digest salt n other ≢ digest salt n body
     → LacksRecord salt n (front salt n (length body) ++ other ++ digest salt n body ++ rest)
 
--- nor is the record of another log, where the digest tells the salts apart
+-- a record of a log with another salt is not valid, if the digests differ
 abbrev pub SaltLaw : Type 0
 SaltLaw = (salt other : List ℕ) (n : ℕ) (body rest : List ℕ) → IsWord (length body) → digest other n body ≢ digest salt n body → LacksRecord salt n (record_of other n body ++ rest)
 
@@ -55,12 +55,13 @@ abbrev pub CrashLaw : Type 0
 CrashLaw = (salt : List ℕ) (n k s : ℕ) (css : List (List WalEntry)) → AreBodies (bodies css) → s ≤ length css → length (log_of salt n (take s css)) ≤ k
     → (m : ℕ) × (rest : List ℕ) × (s ≤ m) × (m ≤ length css) × Counts salt n (take k (log_of salt n css)) (bodies (take m css)) rest
 
--- Whatever a crash left behind the synced requests, they are the first that count.
+-- whatever a crash left after the synced requests, those are the first that are replayed
 abbrev pub SyncedLaw : Type 0
 SyncedLaw = (salt : List ℕ) (n : ℕ) (css : List (List WalEntry)) (tail rest : List ℕ) (bs : List (List ℕ)) → AreBodies (bodies css) → Counts salt n (log_of salt n css ++ tail) bs rest
     → (ds : List (List ℕ)) × (bs ≡ bodies css ++ ds)
 
--- where one write of x and then y is done at a moment, so are a write of x and one of y where that ended, and they make the same
+-- a write of x followed by y has the same effect as a write of x and then a write of y at the end of that, with the same
+-- timestamp, provided that it succeeds
 abbrev pub SplitLaw : Type 0
 SplitLaw = (at : ℕ) (t : Tree) (p : Path) (off : ℕ) (x y : List ℕ) → IsTree t → (does at t (Write p off (x ++ y))).1 ≡ Count (length (x ++ y))
     → ((does at t (Write p off x)).1 ≡ Count (length x)) × (does at (does at t (Write p off x)).0 (Write p (off + length x) y) ≡ ((does at t (Write p off (x ++ y))).0, Count (length y)))

@@ -1,4 +1,4 @@
--- Lines of a script that tell changes, as they are written.
+-- The lines of a script that represent changes, as they are printed.
 use Rattle.std.specs.Prelude.{ℕ, [], ◌∷◌, ◌++◌, codes, decimal}
 use Rattle.pathkey.specs.Names.{Path}
 use Rattle.reference.specs.Image.{Text, path_text}
@@ -10,7 +10,7 @@ use Rattle.wal.specs.declared.wal_entry.SnapshotCall.TheVariants.{Snapshot, Remo
 use Rattle.reference.specs.declared.path_call.PathCall.{PathCall}
 use Rattle.reference.specs.declared.path_call.PathCall.TheVariants.{Mkdir, Create, Unlink, Rmdir, Rmtree}
 
--- what a line tells: the moment of the changes behind it, or a change but for its moment
+-- a line: the timestamp of the changes that follow, or a change without its timestamp
 pub data DumpLine : Type 0 where
   At : ℕ → DumpLine
   Makes : WalEntry → DumpLine

@@ -9,11 +9,11 @@ unfoldable pub magic : List ℕ → List ℕ
 magic [] = codes "dvlog 1\n"
 magic (x ∷ salt) = codes "dvlog 2\n"
 
--- what stands before a body: the magic bytes, the record's number, and the length of the body
+-- the header before a body: the magic bytes, the record's number, and the length of the body
 unfoldable pub front : List ℕ → ℕ → ℕ → List ℕ
 front salt n len = magic salt ++ word n ++ word len
 
--- what stands behind it: the SHA-256 digest of the salt and all before
+-- the bytes after the body: the SHA-256 digest of the salt, the header and the body
 unfoldable pub digest : List ℕ → ℕ → List ℕ → List ℕ
 digest salt n body = sha256 (salt ++ front salt n (length body) ++ body)
 
@@ -40,7 +40,7 @@ pub record Counts (salt : List ℕ) (n : ℕ) (log : List ℕ) (bs : List (List 
   pub fit : AreBodies bs
   pub ends : LacksRecord salt (n + length bs) rest
 
--- the bodies of the records that lie whole before byte k of a log
+-- the bodies of the records that are whole before byte k of a log
 abbrev pub whole : List ℕ → ℕ → ℕ → List (List ℕ) → List (List ℕ)
 whole salt k n [] = []
 whole salt k n (b ∷ bs) =

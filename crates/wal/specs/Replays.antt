@@ -1,4 +1,4 @@
--- What is told of a log that was replayed.
+-- The specification of a replay.
 use Rattle.std.specs.Prelude.{◌≡◌, ◌+◌, ℕ, List, ◌++◌, length, map, flat_map, Option, Some, None, Err}
 use Rattle.wal.specs.Entries.{body_of}
 use Rattle.wal.specs.Records.{AreBodies, LacksRecord, record_of, written}
@@ -16,12 +16,12 @@ all_of css = flat_map (λ cs. cs) css
 abbrev pub bodies : List (List WalEntry) → List (List ℕ)
 bodies css = map body_of css
 
--- behind the records that were done no record more counts; or that of the next number was not done
+-- after the applied records, no record is valid; or the next record was not applied
 abbrev pub Ends : List ℕ → ℕ → List ℕ → Option ReplayError → PVolume → PVolume → Type 0
 Ends salt n rest None old new = LacksRecord salt n rest × (new ≡ old)
 Ends salt n rest (Some s) old new = (body : List ℕ) × (behind : List ℕ) × (rest ≡ record_of salt n body ++ behind) × RunsBody body (Err s) old new
 
--- the first records of a log were done, which are those of these requests
+-- the first records of a log, which are those of these requests, were applied
 pub record Replays (salt : List ℕ) (n : ℕ) (log : List ℕ) (report : ReplayReport) (old new : PVolume) : Type 0 where
   pub css : List (List WalEntry)
   pub rest : List ℕ

@@ -1,4 +1,4 @@
--- What the changes of a log make of a world.
+-- What the changes of a log do to a world.
 use Rattle.std.specs.Prelude.{◌≡◌, ◌⊎◌, ℕ, List, [], ◌∷◌, ◌++◌, length, Option, Some, None, Result, Ok, Err, MatchResult, ⊤}
 use Rattle.call_compiler.specs.Mtimes.{mtime_set}
 use Rattle.pathkey.specs.Names.{Path}
@@ -38,18 +38,18 @@ abbrev pub outcome_of : World → Effect → World × Answer
 outcome_of w (Happens e) = outcome w e
 outcome_of w (HasMtime p at) = (with_mtime p at w, Replied (mtime_set at w.live p).1)
 
--- an answer that fits it: that one, or an allocation failure where there may be one
+-- an answer that fits it: that one, or an allocation failure if one is possible
 abbrev pub FitsEffect : World → Effect → Answer → Type 0
 FitsEffect w (Happens e) a = Fits w e a
 FitsEffect w (HasMtime p at) a = (a ≡ Replied (mtime_set at w.live p).1) ⊎ (a ≡ Replied (Fault ENOMEM))
 
--- why an answer is a refusal, where it is one
+-- the error of an answer, if it is one
 abbrev pub fault_of : Answer → Option Errno
 fault_of (Replied (Fault e)) = Some e
 fault_of (Settled (Err e)) = Some e
 fault_of _ = None
 
--- why a world refuses a change, if it does
+-- the error of a change in a world, if it fails there
 abbrev pub fault_in : World → WalEntry → Option Errno
 fault_in w c = fault_of (outcome_of w (effect_in w c)).1
 
@@ -62,27 +62,29 @@ abbrev pub after : World → List WalEntry → World
 after w [] = w
 after w (c ∷ cs) = after (made w c) cs
 
--- none of the changes is refused
+-- all of the changes succeed
 abbrev pub AllDone : World → List WalEntry → Type 0
 AllDone w [] = ⊤
 AllDone w (c ∷ cs) = (fault_in w c ≡ None) × AllDone (made w c) cs
 
--- ---- what became of a volume
+-- ---- what happens to a volume
 
--- in each world that it meant, the changes are done, and it now means the world after them
+-- in each world to which the volume abstracted, the changes succeed, and the new volume abstracts to the world after
+-- them
 abbrev pub Reaches : List WalEntry → PVolume → PVolume → Type 0
 Reaches cs old new = (w : World) → Means old w → AllDone w cs × Means new (after w cs)
 
--- each world that the volume means answers the change with this fault: its own, or want of memory where that may be
+-- in each world to which the volume abstracts, the change fails with this error: its own, or ENOMEM if the change may
+-- allocate
 abbrev pub IsRefused : WalEntry → Errno → PVolume → Type 0
 IsRefused c e v = (w : World) → Means v w → (a : Answer) × FitsEffect w (effect_in w c) a × (fault_of a ≡ Some e)
 
--- the change was done; or it was refused so, and nothing changed
+-- the change was made; or it failed with this error, and nothing changed
 abbrev pub Makes : WalEntry → Result (Unit {0}) Errno → PVolume → PVolume → Type 0
 Makes c (Ok u) old new = Reaches (c ∷ []) old new
 Makes c (Err e) old new = (new ≡ old) × IsRefused c e old
 
--- the changes before one were done, and that one was refused
+-- the changes before one were made, and that one failed
 pub record Stops (cs : List WalEntry) (s : ReplayError) (old new : PVolume) : Type 0 where
   pub before : List WalEntry
   pub change : WalEntry
@@ -92,16 +94,16 @@ pub record Stops (cs : List WalEntry) (s : ReplayError) (old new : PVolume) : Ty
   pub reaches : Reaches before old new
   pub why : IsRefused change s.fault new
 
--- all changes were done, or those before the first that was refused
+-- all changes were made, or those before the first that failed
 abbrev pub Runs : List WalEntry → Result (Unit {0}) ReplayError → PVolume → PVolume → Type 0
 Runs cs r old new = MatchResult r (λ u. Reaches cs old new) (λ s. Stops cs s old new)
 
--- bytes were no body, or memory was refused for reading them: nothing was done
+-- the bytes are not a body, or an allocation failed while decoding them: nothing was done
 pub record Unread (body : List ℕ) (s : ReplayError) (old new : PVolume) : Type 0 where
   pub none : s.done ≡ 0
   pub why : RefusesBody body s.fault
   pub same : new ≡ old
 
--- the changes of a body were run; or it was not read
+-- the changes of a body were applied in order; or it was not decoded
 abbrev pub RunsBody : List ℕ → Result (Unit {0}) ReplayError → PVolume → PVolume → Type 0
 RunsBody body r old new = ((cs : List WalEntry) × (body ≡ body_of cs) × Runs cs r old new) ⊎ MatchResult r (λ u. ⊥) (λ s. Unread body s old new)

@@ -1,4 +1,7 @@
-//! Applies one change of a log to a volume.
+//! Applies one entry of a log to a volume.
+//!
+//! An entry is applied by the volume's own call, with the timestamp that was logged. An entry that fails leaves the
+//! volume unchanged.
 ghost use Rattle.std.specs.Prelude.{◌≡◌, Err, MatchResult, Ok};
 ghost use Rattle.wal.specs.Runs.{Makes};
 

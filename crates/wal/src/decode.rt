@@ -1,4 +1,7 @@
-//! Decodes the entries of a record's body into changes.
+//! Decodes the body of a record into its entries. `docs/FORMATS.md` has the format of entries.
+//!
+//! A body is valid if and only if it is the encoding of a list of entries: any other bytes fail with EINVAL as a whole,
+//! and nothing is skipped.
 ghost use Rattle.std.specs.Prelude.{◌≡◌, ◌≢◌, ◌⊎◌, ◌++◌, ◌∷◌, MatchResult, OnOk, []};
 ghost use Rattle.pathkey.specs.declared.errno.Errno.TheVariants.{EINVAL, ENOMEM};
 ghost use Rattle.wal.specs.Entries.{IsNoName, IsNoText, ReadsEntry, RefusesBody, Refuses, body_of, has_no_numbers, keeping_kind, path_kind};

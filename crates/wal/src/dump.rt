@@ -1,4 +1,6 @@
 //! Prints the body of a record as lines of a script.
+//!
+//! The script makes the changes of the body in their order and with their timestamps, and makes no other change.
 ghost use Rattle.std.specs.Prelude.{◌≡◌, MatchResult, OnOk, IfErr};
 ghost use Rattle.wal.specs.Encode.{encoded};
 ghost use Rattle.wal.specs.Added.{AddsAll};

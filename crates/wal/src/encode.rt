@@ -1,5 +1,7 @@
-//! Encodes changes, given as texts, into a buffer of the caller. Each function returns the length of the encoding in bytes,
-//! and writes it only if the buffer is large enough for all of it.
+//! Encodes changes, given as texts, into a buffer of the caller. `docs/FORMATS.md` has the format of entries.
+//!
+//! Each function returns the length of the encoding in bytes, and writes it only if the buffer is large enough for all of
+//! it. Every encoding decodes to the same change.
 ghost use Rattle.std.specs.Prelude.{◌≡◌, ◌++◌, IfErr, IfOk, OnOk, length};
 ghost use Rattle.pathkey.specs.SnapNames.{snap_parsed};
 ghost use Rattle.pathkey.specs.Texts.{parsed};

@@ -1,4 +1,7 @@
-//! Entries of a record: each is a change, encoded as numbers and texts.
+//! The entries of a record's body: each is a change, encoded as six numbers and two texts. `docs/FORMATS.md` has their
+//! format.
+//!
+//! An entry has the lengths of its texts, so no entry is a prefix of another, and a body has only one list of entries.
 ghost use Rattle.std.specs.Prelude.{◌≡◌, ◌<◌, ◌++◌, IfSome, MatchOption, length};
 ghost use Rattle.wal.specs.Entries.{IsHead, IsWord, LacksEntry, entry, numbers};
 

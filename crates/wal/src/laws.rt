@@ -7,14 +7,14 @@ pub fn one_reading()
     ensures log { OneReadingLaw }
 {}
 
-/// If a log is cut anywhere, exactly the records that are complete before the cut count.
+/// If a log is cut anywhere, exactly the records that are whole before the cut are valid.
 pub fn cut_anywhere()
     ensures counts { CutLaw }
     ensures first { FirstLaw }
 {}
 
-/// Damage leaves the records before it valid. A damaged record no longer counts if its magic bytes, number or digest show the
-/// damage. Neither does a record of a log with another salt.
+/// Damage leaves the records before it valid. A damaged record is invalid if its magic bytes, number or digest show the
+/// damage. So is a record of a log with another salt.
 pub fn damaged()
     ensures tail { TailLaw }
     ensures digest { DigestLaw }

@@ -1,6 +1,9 @@
 //! The write-ahead log (WAL) of a store: each request that changes a volume is a record, whose body is a list of changes. The
-//! crate finds the records that count in the bytes of a log, also if the log is cut or damaged. It replays them on a volume,
-//! and prints them as lines of a script.
+//! crate finds the valid records in the bytes of a log, also if the log is cut or damaged. It replays them on a volume, and
+//! prints them as lines of a script. `docs/FORMATS.md` has the format of logs, records and entries.
+//!
+//! The valid records are the longest prefix of the log that consists of whole records with consecutive numbers and right
+//! digests. They depend on the bytes alone; whatever follows them is ignored.
 #![tactic(auto)]
 
 mod apply;

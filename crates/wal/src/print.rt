@@ -1,4 +1,7 @@
 //! The lines of a script, one for each kind of change.
+//!
+//! The words of a line are parsed, in the terms of `textio`, as the change that was printed. No line is longer than a
+//! script allows.
 ghost use Rattle.std.specs.Prelude.{◌≡◌, ◌≤◌, ◌++◌, ℕ, OnOk, length};
 ghost use Rattle.wal.specs.declared.wal_entry.WalEntry.{WalEntry};
 ghost use Rattle.wal.specs.declared.wal_entry.WalEntry.TheVariants.{OnPath, Rename, Truncate, Write, Punch, SetMtime, Keep};
@@ -122,7 +125,7 @@ fn put_path_word(text: &mut Vec<u8>, path: &Path) -> Result<(), WriteFailed>
     ensures valid { IsPath path.now }
     ensures word { OnOk result (text.new.items ≡ text.old.items ++ path_word path.now) }
 {
-    // The contract of `key` says that this is a path.
+    // The postcondition of `key` states that this is a valid path.
     let _key = path.key();
     if path.is_root() {
         return put(text, b"/");

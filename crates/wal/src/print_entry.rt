@@ -1,4 +1,4 @@
-//! Prints each change as the lines that it needs.
+//! Prints an entry as the lines that it needs: its timestamp, and one line, or several if it is a long write.
 ghost use Rattle.std.specs.Prelude.{◌≡◌, ◌+◌, ◌^◌, ◌<◌, ℕ, OnOk, false, length};
 ghost use Rattle.wal.specs.Added.{Adds, AddsParts};
 ghost use Rattle.wal.specs.Dump.{exceeds_range};
@@ -10,7 +10,7 @@ use crate::wal_entry::WalEntry;
 use pathkey::Path;
 use textio::output::WriteFailed;
 
-/// The most bytes that one line writes: those of seven blocks.
+/// The maximal number of bytes that one line writes: those of seven blocks.
 const MOST: usize = 28_672;
 
 // Whether a write reaches past the greatest offset, 2^64 - 1.
@@ -58,7 +58,7 @@ fn put_parts(text: &mut Vec<u8>, path: &Path, offset: u64, bytes: &[u8]) -> Resu
 {
     let mut from = offset;
     let mut rest = bytes;
-    // No slice has more bytes than this.
+    // No slice is longer than this.
     for _ in 0..u64::MAX {
         let (part, behind) = rest.split_at(rest.len().min(MOST));
         put_write(text, path, from, part)?;

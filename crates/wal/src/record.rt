@@ -1,4 +1,8 @@
-//! Records of a log: their format, and how a record is found in the bytes of a log.
+//! The records of a log. `docs/FORMATS.md` has their format: magic bytes, number, length of the body, body, digest.
+//!
+//! A record is valid if its magic bytes are those of the log's version, it has the next number, it is whole, and its
+//! SHA-256 digest is that of the log's salt and all bytes before the digest. The log ends before the first record that
+//! is not.
 ghost use Rattle.std.specs.Prelude.{◌≡◌, ◌≢◌, ◌++◌, ℕ, List, IfOk, MatchOption, OnOk, length};
 ghost use Rattle.wal.specs.Entries.{IsWord};
 ghost use Rattle.wal.specs.Records.{LacksRecord, digest, front, magic, record_of};

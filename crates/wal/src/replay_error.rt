@@ -1,4 +1,4 @@
-//! The error of a replay.
+//! The error of a replay: which entry failed, and why.
 
 use pathkey::Errno;
 

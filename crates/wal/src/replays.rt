@@ -1,4 +1,7 @@
-//! Replays a log.
+//! Replays a log: applies the entries of its valid records to a volume.
+//!
+//! The replay ends at the first entry that fails and skips none, so the volume always abstracts to the world after a
+//! prefix of the logged changes.
 ghost use Rattle.std.specs.Prelude.{◌+◌, ◌<◌, ◌^◌, length};
 ghost use Rattle.wal.specs.Replays.{Replays};
 
@@ -13,14 +16,14 @@ use volume::Volume;
 pub struct ReplayReport {
     /// The number of records that were applied.
     pub records: usize,
-    /// The length of these records in bytes. After them, either no record counts or the next record was not applied.
+    /// The length of these records in bytes. Either no valid record follows, or the next record was not applied.
     pub size: usize,
     /// If the next record was not applied: the change that failed.
     pub stopped: Option<ReplayError>,
 }
 
 /// Applies the changes of the records of a log with this salt, whose first record has this number, up to the end of the log
-/// or to the first change that fails. Records that are cut off or damaged, and everything after them, do not count.
+/// or to the first change that fails. A record that is cut off or damaged ends the log.
 pub fn replay(
     alloc: Global,
     volume: &mut Volume,

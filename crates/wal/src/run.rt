@@ -1,4 +1,6 @@
-//! Applies changes, and bodies of records, to a volume.
+//! Applies lists of entries, and bodies of records, to a volume.
+//!
+//! If an entry fails, all entries before it were applied and none after it.
 ghost use Rattle.wal.specs.Runs.{Runs, RunsBody};
 
 use crate::apply::apply_entry;

@@ -1,4 +1,4 @@
-//! Numbers of eight bytes in little-endian order.
+//! Numbers of eight bytes in little-endian order, as all numbers of a log are. Each number below 2^64 has one encoding.
 ghost use Rattle.std.specs.Prelude.{◌≡◌, ◌++◌, ◌<◌, MatchOption, OnOk, length};
 ghost use Rattle.wal.specs.Entries.{IsWord, word};
 

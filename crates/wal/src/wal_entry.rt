@@ -1,10 +1,10 @@
-//! The changes that a log records.
+//! The changes that a log records. Each is a call of the volume, so a replay has the contract of that call.
 
 use bytes::Bytes;
 use pathkey::{Path, SnapName};
 use reference::PathCall;
 
-/// What a call does with the snapshot of a name.
+/// What a snapshot call does with the snapshot of its name.
 #[derive(Clone, Copy, Debug, PartialEq, Eq)]
 pub enum SnapshotCall {
     /// Takes a snapshot of the live tree under the name.

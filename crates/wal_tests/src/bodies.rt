@@ -1,4 +1,4 @@
-//! Changes as bytes and back, against bytes that were made by hand.
+//! Tests of encoding changes and decoding them again, against bytes that were written by hand.
 use crate::log_by_hand::{FIRST_BODY, SECOND_BODY, THIRD_BODY};
 use pathkey::Errno;
 use std::alloc::Global;
@@ -9,31 +9,31 @@ use wal::encode::{
 };
 use wal::{PathCall, SnapshotCall, WalEntry, decode_entries};
 
-/// Whether bytes were laid into the front of a buffer.
-fn are_laid(laid: Result<usize, Errno>, room: &[u8], want: &[u8]) -> bool {
-    match laid {
+/// Whether bytes were encoded at the front of a buffer.
+fn are_encoded(encoded: Result<usize, Errno>, room: &[u8], want: &[u8]) -> bool {
+    match encoded {
         Ok(size) => size == want.len() && size <= room.len() && &room[..size] == want,
         Err(_) => false,
     }
 }
 
 #[test]
-fn laid_as_by_hand(rt: HostRuntime) -> Result<(), Fail> {
+fn encoded_as_by_hand(rt: HostRuntime) -> Result<(), Fail> {
     let mut room = [0u8; 64];
-    let laid = encode_path_call(rt.alloc(), PathCall::Mkdir, b"/a", 7, &mut room);
-    assert!(rt; are_laid(laid, &room, FIRST_BODY));
-    let laid = encode_path_call(rt.alloc(), PathCall::Create, b"/a/x", 8, &mut room);
-    assert!(rt; are_laid(laid, &room, &SECOND_BODY[..52]));
-    let laid = encode_write(rt.alloc(), b"/a/x", 2, b"hi", 9, &mut room);
-    assert!(rt; are_laid(laid, &room, &SECOND_BODY[52..]));
-    let laid = encode_snapshot_call(rt.alloc(), SnapshotCall::Snapshot, b"s", &mut room);
-    assert!(rt; are_laid(laid, &room, THIRD_BODY));
+    let encoded = encode_path_call(rt.alloc(), PathCall::Mkdir, b"/a", 7, &mut room);
+    assert!(rt; are_encoded(encoded, &room, FIRST_BODY));
+    let encoded = encode_path_call(rt.alloc(), PathCall::Create, b"/a/x", 8, &mut room);
+    assert!(rt; are_encoded(encoded, &room, &SECOND_BODY[..52]));
+    let encoded = encode_write(rt.alloc(), b"/a/x", 2, b"hi", 9, &mut room);
+    assert!(rt; are_encoded(encoded, &room, &SECOND_BODY[52..]));
+    let encoded = encode_snapshot_call(rt.alloc(), SnapshotCall::Snapshot, b"s", &mut room);
+    assert!(rt; are_encoded(encoded, &room, THIRD_BODY));
     Ok(())
 }
 
-/// What is told of a change that is laid and read again.
-fn reported(alloc: Global, laid: Result<usize, Errno>, room: &[u8]) -> u64 {
-    let Ok(size) = laid else {
+/// The number of a change that is encoded and decoded again.
+fn reported(alloc: Global, encoded: Result<usize, Errno>, room: &[u8]) -> u64 {
+    let Ok(size) = encoded else {
         return 0;
     };
     if size > room.len() {
@@ -45,12 +45,12 @@ fn reported(alloc: Global, laid: Result<usize, Errno>, room: &[u8]) -> u64 {
     }
 }
 
-/// The number of a change at a moment. It adds without a bound to prove.
+/// The number of a change at a timestamp. Its addition saturates, so there is no bound to prove.
 fn numbered(change: u64, at: u64) -> u64 {
     change.saturating_add(at % 10)
 }
 
-/// A number for each kind of change at a path that the rows have.
+/// A number for each kind of change at a path in the rows.
 fn reported_on_path(change: PathCall, at: u64) -> u64 {
     match change {
         PathCall::Unlink => numbered(100, at),
@@ -60,7 +60,7 @@ fn reported_on_path(change: PathCall, at: u64) -> u64 {
     }
 }
 
-/// A number for each kind of call on snapshots that the rows have.
+/// A number for each kind of snapshot call in the rows.
 fn reported_of_keeping(keeping: SnapshotCall) -> u64 {
     match keeping {
         SnapshotCall::Remove => 700,
@@ -69,7 +69,7 @@ fn reported_of_keeping(keeping: SnapshotCall) -> u64 {
     }
 }
 
-/// A number for each change that the rows have.
+/// A number for each change in the rows.
 fn reported_of_one(change: &WalEntry) -> u64 {
     match change {
         WalEntry::OnPath(change, _, at) => reported_on_path(*change, *at),
@@ -82,7 +82,7 @@ fn reported_of_one(change: &WalEntry) -> u64 {
     }
 }
 
-/// The number of the one change.
+/// The number of the only change.
 fn reported_of(changes: &[WalEntry]) -> u64 {
     match changes {
         [change] => reported_of_one(change),
@@ -91,30 +91,30 @@ fn reported_of(changes: &[WalEntry]) -> u64 {
 }
 
 #[test]
-fn read_as_they_were_laid(rt: HostRuntime) -> Result<(), Fail> {
+fn decoded_as_they_were_encoded(rt: HostRuntime) -> Result<(), Fail> {
     let mut room = [0u8; 64];
-    let laid = encode_path_call(rt.alloc(), PathCall::Unlink, b"/a", 1, &mut room);
-    assert_eq!(rt; reported(rt.alloc(), laid, &room), 101);
-    let laid = encode_path_call(rt.alloc(), PathCall::Rmdir, b"/a", 2, &mut room);
-    assert_eq!(rt; reported(rt.alloc(), laid, &room), 202);
-    let laid = encode_path_call(rt.alloc(), PathCall::Rmtree, b"/a", 3, &mut room);
-    assert_eq!(rt; reported(rt.alloc(), laid, &room), 303);
-    let laid = encode_rename(rt.alloc(), b"/a", b"/b", 4, &mut room);
-    assert_eq!(rt; reported(rt.alloc(), laid, &room), 404);
-    let laid = encode_truncate(rt.alloc(), b"/a", 12, 5, &mut room);
-    assert_eq!(rt; reported(rt.alloc(), laid, &room), 505);
-    let laid = encode_punch(rt.alloc(), b"/a", 4096, 8192, 6, &mut room);
-    assert_eq!(rt; reported(rt.alloc(), laid, &room), 606);
-    let laid = encode_mtime(rt.alloc(), b"/a", 7, &mut room);
-    assert_eq!(rt; reported(rt.alloc(), laid, &room), 907);
-    let laid = encode_snapshot_call(rt.alloc(), SnapshotCall::Remove, b"s", &mut room);
-    assert_eq!(rt; reported(rt.alloc(), laid, &room), 700);
-    let laid = encode_snapshot_call(rt.alloc(), SnapshotCall::Restore, b"s", &mut room);
-    assert_eq!(rt; reported(rt.alloc(), laid, &room), 800);
+    let encoded = encode_path_call(rt.alloc(), PathCall::Unlink, b"/a", 1, &mut room);
+    assert_eq!(rt; reported(rt.alloc(), encoded, &room), 101);
+    let encoded = encode_path_call(rt.alloc(), PathCall::Rmdir, b"/a", 2, &mut room);
+    assert_eq!(rt; reported(rt.alloc(), encoded, &room), 202);
+    let encoded = encode_path_call(rt.alloc(), PathCall::Rmtree, b"/a", 3, &mut room);
+    assert_eq!(rt; reported(rt.alloc(), encoded, &room), 303);
+    let encoded = encode_rename(rt.alloc(), b"/a", b"/b", 4, &mut room);
+    assert_eq!(rt; reported(rt.alloc(), encoded, &room), 404);
+    let encoded = encode_truncate(rt.alloc(), b"/a", 12, 5, &mut room);
+    assert_eq!(rt; reported(rt.alloc(), encoded, &room), 505);
+    let encoded = encode_punch(rt.alloc(), b"/a", 4096, 8192, 6, &mut room);
+    assert_eq!(rt; reported(rt.alloc(), encoded, &room), 606);
+    let encoded = encode_mtime(rt.alloc(), b"/a", 7, &mut room);
+    assert_eq!(rt; reported(rt.alloc(), encoded, &room), 907);
+    let encoded = encode_snapshot_call(rt.alloc(), SnapshotCall::Remove, b"s", &mut room);
+    assert_eq!(rt; reported(rt.alloc(), encoded, &room), 700);
+    let encoded = encode_snapshot_call(rt.alloc(), SnapshotCall::Restore, b"s", &mut room);
+    assert_eq!(rt; reported(rt.alloc(), encoded, &room), 800);
     Ok(())
 }
 
-/// Whether a call ended so.
+/// Whether a call has this result.
 fn ends_so(reported: Result<usize, Errno>, want: Result<usize, Errno>) -> bool {
     reported == want
 }
@@ -123,22 +123,22 @@ fn ends_so(reported: Result<usize, Errno>, want: Result<usize, Errno>) -> bool {
 fn refused_texts(rt: HostRuntime) -> Result<(), Fail> {
     let mut room = [0u8; 64];
     let mkdir = PathCall::Mkdir;
-    let laid = encode_path_call(rt.alloc(), mkdir, b"", 1, &mut room);
-    assert!(rt; ends_so(laid, Err(Errno::ENOENT)));
-    let laid = encode_path_call(rt.alloc(), mkdir, b"a", 1, &mut room);
-    assert!(rt; ends_so(laid, Err(Errno::EINVAL)));
-    let laid = encode_rename(rt.alloc(), b"/a", b"b", 1, &mut room);
-    assert!(rt; ends_so(laid, Err(Errno::EINVAL)));
-    let laid = encode_snapshot_call(rt.alloc(), SnapshotCall::Snapshot, b"", &mut room);
-    assert!(rt; ends_so(laid, Err(Errno::EINVAL)));
-    // No room: the size alone.
-    let laid = encode_path_call(rt.alloc(), mkdir, b"/a", 1, &mut []);
-    assert!(rt; ends_so(laid, Ok(50)));
+    let encoded = encode_path_call(rt.alloc(), mkdir, b"", 1, &mut room);
+    assert!(rt; ends_so(encoded, Err(Errno::ENOENT)));
+    let encoded = encode_path_call(rt.alloc(), mkdir, b"a", 1, &mut room);
+    assert!(rt; ends_so(encoded, Err(Errno::EINVAL)));
+    let encoded = encode_rename(rt.alloc(), b"/a", b"b", 1, &mut room);
+    assert!(rt; ends_so(encoded, Err(Errno::EINVAL)));
+    let encoded = encode_snapshot_call(rt.alloc(), SnapshotCall::Snapshot, b"", &mut room);
+    assert!(rt; ends_so(encoded, Err(Errno::EINVAL)));
+    // An empty buffer: only the size is returned.
+    let encoded = encode_path_call(rt.alloc(), mkdir, b"/a", 1, &mut []);
+    assert!(rt; ends_so(encoded, Ok(50)));
     assert_eq!(rt; room[0], 0);
     Ok(())
 }
 
-/// How many changes a body is, or its refusal.
+/// The number of changes in a body, or its error.
 fn count(alloc: Global, body: &[u8]) -> Result<usize, Errno> {
     match decode_entries(alloc, body) {
         Ok(changes) => Ok(changes.len()),
@@ -146,8 +146,8 @@ fn count(alloc: Global, body: &[u8]) -> Result<usize, Errno> {
     }
 }
 
-/// The beginning of a body up to a size, a byte's place, if it has that, what the byte becomes, and how many changes that is, or its
-/// refusal.
+/// A body up to a size; the index of a byte, if that is in it, and the byte's new value; and the number of changes in the result, or
+/// its error.
 type Row = (&'static [u8], usize, usize, u8, Result<usize, Errno>);
 
 const ROWS: [Row; 13] = [
@@ -157,21 +157,21 @@ const ROWS: [Row; 13] = [
     (FIRST_BODY, FIRST_BODY.len(), 0, 0, Err(Errno::EINVAL)),
     (FIRST_BODY, FIRST_BODY.len(), 0, 14, Err(Errno::EINVAL)),
     (FIRST_BODY, FIRST_BODY.len(), 0, 5, Ok(1)),
-    // A number that the change has not.
+    // A number that the change does not have.
     (FIRST_BODY, FIRST_BODY.len(), 16, 1, Err(Errno::EINVAL)),
     (FIRST_BODY, FIRST_BODY.len(), 24, 1, Err(Errno::EINVAL)),
     // Texts that are too long for the body, or leave bytes.
     (FIRST_BODY, FIRST_BODY.len(), 32, 3, Err(Errno::EINVAL)),
     (FIRST_BODY, FIRST_BODY.len(), 32, 1, Err(Errno::EINVAL)),
     (FIRST_BODY, FIRST_BODY.len(), 40, 1, Err(Errno::EINVAL)),
-    // No path.
+    // Not a path.
     (FIRST_BODY, FIRST_BODY.len(), 48, b'a', Err(Errno::EINVAL)),
     // Cut off.
     (FIRST_BODY, 49, 999, 0, Err(Errno::EINVAL)),
     (SECOND_BODY, 100, 999, 0, Err(Errno::EINVAL)),
 ];
 
-/// Whether changed bytes are so many changes, or are refused so.
+/// Whether changed bytes have that many changes, or fail with this error.
 fn are_changes(alloc: Global, bytes: &mut [u8], row: &Row) -> bool {
     if let Some(byte) = bytes.get_mut(row.2) {
         *byte = row.3;
@@ -179,7 +179,7 @@ fn are_changes(alloc: Global, bytes: &mut [u8], row: &Row) -> bool {
     ends_so(count(alloc, bytes), row.4)
 }
 
-/// Whether a row is so.
+/// Whether a row passes.
 fn is_row(alloc: Global, row: &Row) -> bool {
     let Some(body) = row.0.get(..row.1) else {
         return false;

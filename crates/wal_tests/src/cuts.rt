@@ -1,4 +1,4 @@
-//! A log that is cut at each of its bytes, and one of which each byte is changed.
+//! Tests of a log that is cut at each of its bytes, and of one in which each byte is changed.
 use crate::log_by_hand::{
     FIRST, FIRST_BODY, FIRST_END, LOG, SALT, SALTED, SECOND_BODY, SECOND_END, SIZE, THIRD_BODY,
 };
@@ -7,7 +7,7 @@ use std::test::Fail;
 use wal::encode::encode_frame;
 use wal::next_record;
 
-/// How many records count of a log with this salt.
+/// The number of valid records of a log with this salt.
 fn records_in(log: &[u8], salt: &[u8]) -> u64 {
     let mut rest = log;
     for number in 0..8 {
@@ -19,7 +19,7 @@ fn records_in(log: &[u8], salt: &[u8]) -> u64 {
     8
 }
 
-/// How many of the three records end at this byte or before it.
+/// How many of the three records end at or before this byte.
 fn whole_before(place: usize) -> u64 {
     if place < FIRST_END {
         0
@@ -32,12 +32,12 @@ fn whole_before(place: usize) -> u64 {
     }
 }
 
-/// Whether a log that is cut at this byte has the records that lie whole before it.
+/// Whether the valid records of a log that is cut at this byte are those that are whole before it.
 fn is_cut_well(log: &[u8], salt: &[u8], place: usize) -> bool {
     place <= log.len() && records_in(&log[..place], salt) == whole_before(place)
 }
 
-/// Whether a log with another byte at this place has the records that end before it.
+/// Whether the valid records of a log with another byte here are those that end before it.
 fn is_reported(alloc: Global, log: &[u8], salt: &[u8], place: usize) -> bool {
     let Ok(mut log) = Vec::from_slice(alloc, log) else {
         return false;

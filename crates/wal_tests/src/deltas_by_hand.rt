@@ -1,5 +1,5 @@
-//! Images, deltas between them, and what asks for one. No function that asks ensures anything, so that no proof of a test reads what a
-//! delta is.
+//! Images, deltas between them, and helpers that compute deltas. The helpers have no postconditions, so that the proofs of the tests
+//! do not unfold what a delta is.
 use delta::{DeltaFault, apply_delta, image_digest, print_delta};
 use images::{load_text, print_image};
 use node::Shape;

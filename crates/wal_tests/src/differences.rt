@@ -1,9 +1,9 @@
-//! What is printed of two trees, and what a volume has when it is applied.
+//! Tests of the delta that is printed for two trees, and of applying it to a volume.
 use crate::deltas_by_hand::{TREE, apply, between, delta, has_image, load};
 use std::alloc::Global;
 use std::test::Fail;
 
-/// Whether this delta is printed of `TREE` and of another image.
+/// Whether this delta is printed for `TREE` and another image.
 fn prints_text(alloc: Global, wanted: &[u8], image: &[u8]) -> bool {
     match between(alloc, TREE.as_bytes(), image) {
         Some(found) => found.as_slice() == wanted,
@@ -11,7 +11,7 @@ fn prints_text(alloc: Global, wanted: &[u8], image: &[u8]) -> bool {
     }
 }
 
-/// Whether the delta of these commands is printed of `TREE` and of another image.
+/// Whether the delta of these commands is printed for `TREE` and another image.
 fn prints(alloc: Global, commands: &str, image: &str) -> bool {
     match delta(alloc, commands) {
         Some(wanted) => prints_text(alloc, wanted.as_slice(), image.as_bytes()),
@@ -19,7 +19,7 @@ fn prints(alloc: Global, commands: &str, image: &str) -> bool {
     }
 }
 
-/// Whether a delta makes of a volume with `TREE` one with the other image.
+/// Whether applying a delta to a volume with `TREE` gives the other image.
 fn makes_image(alloc: Global, text: &[u8], image: &[u8]) -> bool {
     match load(alloc, TREE.as_bytes()) {
         Some(mut volume) => {
@@ -29,7 +29,7 @@ fn makes_image(alloc: Global, text: &[u8], image: &[u8]) -> bool {
     }
 }
 
-/// Whether the delta of these commands makes of a volume with `TREE` one with the other image.
+/// Whether applying the delta of these commands to a volume with `TREE` gives the other image.
 fn makes(alloc: Global, commands: &str, image: &str) -> bool {
     match delta(alloc, commands) {
         Some(text) => makes_image(alloc, text.as_slice(), image.as_bytes()),
@@ -44,7 +44,7 @@ fn is_between(alloc: Global, commands: &str, image: &str) -> bool {
 /// The commands, and the image that they make of `TREE`.
 type Row = (&'static str, &'static str);
 
-/// Nothing differs; a file was added; a subtree was removed; a block was changed; a moment was.
+/// nothing differs; a file was added; a subtree was removed; a block was changed; an mtime was changed
 const ROWS: [Row; 6] = [
     ("= 7\nend\n", TREE),
     (

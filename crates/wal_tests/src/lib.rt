@@ -1,7 +1,7 @@
-//! Tests of how a tree is stored: holes in files, records of attributes, logs, and differences of trees.
+//! Tests of how a tree is stored: holes in files, attribute records, logs, and differences of trees.
 //!
-//! Their rows have the values written out. They stand in a crate of their own, since what a crate with tests proves is proved once more
-//! with them.
+//! Their tables have the values written out. They are in a crate of their own, since the proofs of a crate with tests are checked again
+//! with the tests.
 #![tactic(auto)]
 
 #[cfg(test)]

@@ -1,26 +1,26 @@
-//! Logs that were made by hand: the digests are those of another program.
+//! Logs that were written by hand; another program computed their digests.
 
 /// The number of the first record.
 pub(crate) const FIRST: u64 = 5;
 
-/// Where the first of the three records ends.
+/// The end of the first of the three records.
 pub(crate) const FIRST_END: usize = 106;
 
-/// Where the second ends.
+/// The end of the second.
 pub(crate) const SECOND_END: usize = 268;
 
-/// How many bytes the log has: where the third ends.
+/// The length of the log: the end of the third.
 pub(crate) const SIZE: usize = 373;
 
-/// The body of the first record: `mkdir /a` at the moment 7.
+/// The body of the first record: `mkdir /a` at timestamp 7.
 pub(crate) const FIRST_BODY: &[u8] =
     b"\x01\x00\x00\x00\x00\x00\x00\x00\x07\x00\x00\x00\x00\x00\x00\x00\x00\x00\x00\x00\x00\x00\x00\x00\x00\x00\x00\x00\x00\x00\x00\x00\x02\x00\x00\x00\x00\x00\x00\x00\x00\x00\x00\x00\x00\x00\x00\x00/a";
 
-/// That of the second: `create /a/x` at 8, and `hi` written from byte 2 on at 9.
+/// The body of the second: `create /a/x` at 8, and a write of `hi` from byte 2 on at 9.
 pub(crate) const SECOND_BODY: &[u8] =
     b"\x02\x00\x00\x00\x00\x00\x00\x00\x08\x00\x00\x00\x00\x00\x00\x00\x00\x00\x00\x00\x00\x00\x00\x00\x00\x00\x00\x00\x00\x00\x00\x00\x04\x00\x00\x00\x00\x00\x00\x00\x00\x00\x00\x00\x00\x00\x00\x00/a/x\x08\x00\x00\x00\x00\x00\x00\x00\x09\x00\x00\x00\x00\x00\x00\x00\x02\x00\x00\x00\x00\x00\x00\x00\x00\x00\x00\x00\x00\x00\x00\x00\x04\x00\x00\x00\x00\x00\x00\x00\x02\x00\x00\x00\x00\x00\x00\x00/a/xhi";
 
-/// That of the third: the snapshot `s`.
+/// The body of the third: the snapshot `s`.
 pub(crate) const THIRD_BODY: &[u8] =
     b"\n\x00\x00\x00\x00\x00\x00\x00\x00\x00\x00\x00\x00\x00\x00\x00\x00\x00\x00\x00\x00\x00\x00\x00\x00\x00\x00\x00\x00\x00\x00\x00\x01\x00\x00\x00\x00\x00\x00\x00\x00\x00\x00\x00\x00\x00\x00\x00s";
 

@@ -1,10 +1,10 @@
-//! Paths with their mirrored paths and the paths of their records, reckoned by hand.
+//! Tests of paths with their record directories and the paths of their records, worked out by hand.
 use attributes::buffers::{write_record_dir, write_record_path};
 use pathkey::Errno;
 use std::alloc::Global;
 use std::test::Fail;
 
-/// A path, its mirrored path, and the path of its record.
+/// A path, its record directory, and the path of its record.
 const ROWS: [(&[u8], &[u8], &[u8]); 6] = [
     (b"/", b"/.doorvervain/tree", b"/.doorvervain/tree/\x01"),
     (
@@ -34,7 +34,8 @@ const ROWS: [(&[u8], &[u8], &[u8]); 6] = [
     ),
 ];
 
-/// Writes the path of the record. It ensures nothing, so that no proof of a test reads where a record lies.
+/// Writes the path of the record. It has no postcondition, so that the proofs of the tests do not unfold the path of a
+/// record.
 fn write(alloc: Global, path: &[u8], room: &mut [u8]) -> Result<usize, Errno> {
     write_record_path(alloc, path, room)
 }
@@ -60,13 +61,14 @@ fn refusal(alloc: Global, path: &[u8]) -> Option<Errno> {
     write(alloc, path, &mut room).err()
 }
 
-/// How long the path of the record is.
+/// The length of the path of the record.
 fn length_of(alloc: Global, path: &[u8]) -> Result<usize, Errno> {
     let mut room = [0u8; 8];
     write(alloc, path, &mut room)
 }
 
-/// How long the record's path is of a path with names of 100 bytes and a last one of so many, whose first may be a byte 1.
+/// The length of the record's path for a path with names of 100 bytes and a last one of the given length, whose first byte
+/// may be 1.
 fn record_length(alloc: Global, names: usize, last: usize, first: u8) -> Result<usize, Errno> {
     let mut path = Vec::new(alloc);
     if fill(&mut path, names, last, first) {
@@ -75,7 +77,7 @@ fn record_length(alloc: Global, names: usize, last: usize, first: u8) -> Result<
     Err(Errno::ENOMEM)
 }
 
-/// Writes such a path; whether there was memory.
+/// Writes such a path; `false` if an allocation fails.
 fn fill(path: &mut Vec<u8>, names: usize, last: usize, first: u8) -> bool {
     for _ in 0..names {
         if path.push(b'/').is_err() || !repeat(path, b'n', 100) {
@@ -114,7 +116,7 @@ const REFUSED: [(&[u8], Option<Errno>); 5] = [
     (b"/a/.doorvervain", None),
 ];
 
-/// Whether that is why a path has no record.
+/// Whether this is the reason why a path has no record.
 fn is_refused(alloc: Global, path: &[u8], want: Option<Errno>) -> bool {
     refusal(alloc, path) == want
 }

@@ -1,27 +1,28 @@
-//! Files of which parts were made zeros. No function here ensures anything, so that no proof of a test reads the contract of a volume.
+//! Tests of files of which parts were set to zero. No function here has a postcondition, so that the proofs of the tests do not unfold
+//! the contract of a volume.
 use crate::deltas_by_hand::freeze;
 use crate::small::new_volume;
 use std::alloc::Global;
 use volume::{Errno, Frozen, Kind, Path, SnapName, Volume};
 
-/// How many bytes have which value.
+/// A number of bytes with the same value.
 type Run = (u64, u8);
 
-/// Holes that are made in a file one after the other, and what is then told of the file.
+/// Holes that are punched in a file one after the other, and the file then.
 struct Row {
     /// The offset and the count of each.
-    asked: &'static [(u64, u64)],
-    /// How many bytes the last made zeros.
+    holes: &'static [(u64, u64)],
+    /// How many bytes the last one set to zero.
     count: u64,
-    /// The moment of the file; holes are made at moment 7.
+    /// The mtime of the file; holes are punched at timestamp 7.
     modified: u64,
     /// Its bytes.
     bytes: &'static [Run],
-    /// Its stored bytes: runs of them, each from a byte up to and without another.
+    /// Its stored extents: each from a byte up to but excluding another.
     stored: &'static [(u64, u64)],
 }
 
-/// The file before: three blocks of `a`, `b` and `c`, and 10 bytes `d`, of moment 3.
+/// The file before: three blocks of `a`, `b` and `c`, and 10 bytes `d`, with mtime 3.
 const WHOLE: [Run; 4] = [(4096, b'a'), (4096, b'b'), (4096, b'c'), (10, b'd')];
 
 const LENGTH: u64 = 12298;
@@ -30,7 +31,7 @@ const LENGTH: u64 = 12298;
 const ROWS: [Row; 11] = [
     // The second block.
     Row {
-        asked: &[(4096, 4096)],
+        holes: &[(4096, 4096)],
         count: 4096,
         modified: 7,
         bytes: &[(4096, b'a'), (4096, 0), (4096, b'c'), (10, b'd')],
@@ -38,15 +39,15 @@ const ROWS: [Row; 11] = [
     },
     // From within the first block into the third.
     Row {
-        asked: &[(4090, 4106)],
+        holes: &[(4090, 4106)],
         count: 4106,
         modified: 7,
         bytes: &[(4090, b'a'), (4106, 0), (4092, b'c'), (10, b'd')],
         stored: &[(0, 4096), (8192, LENGTH)],
     },
-    // Two bytes at the edge of two blocks: none goes.
+    // Two bytes at the edge of two blocks: none is removed.
     Row {
-        asked: &[(4095, 2)],
+        holes: &[(4095, 2)],
         count: 2,
         modified: 7,
         bytes: &[(4095, b'a'), (2, 0), (4095, b'b'), (4096, b'c'), (10, b'd')],
@@ -54,7 +55,7 @@ const ROWS: [Row; 11] = [
     },
     // One byte within a block.
     Row {
-        asked: &[(5000, 1)],
+        holes: &[(5000, 1)],
         count: 1,
         modified: 7,
         bytes: &[
@@ -67,17 +68,17 @@ const ROWS: [Row; 11] = [
         ],
         stored: &[(0, LENGTH)],
     },
-    // The first block and the beginning of the second.
+    // The first block and the first part of the second.
     Row {
-        asked: &[(0, 4100)],
+        holes: &[(0, 4100)],
         count: 4100,
         modified: 7,
         bytes: &[(4100, 0), (4092, b'b'), (4096, b'c'), (10, b'd')],
         stored: &[(4096, LENGTH)],
     },
-    // All, and beyond the end: the last block is stored in part, and stays.
+    // All, and beyond the end: the last block is stored partially, and remains.
     Row {
-        asked: &[(0, u64::MAX)],
+        holes: &[(0, u64::MAX)],
         count: LENGTH,
         modified: 7,
         bytes: &[(LENGTH, 0)],
@@ -85,15 +86,15 @@ const ROWS: [Row; 11] = [
     },
     // From within the last block on.
     Row {
-        asked: &[(12290, 1_099_511_627_776)],
+        holes: &[(12290, 1_099_511_627_776)],
         count: 8,
         modified: 7,
         bytes: &[(4096, b'a'), (4096, b'b'), (4096, b'c'), (2, b'd'), (8, 0)],
         stored: &[(0, LENGTH)],
     },
-    // Within blocks that are not stored any more: they are not stored for it.
+    // Within blocks that are not stored any more: they remain so.
     Row {
-        asked: &[(0, 8192), (10, 4100), (8000, 192)],
+        holes: &[(0, 8192), (10, 4100), (8000, 192)],
         count: 192,
         modified: 7,
         bytes: &[(8192, 0), (4096, b'c'), (10, b'd')],
@@ -101,15 +102,15 @@ const ROWS: [Row; 11] = [
     },
     // The same bytes twice.
     Row {
-        asked: &[(4000, 9000), (4000, 9000)],
+        holes: &[(4000, 9000), (4000, 9000)],
         count: 8298,
         modified: 7,
         bytes: &[(4000, b'a'), (8298, 0)],
         stored: &[(0, 4096), (12288, LENGTH)],
     },
-    // Behind the end.
+    // After the end.
     Row {
-        asked: &[(LENGTH, 1)],
+        holes: &[(LENGTH, 1)],
         count: 0,
         modified: 3,
         bytes: &WHOLE,
@@ -117,7 +118,7 @@ const ROWS: [Row; 11] = [
     },
     // Nothing.
     Row {
-        asked: &[(100, 0)],
+        holes: &[(100, 0)],
         count: 0,
         modified: 3,
         bytes: &WHOLE,
@@ -130,7 +131,7 @@ fn path(alloc: Global, text: &str) -> Option<Path> {
     Path::parse(alloc, text.as_bytes()).ok()
 }
 
-/// Puts a byte so many times behind others.
+/// Appends a byte the given number of times.
 fn push(bytes: &mut Vec<u8>, count: u64, byte: u8) -> bool {
     for _ in 0..count {
         if bytes.push(byte).is_err() {
@@ -140,7 +141,7 @@ fn push(bytes: &mut Vec<u8>, count: u64, byte: u8) -> bool {
     true
 }
 
-/// Puts the bytes of the runs behind others.
+/// Appends the bytes of the runs.
 fn push_runs(bytes: &mut Vec<u8>, runs: &[Run]) -> bool {
     for (count, byte) in runs {
         if !push(bytes, *count, *byte) {
@@ -191,7 +192,7 @@ fn write_whole(alloc: Global, volume: &mut Volume, file: &Path) -> bool {
     }
 }
 
-/// Lets a volume do what waits.
+/// Compacts a volume until nothing is pending.
 fn settle(alloc: Global, volume: &mut Volume) {
     for _ in 0..100 {
         if !relieve(alloc, volume) {
@@ -247,22 +248,22 @@ fn reads_runs(alloc: Global, tree: &Frozen, file: &Path, runs: &[Run]) -> bool {
     }
 }
 
-/// Whether it has its length, and the moment.
+/// Whether it has this length and mtime.
 fn is_reported(alloc: Global, tree: &Frozen, file: &Path, modified: u64) -> bool {
     match stat(alloc, tree, file) {
-        Some((kind, length, moment)) => {
-            kind == Kind::File && length == LENGTH && moment == modified
+        Some((kind, length, mtime)) => {
+            kind == Kind::File && length == LENGTH && mtime == modified
         }
         None => false,
     }
 }
 
-/// Whether the file of a tree has the bytes, and the moment.
+/// Whether the file of a tree has the bytes and the mtime.
 fn has_bytes(alloc: Global, tree: &Frozen, file: &Path, runs: &[Run], modified: u64) -> bool {
     reads_runs(alloc, tree, file, runs) && is_reported(alloc, tree, file, modified)
 }
 
-/// Whether these runs of the file are stored, and no others.
+/// Whether exactly these extents of the file are stored.
 fn has_runs(alloc: Global, tree: &Frozen, file: &Path, runs: &[(u64, u64)]) -> bool {
     let mut offset = 0;
     for run in runs {
@@ -278,7 +279,7 @@ fn punch(alloc: Global, volume: &mut Volume, file: &Path, hole: (u64, u64)) -> O
     volume.punch(alloc, file, hole.0, hole.1, 7).ok()
 }
 
-/// Makes the holes in the file: how many bytes the last made zeros.
+/// Punches the holes in the file; returns how many bytes the last one set to zero.
 fn punch_each(
     alloc: Global,
     volume: &mut Volume,
@@ -310,7 +311,7 @@ fn is_live(alloc: Global, volume: &Volume, file: &Path, row: &Row) -> bool {
     }
 }
 
-/// The runs that are stored before any hole.
+/// The stored extents before any hole.
 const ALL: [(u64, u64); 1] = [(0, LENGTH)];
 
 /// Whether a snapshot has the file before any hole.
@@ -323,7 +324,7 @@ fn keeps(alloc: Global, volume: &Volume, file: &Path, name: &SnapName) -> bool {
     }
 }
 
-/// Whether holes are made in a volume as their row says, and a snapshot that was taken before keeps its bytes.
+/// Whether punching holes in a volume has the result of the row, and a snapshot that was taken before keeps its bytes.
 fn makes_beside(
     alloc: Global,
     volume: &mut Volume,
@@ -332,12 +333,13 @@ fn makes_beside(
     row: &Row,
 ) -> bool {
     snapshot(alloc, volume, name)
-        && punch_each(alloc, volume, file, row.asked) == Some(row.count)
+        && punch_each(alloc, volume, file, row.holes) == Some(row.count)
         && is_live(alloc, volume, file, row)
         && keeps(alloc, volume, file, name)
 }
 
-/// Whether holes are made in a new volume as their row says, and a snapshot that is taken before keeps its bytes.
+/// Whether punching holes in a new volume has the result of the row, and a snapshot that is taken before keeps its
+/// bytes.
 fn makes(alloc: Global, file: &Path, name: &SnapName, row: &Row) -> bool {
     match filled(alloc, file) {
         Some(mut volume) => makes_beside(alloc, &mut volume, file, name, row),
@@ -345,7 +347,7 @@ fn makes(alloc: Global, file: &Path, name: &SnapName, row: &Row) -> bool {
     }
 }
 
-/// Whether the holes of each row are made in a file as it says; the number of the first of which they are not.
+/// Whether punching the holes of each row has its result; otherwise the index of the first that fails.
 fn makes_each(alloc: Global, file: &Path, name: &SnapName) -> Result<(), usize> {
     for (number, row) in ROWS.iter().enumerate() {
         if !makes(alloc, file, name, row) {
@@ -355,7 +357,7 @@ fn makes_each(alloc: Global, file: &Path, name: &SnapName) -> Result<(), usize> 
     Ok(())
 }
 
-/// Whether the holes of each row are made in a file as it says, beside a snapshot with the name `before`.
+/// Whether punching the holes of each row has its result, with a snapshot named `before`.
 fn makes_each_beside(alloc: Global, file: &Path) -> Result<(), usize> {
     match SnapName::parse(alloc, b"before") {
         Ok(name) => makes_each(alloc, file, &name),
@@ -363,7 +365,7 @@ fn makes_each_beside(alloc: Global, file: &Path) -> Result<(), usize> {
     }
 }
 
-/// Whether the holes of each row are made in the file `/f` as it says.
+/// Whether punching the holes of each row in the file `/f` has its result.
 fn makes_each_at(alloc: Global) -> Result<(), usize> {
     match path(alloc, "/f") {
         Some(file) => makes_each_beside(alloc, &file),
@@ -376,23 +378,23 @@ fn makes_zeros_of_a_part_of_a_file(rt: HostRuntime) -> Result<(), usize> {
     makes_each_at(rt.alloc())
 }
 
-/// Why no hole is made at a path.
+/// The error of punching a hole at a path.
 fn fault_of_punch(alloc: Global, volume: &mut Volume, path: &Path) -> Option<Errno> {
     volume.punch(alloc, path, 0, 1, 7).err()
 }
 
-/// Why it is not told what is stored there.
+/// The error of requesting the stored extents at a path.
 fn fault_of_stored(alloc: Global, volume: &Volume, path: &Path) -> Option<Errno> {
     volume.next_extent(alloc, path, 0).err()
 }
 
-/// Whether both calls are refused so.
+/// Whether both calls fail with this error.
 fn are_refused(alloc: Global, volume: &mut Volume, path: &Path, fault: Errno) -> bool {
     fault_of_punch(alloc, volume, path) == Some(fault)
         && fault_of_stored(alloc, volume, path) == Some(fault)
 }
 
-/// Whether both calls are refused with this fault at the path that a text names.
+/// Whether both calls at the path of a text fail with this error.
 fn are_refused_at(alloc: Global, volume: &mut Volume, text: &str, fault: Errno) -> bool {
     match path(alloc, text) {
         Some(path) => are_refused(alloc, volume, &path, fault),
@@ -400,7 +402,7 @@ fn are_refused_at(alloc: Global, volume: &mut Volume, text: &str, fault: Errno) 
     }
 }
 
-/// Where no file stands, and why the calls are refused there.
+/// Paths without a file, and the error of the calls there.
 const REFUSED: [(&str, Errno); 4] = [
     ("/", Errno::EISDIR),
     ("/d", Errno::EISDIR),
@@ -408,7 +410,7 @@ const REFUSED: [(&str, Errno); 4] = [
     ("/f/x", Errno::ENOTDIR),
 ];
 
-/// Whether both calls are refused at each; the number of the first where they are not.
+/// Whether both calls fail at each; otherwise the index of the first where they do not.
 fn are_refused_each(alloc: Global, volume: &mut Volume) -> Result<(), usize> {
     for (number, (text, fault)) in REFUSED.iter().enumerate() {
         if !are_refused_at(alloc, volume, text, *fault) {
@@ -426,7 +428,8 @@ fn is_whole(alloc: Global, volume: &Volume, file: &Path) -> bool {
     }
 }
 
-/// Whether both calls are refused where no file stands, and nothing is changed; the number of the first where it is otherwise.
+/// Whether both calls fail at each path without a file, and nothing changes; otherwise the index of the first where it is
+/// otherwise.
 fn refuses_each_in(alloc: Global, volume: &mut Volume, file: &Path) -> Result<(), usize> {
     are_refused_each(alloc, volume)?;
     if is_whole(alloc, volume, file) {
@@ -436,7 +439,7 @@ fn refuses_each_in(alloc: Global, volume: &mut Volume, file: &Path) -> Result<()
     }
 }
 
-/// Whether both calls are refused where no file stands in a new volume, and nothing is changed.
+/// Whether both calls fail at each path without a file in a new volume, and nothing changes.
 fn refuses_each(alloc: Global, file: &Path) -> Result<(), usize> {
     match filled(alloc, file) {
         Some(mut volume) => refuses_each_in(alloc, &mut volume, file),
@@ -444,7 +447,7 @@ fn refuses_each(alloc: Global, file: &Path) -> Result<(), usize> {
     }
 }
 
-/// Whether both calls are refused where no file stands, and the file `/f` stays whole.
+/// Whether both calls fail at each path without a file, and the file `/f` is unchanged.
 fn refuses_each_beside(alloc: Global) -> Result<(), usize> {
     match path(alloc, "/f") {
         Some(file) => refuses_each(alloc, &file),

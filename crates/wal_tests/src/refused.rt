@@ -1,11 +1,11 @@
-//! Texts that are no deltas, deltas of other trees, and deltas that make no image.
+//! Tests of texts that are not deltas, deltas of other trees, and deltas whose result is not an image.
 use crate::deltas_by_hand::{FIRST, TREE, apply, delta, has_image, load};
 use delta::DeltaFault;
 use std::alloc::Global;
 use std::test::Fail;
 use volume::Volume;
 
-/// What a volume answers to a delta, where it has the image of `TREE` behind it.
+/// The result of applying a delta to a volume, if its image is that of `TREE` afterwards.
 fn answer_in(alloc: Global, volume: &mut Volume, text: &[u8]) -> Option<DeltaFault> {
     let fault = apply(alloc, volume, text).err();
     if has_image(alloc, volume, TREE.as_bytes()) {
@@ -14,7 +14,7 @@ fn answer_in(alloc: Global, volume: &mut Volume, text: &[u8]) -> Option<DeltaFau
     None
 }
 
-/// What a volume with `TREE` answers to a delta, where it has that image behind it too.
+/// The result of applying a delta to a volume with `TREE`, if it has that image afterwards too.
 fn answer(alloc: Global, text: &[u8]) -> Option<DeltaFault> {
     match load(alloc, TREE.as_bytes()) {
         Some(mut volume) => answer_in(alloc, &mut volume, text),
@@ -22,7 +22,7 @@ fn answer(alloc: Global, text: &[u8]) -> Option<DeltaFault> {
     }
 }
 
-/// Whether that is what is answered to a delta.
+/// Whether this is the result of applying a delta.
 fn is_answer(alloc: Global, text: &[u8], want: &DeltaFault) -> bool {
     match answer(alloc, text) {
         Some(fault) => fault == *want,
@@ -30,7 +30,7 @@ fn is_answer(alloc: Global, text: &[u8], want: &DeltaFault) -> bool {
     }
 }
 
-/// Whether this fault is what is answered to a delta of the first line and these lines.
+/// Whether applying a delta of the first line and these lines has this error.
 fn is_answer_to(alloc: Global, commands: &str, want: &DeltaFault) -> bool {
     match delta(alloc, commands) {
         Some(text) => is_answer(alloc, text.as_slice(), want),
@@ -38,7 +38,7 @@ fn is_answer_to(alloc: Global, commands: &str, want: &DeltaFault) -> bool {
     }
 }
 
-/// Lines behind the first, and the number of the first bad line.
+/// Lines after the first, and the number of the first bad line.
 const BAD: [(&str, u64); 14] = [
     ("", 2),
     ("= 7\n", 3),
@@ -105,7 +105,7 @@ fn another_tree(rt: HostRuntime) -> Result<(), Fail> {
     Ok(())
 }
 
-/// Commands that ask for more lines than there are, leave some, or make lines that are no image.
+/// Commands that use more lines than there are, leave some, or produce lines that are not an image.
 const SPOILT: [&str; 6] = [
     "= 8\nend\n",
     "- 8\nend\n",
@@ -115,13 +115,13 @@ const SPOILT: [&str; 6] = [
     "= 7\n+ F /b 0 1\nend\n",
 ];
 
-/// Whether no image comes of commands.
+/// Whether the result of the commands is not an image.
 fn is_spoilt(alloc: Global, commands: &str) -> bool {
     is_answer_to(alloc, commands, &DeltaFault::NoImage)
 }
 
 #[test]
-fn no_image_comes_of_it(rt: HostRuntime) -> Result<(), Fail> {
+fn result_is_not_an_image(rt: HostRuntime) -> Result<(), Fail> {
     for number in 0..6usize {
         assert!(rt; is_spoilt(rt.alloc(), SPOILT[number]), "{number}");
     }

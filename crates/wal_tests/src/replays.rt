@@ -1,4 +1,4 @@
-//! What a log makes of a volume.
+//! Tests of replaying a log on a volume.
 use crate::log_by_hand::{FIRST, FIRST_END, LOG, SALT, SALTED, SECOND_END, SIZE};
 use crate::small::new_volume;
 use pathkey::{Errno, Path};
@@ -12,7 +12,8 @@ fn front(log: &'static [u8], end: usize) -> &'static [u8] {
     if end <= log.len() { &log[..end] } else { log }
 }
 
-/// What a volume tells of a path. It ensures nothing, so that no proof of a test reads the contract of a volume.
+/// The length of the file at a path. It has no postcondition, so that the proofs of the tests do not unfold the
+/// contract of a volume.
 fn length_of(alloc: Global, volume: &Volume, path: &Path) -> Result<u64, Errno> {
     match volume.stat(alloc, path) {
         Ok((_, length, _)) => Ok(length),
@@ -34,7 +35,7 @@ fn replayed(
     Some(replay(alloc, volume, log, salt, number))
 }
 
-/// Whether the file that the log makes has this length, or is missing so.
+/// Whether the file that the log creates has this length, or this error.
 fn has_length(alloc: Global, volume: &Volume, want: Result<u64, Errno>) -> bool {
     match Path::parse(alloc, b"/a/x") {
         Ok(path) => length_of(alloc, volume, &path) == want,
@@ -42,26 +43,26 @@ fn has_length(alloc: Global, volume: &Volume, want: Result<u64, Errno>) -> bool 
     }
 }
 
-/// What a log does on a new volume.
+/// A replay on a new volume.
 #[derive(Clone, Copy)]
 struct Row {
     log: &'static [u8],
     salt: &'static [u8],
     /// The number of its first record.
     number: u64,
-    /// What is told of it.
+    /// The expected report.
     reported: ReplayReport,
     /// The length of the file.
     length: Result<u64, Errno>,
 }
 
-/// Whether a log does that on a volume.
+/// Whether a replay on a volume has the expected results.
 fn does(alloc: Global, volume: &mut Volume, row: &Row) -> bool {
     replayed(alloc, volume, row.log, row.salt, row.number) == Some(row.reported)
         && has_length(alloc, volume, row.length)
 }
 
-/// Whether a log does what its row says on a new volume.
+/// Whether a replay on a new volume has the results of its row.
 fn does_on_new(alloc: Global, row: &Row) -> bool {
     match new_volume(alloc) {
         Some(mut volume) => does(alloc, &mut volume, row),
@@ -69,7 +70,7 @@ fn does_on_new(alloc: Global, row: &Row) -> bool {
     }
 }
 
-/// Where a log ends, how many records were done of it, how many bytes those take, and the length of the file.
+/// The end of a log, the number of records that are applied, their length in bytes, and the length of the file.
 const ENDS: [(usize, usize, usize, Result<u64, Errno>); 6] = [
     (0, 0, 0, Err(Errno::ENOENT)),
     (FIRST_END - 1, 0, 0, Err(Errno::ENOENT)),
@@ -79,7 +80,7 @@ const ENDS: [(usize, usize, usize, Result<u64, Errno>); 6] = [
     (SIZE, 3, SIZE, Ok(4)),
 ];
 
-/// The row of a log with this salt that ends there.
+/// The row of a log with this salt and end.
 fn row_of(
     log: &'static [u8],
     salt: &'static [u8],
@@ -116,7 +117,7 @@ fn whole_and_cut(rt: HostRuntime) -> Result<(), Fail> {
     Ok(())
 }
 
-/// The second record alone: `/a` is missing where its file is made.
+/// Only the second record: `/a` is missing where its file is created.
 fn second_alone() -> Row {
     let fault = Errno::ENOENT;
     let reported = ReplayReport {

@@ -1,4 +1,4 @@
-//! Bodies told as lines of a script, against lines that were written by hand.
+//! Tests of printing bodies as lines of a script, against lines that were written by hand.
 use crate::log_by_hand::{FIRST_BODY, SECOND_BODY, THIRD_BODY};
 use pathkey::Errno;
 use std::alloc::Global;
@@ -9,12 +9,12 @@ use wal::encode::{
 };
 use wal::{PathCall, SnapshotCall, wal_dump};
 
-/// The lines of a body. It ensures nothing, so that no proof of a test reads what they mean.
+/// The lines of a body. It has no postcondition, so that the proofs of the tests do not unfold what they mean.
 fn lines(alloc: Global, body: &[u8]) -> Result<Vec<u8>, Errno> {
     wal_dump(alloc, body)
 }
 
-/// Whether a body is told by these lines.
+/// Whether a body is printed as these lines.
 fn is_reported(alloc: Global, body: &[u8], want: &[u8]) -> bool {
     match lines(alloc, body) {
         Ok(text) => text.as_slice() == want,
@@ -22,15 +22,20 @@ fn is_reported(alloc: Global, body: &[u8], want: &[u8]) -> bool {
     }
 }
 
-/// Whether a change that was laid is told by these lines.
-fn is_laid_reported(alloc: Global, laid: Result<usize, Errno>, room: &[u8], want: &[u8]) -> bool {
-    match laid {
+/// Whether an encoded change is printed as these lines.
+fn is_encoded_reported(
+    alloc: Global,
+    encoded: Result<usize, Errno>,
+    room: &[u8],
+    want: &[u8],
+) -> bool {
+    match encoded {
         Ok(size) => size <= room.len() && is_reported(alloc, &room[..size], want),
         Err(_) => false,
     }
 }
 
-/// Why a body is not told, if it is not.
+/// The error of printing a body, if it fails.
 fn fault_of(alloc: Global, body: &[u8]) -> Option<Errno> {
     match lines(alloc, body) {
         Ok(_) => None,
@@ -38,9 +43,9 @@ fn fault_of(alloc: Global, body: &[u8]) -> Option<Errno> {
     }
 }
 
-/// Why a body that was laid is not told, if it is not.
-fn fault_of_laid(alloc: Global, laid: Result<usize, Errno>, room: &[u8]) -> Option<Errno> {
-    match laid {
+/// The error of printing an encoded body, if it fails.
+fn fault_of_encoded(alloc: Global, encoded: Result<usize, Errno>, room: &[u8]) -> Option<Errno> {
+    match encoded {
         Ok(size) if size <= room.len() => fault_of(alloc, &room[..size]),
         _ => None,
     }
@@ -65,46 +70,50 @@ fn reported_as_by_hand(rt: HostRuntime) -> Result<(), Fail> {
 #[test]
 fn each_change_reported(rt: HostRuntime) -> Result<(), Fail> {
     let mut room = [0u8; 64];
-    let laid = encode_path_call(rt.alloc(), PathCall::Unlink, b"/", 1, &mut room);
-    assert!(rt; is_laid_reported(rt.alloc(), laid, &room, b"at 1\nunlink /\n"));
-    let laid = encode_rename(rt.alloc(), b"/a b", b"/%", 4, &mut room);
-    assert!(rt; is_laid_reported(rt.alloc(), laid, &room, b"at 4\nrename /a%20b /%25\n"));
-    let laid = encode_truncate(rt.alloc(), b"/a", 12, 5, &mut room);
-    assert!(rt; is_laid_reported(rt.alloc(), laid, &room, b"at 5\ntruncate /a 12\n"));
-    let laid = encode_write(rt.alloc(), b"/a", 7, b"", 6, &mut room);
-    assert!(rt; is_laid_reported(rt.alloc(), laid, &room, b"at 6\nwrite /a 7 -\n"));
-    let laid = encode_write(rt.alloc(), b"/a", u64::MAX, b"x", 6, &mut room);
-    assert_eq!(rt; fault_of_laid(rt.alloc(), laid, &room), Some(Errno::EFBIG));
-    let laid = encode_punch(rt.alloc(), b"/a", 4096, 8192, 6, &mut room);
-    assert!(rt; is_laid_reported(rt.alloc(), laid, &room, b"# punch /a 4096 8192\n"));
-    let laid = encode_mtime(rt.alloc(), b"/a b", 6, &mut room);
-    assert!(rt; is_laid_reported(rt.alloc(), laid, &room, b"# mtime /a%20b 6\n"));
-    let laid = encode_snapshot_call(rt.alloc(), SnapshotCall::Remove, b"s", &mut room);
-    assert!(rt; is_laid_reported(rt.alloc(), laid, &room, b"drop s\n"));
-    let laid = encode_snapshot_call(rt.alloc(), SnapshotCall::Restore, b"s", &mut room);
-    assert!(rt; is_laid_reported(rt.alloc(), laid, &room, b"restore s\n"));
+    let encoded = encode_path_call(rt.alloc(), PathCall::Unlink, b"/", 1, &mut room);
+    assert!(rt; is_encoded_reported(rt.alloc(), encoded, &room, b"at 1\nunlink /\n"));
+    let encoded = encode_rename(rt.alloc(), b"/a b", b"/%", 4, &mut room);
+    assert!(rt; is_encoded_reported(rt.alloc(), encoded, &room, b"at 4\nrename /a%20b /%25\n"));
+    let encoded = encode_truncate(rt.alloc(), b"/a", 12, 5, &mut room);
+    assert!(rt; is_encoded_reported(rt.alloc(), encoded, &room, b"at 5\ntruncate /a 12\n"));
+    let encoded = encode_write(rt.alloc(), b"/a", 7, b"", 6, &mut room);
+    assert!(rt; is_encoded_reported(rt.alloc(), encoded, &room, b"at 6\nwrite /a 7 -\n"));
+    let encoded = encode_write(rt.alloc(), b"/a", u64::MAX, b"x", 6, &mut room);
+    assert_eq!(rt;
+        fault_of_encoded(rt.alloc(), encoded, &room),
+        Some(Errno::EFBIG)
+    );
+    let encoded = encode_punch(rt.alloc(), b"/a", 4096, 8192, 6, &mut room);
+    assert!(rt; is_encoded_reported(rt.alloc(), encoded, &room, b"# punch /a 4096 8192\n"));
+    let encoded = encode_mtime(rt.alloc(), b"/a b", 6, &mut room);
+    assert!(rt; is_encoded_reported(rt.alloc(), encoded, &room, b"# mtime /a%20b 6\n"));
+    let encoded = encode_snapshot_call(rt.alloc(), SnapshotCall::Remove, b"s", &mut room);
+    assert!(rt; is_encoded_reported(rt.alloc(), encoded, &room, b"drop s\n"));
+    let encoded = encode_snapshot_call(rt.alloc(), SnapshotCall::Restore, b"s", &mut room);
+    assert!(rt; is_encoded_reported(rt.alloc(), encoded, &room, b"restore s\n"));
     Ok(())
 }
 
-/// Lays the write of bytes at the moment 2. It ensures nothing, so that no proof of a test reads what is laid.
-fn lay(alloc: Global, path: &[u8], offset: u64, bytes: &[u8], room: &mut [u8]) -> Option<usize> {
+/// Encodes the write of bytes at timestamp 2. It has no postcondition, so that the proofs of the tests do not unfold
+/// the encoding.
+fn encode(alloc: Global, path: &[u8], offset: u64, bytes: &[u8], room: &mut [u8]) -> Option<usize> {
     encode_write(alloc, path, offset, bytes, 2, room).ok()
 }
 
-/// Lays such a write of so many zeros at the offset 3.
-fn lay_zeros(alloc: Global, count: usize, room: &mut [u8]) -> Option<usize> {
+/// Encodes such a write of that many zeros at the offset 3.
+fn encode_zeros(alloc: Global, count: usize, room: &mut [u8]) -> Option<usize> {
     match Vec::from_elem(alloc, 0u8, count) {
-        Ok(bytes) => lay(alloc, b"/a", 3, bytes.as_slice(), room),
+        Ok(bytes) => encode(alloc, b"/a", 3, bytes.as_slice(), room),
         Err(_) => None,
     }
 }
 
-/// The body of a write of so many zeros.
+/// The body of a write of that many zeros.
 fn long_body(alloc: Global, count: usize) -> Option<Vec<u8>> {
     let Ok(mut body) = Vec::from_elem(alloc, 0u8, count.saturating_add(64)) else {
         return None;
     };
-    match lay_zeros(alloc, count, body.as_mut_slice()) {
+    match encode_zeros(alloc, count, body.as_mut_slice()) {
         Some(size) => {
             body.truncate(size);
             Some(body)
@@ -113,7 +122,7 @@ fn long_body(alloc: Global, count: usize) -> Option<Vec<u8>> {
     }
 }
 
-/// The text without its zeros, or nothing.
+/// The printed text without its zeros, or nothing.
 fn shown(alloc: Global, count: usize) -> Option<Vec<u8>> {
     let body = long_body(alloc, count)?;
     let Ok(mut text) = lines(alloc, body.as_slice()) else {

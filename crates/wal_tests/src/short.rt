@@ -1,5 +1,5 @@
-//! Of many files and one change the delta is short. No function that asks ensures anything, so that no proof of a test reads the contract
-//! of a volume.
+//! Tests that the delta of many files and one change is short. The helpers have no postconditions, so that the proofs of the tests do not
+//! unfold the contract of a volume.
 use crate::deltas_by_hand::{apply, delta_of, has_image, image_of, load};
 use std::alloc::Global;
 use std::test::Fail;
@@ -52,7 +52,7 @@ fn many(alloc: Global) -> Option<Volume> {
     None
 }
 
-/// How many line feeds a text has.
+/// The number of line feeds in a text.
 fn lines_in(text: &[u8]) -> usize {
     text.iter().filter(|byte| **byte == b'\n').count()
 }
@@ -73,7 +73,7 @@ fn have_same(alloc: Global, old: &Volume, new: &Volume) -> bool {
     }
 }
 
-/// How many lines a delta has, where it makes of the old volume one with the new image.
+/// The number of lines of a delta, if applying it to the old volume gives the new image.
 fn lines_of(alloc: Global, old: &mut Volume, new: &Volume, text: &[u8]) -> Option<usize> {
     if apply(alloc, old, text).is_ok() && have_same(alloc, old, new) {
         return Some(lines_in(text));
@@ -81,7 +81,8 @@ fn lines_of(alloc: Global, old: &mut Volume, new: &Volume, text: &[u8]) -> Optio
     None
 }
 
-/// How many lines the delta between two volumes has, where it gives the old volume the image of the new one.
+/// The number of lines of the delta between two volumes, if applying it to the old volume gives the image of the new
+/// one.
 fn lines_between(alloc: Global, old: &mut Volume, new: &Volume) -> Option<usize> {
     match delta_of(alloc, old, new) {
         Some(text) => lines_of(alloc, old, new, text.as_slice()),
@@ -89,7 +90,7 @@ fn lines_between(alloc: Global, old: &mut Volume, new: &Volume) -> Option<usize>
     }
 }
 
-/// How many lines the delta has from a volume with many files to a new one where one file is changed.
+/// The number of lines of the delta from a volume with many files to a new one with one file changed.
 fn lines_behind_a_change(alloc: Global, old: &mut Volume) -> Option<usize> {
     let mut new = many(alloc)?;
     if change(alloc, &mut new) {
@@ -98,7 +99,7 @@ fn lines_behind_a_change(alloc: Global, old: &mut Volume) -> Option<usize> {
     None
 }
 
-/// How many lines the delta of one change in a new volume with many files has.
+/// The number of lines of the delta of one change in a new volume with many files.
 fn lines_of_one_change(alloc: Global) -> Option<usize> {
     match many(alloc) {
         Some(mut old) => lines_behind_a_change(alloc, &mut old),

@@ -1,4 +1,4 @@
-//! Small trees.
+//! Small trees for the tests.
 use std::alloc::Global;
 use volume::{Shape, Volume};
 
@@ -9,7 +9,8 @@ pub(crate) const SMALL: Shape = Shape {
     leaf: 4,
 };
 
-/// An empty volume of small trees. It ensures nothing, so that no proof of a test reads the contract of a volume.
+/// An empty volume of small trees. It has no postcondition, so that the proofs of the tests do not unfold the contract
+/// of a volume.
 pub(crate) fn new_volume(alloc: Global) -> Option<Volume> {
     Volume::new(alloc, SMALL).ok()
 }

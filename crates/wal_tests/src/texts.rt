@@ -1,4 +1,4 @@
-//! Attributes with their records, reckoned by hand, and texts that are no record.
+//! Tests of attributes with their records, worked out by hand, and of texts that are not records.
 use attributes::RawAttributes;
 use attributes::buffers::{read_record, write_record};
 use pathkey::Errno;
@@ -19,7 +19,7 @@ const FILE: RawAttributes = RawAttributes {
     has_modified: 0,
 };
 
-/// The first disk's block device, with a time set by hand.
+/// The first disk's block device, with an explicitly set mtime.
 const DISK: RawAttributes = RawAttributes {
     mode: 0o660,
     user: 0,
@@ -33,7 +33,7 @@ const DISK: RawAttributes = RawAttributes {
     has_modified: 1,
 };
 
-/// A directory that all may write.
+/// A directory that everyone may write.
 const SHARED: RawAttributes = RawAttributes {
     mode: 0o1777,
     user: 1000,
@@ -61,7 +61,7 @@ const GREATEST: RawAttributes = RawAttributes {
     has_modified: 1,
 };
 
-/// Fields, extended attributes side by side, and the record.
+/// Fields, packed extended attributes, and the record.
 const ROWS: [(RawAttributes, &[u8], &[u8]); 4] = [
     (
         FILE,
@@ -85,7 +85,7 @@ const ROWS: [(RawAttributes, &[u8], &[u8]); 4] = [
     ),
 ];
 
-/// Texts that are no record: a line is missing, is not in its place, has another spelling or stands twice.
+/// Texts that are not records: a line is missing, is not in its place, has another spelling or occurs twice.
 const BAD: [&[u8]; 18] = [
     b"",
     b"doorvervain record 2\nkind file\nmode 0600\nuser 0\ngroup 0\nnames 1\n",
@@ -107,7 +107,8 @@ const BAD: [&[u8]; 18] = [
     b"doorvervain record 1\nkind file\nmode 0600\nuser 0\ngroup 0\nnames 1\nextended %61 00\n",
 ];
 
-/// Writes a record. It ensures nothing, so that no proof of a test reads what a record is; nor does the next.
+/// Writes a record. It has no postcondition, so that the proofs of the tests do not unfold what a record is; nor does
+/// the next function.
 fn write(
     alloc: Global,
     fields: &RawAttributes,
@@ -180,7 +181,7 @@ fn no_records(rt: HostRuntime) -> Result<(), Fail> {
 }
 
 #[test]
-fn untold(rt: HostRuntime) -> Result<(), Fail> {
+fn are_not_valid(rt: HostRuntime) -> Result<(), Fail> {
     let kinds: [u8; 3] = [0, 9, 255];
     for kind in &kinds {
         let fields = RawAttributes {

@@ -1,4 +1,4 @@
-//! A map of std under a lock, which holds the bytes of each file under its path's key.
+//! A map of std under a lock, with the bytes of each file under its path's key.
 use crate::clients::work::Store;
 use pathkey::{Key, Path};
 use reference::Call;
@@ -9,7 +9,7 @@ use std::sync::{Mutex, Wait};
 /// The bytes of each file.
 pub type Files = BTreeMap<Key, Vec<u8>>;
 
-/// A file without bytes; whether there was none.
+/// Creates a file without bytes; returns whether there was none.
 fn create(alloc: Global, files: &mut Files, path: &Path) -> bool {
     match path.key().copy(alloc) {
         Ok(key) => matches!(files.insert(key, Vec::new(alloc)), Ok(None)),
@@ -17,7 +17,7 @@ fn create(alloc: Global, files: &mut Files, path: &Path) -> bool {
     }
 }
 
-/// Writes a file anew; whether there is one.
+/// Replaces the bytes of a file; returns whether there is one.
 fn write(files: &mut Files, path: &Path, bytes: &[u8]) -> bool {
     match files.get_mut(path.key()) {
         Some(file) => {
@@ -36,7 +36,7 @@ fn stat(files: &Files, path: &Path) -> bool {
     }
 }
 
-/// Makes a call on the map. Directories are not kept.
+/// Makes a call on the map. It has no directories.
 fn is_done(alloc: Global, files: &mut Files, call: &Call) -> bool {
     match call {
         Call::Mkdir(_) => true,

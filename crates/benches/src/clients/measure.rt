@@ -1,4 +1,4 @@
-//! How long the work takes, by so many threads, on each side.
+//! Times the work of a number of threads, on each store.
 ghost use Rattle.std.specs.Prelude.{◌≡◌, ◌≤◌};
 
 use crate::clients::map::Files;
@@ -19,7 +19,7 @@ use volume::Volume;
 /// The shape of the trees.
 const SHAPE: Shape = Shape::USUAL;
 
-/// Nanoseconds of all calls of a kind, and how many turns flushers made meanwhile.
+/// Nanoseconds of all calls of a kind, and the number of turns of flushers meanwhile.
 #[derive(Clone, Copy)]
 pub struct Figures {
     /// Of all creates.
@@ -28,7 +28,7 @@ pub struct Figures {
     pub write: u64,
     /// Of all stats.
     pub stat: u64,
-    /// How many turns were made.
+    /// The number of turns.
     pub turns: u64,
 }
 
@@ -44,8 +44,8 @@ impl Figures {
     }
 }
 
-/// Does a kind of call by a thread for each store, which share the files. How long it took; none where a call was not
-/// answered as it has to be.
+/// Makes the calls of a kind with one thread for each store, which share the files. Returns the time; `None` if a call
+/// had an unexpected reply.
 fn time<S: Store + Send, R: Threads + Wait + Clock + Sync>(
     rt: &R,
     alloc: Global,
@@ -130,7 +130,7 @@ pub fn volume_relieved<R: Threads + Wait + Clock + Sync>(
     }
 }
 
-/// So many threads share a map.
+/// A map that is shared by that many threads.
 fn share_map<R: Threads + Wait + Clock + Sync>(
     rt: &R,
     alloc: Global,
@@ -145,7 +145,7 @@ fn share_map<R: Threads + Wait + Clock + Sync>(
     time_all(rt, alloc, stores.as_mut_slice(), files)
 }
 
-/// A map under a lock, which so many threads call.
+/// A map under a lock, which that many threads call.
 pub fn map_shared<R: Threads + Wait + Clock + Sync>(
     rt: &R,
     alloc: Global,
@@ -156,7 +156,7 @@ pub fn map_shared<R: Threads + Wait + Clock + Sync>(
     share_map(rt, alloc, &map, files, threads)
 }
 
-/// Clients do the work while flushers make turns.
+/// Clients do the work while flushers run turns.
 fn beside<J: EngineId + Send + Sync, R: Threads + Wait + Clock + Sync>(
     rt: &R,
     alloc: Global,
@@ -182,7 +182,7 @@ fn beside<J: EngineId + Send + Sync, R: Threads + Wait + Clock + Sync>(
     })
 }
 
-/// An engine in the room, which so many clients call.
+/// An engine of the builder, which that many clients call.
 fn in_room<J: EngineId + Send + Sync, R: Threads + Wait + Clock + Sync>(
     rt: &R,
     alloc: Global,
@@ -207,7 +207,7 @@ fn in_room<J: EngineId + Send + Sync, R: Threads + Wait + Clock + Sync>(
     }
 }
 
-/// A room with a new volume.
+/// An engine builder with a new volume.
 fn new_room(alloc: Global) -> Option<EngineBuilder> {
     match new_volume(alloc) {
         Some(volume) => EngineBuilder::new(alloc, volume).ok(),
@@ -215,7 +215,7 @@ fn new_room(alloc: Global) -> Option<EngineBuilder> {
     }
 }
 
-/// An engine which so many clients call while so many flushers make turns.
+/// An engine which that many clients call while that many flushers run turns.
 pub fn engine_shared<R: Threads + Wait + Clock + Sync>(
     rt: &R,
     alloc: Global,

@@ -5,13 +5,13 @@ use std::rt::Clock;
 use std::sync::Wait;
 use std::thread::Threads;
 
-/// How many files are made in all: a power of two.
+/// The total number of files: a power of two.
 const FILES: u64 = 65_536;
 
-/// How many runs there are of each row.
+/// The number of runs of each row.
 const RUNS: u32 = 5;
 
-/// How many files are made where only a little of the work is done.
+/// The number of files if only a little of the work is done.
 const FEW: u64 = 64;
 
 /// A row of the table.
@@ -21,9 +21,9 @@ pub enum Row {
     Volume,
     /// A volume alone, with one step after each call.
     Relieved,
-    /// So many threads on a map under a lock.
+    /// That many threads on a map under a lock.
     Map(usize),
-    /// So many clients of an engine, beside so many flushers.
+    /// That many clients of an engine, with that many flushers.
     Engine(usize, u8),
 }
 
@@ -76,7 +76,7 @@ fn least_of<R: Threads + Wait + Clock + Sync>(
     Some(least)
 }
 
-/// Prints what a row is.
+/// Prints the name of a row.
 fn show_name(rt: &impl Print, row: Row) -> anyhow::Result<()> {
     match row {
         Row::Volume => print!(rt; "volume alone: ")?,
@@ -89,7 +89,7 @@ fn show_name(rt: &impl Print, row: Row) -> anyhow::Result<()> {
     Ok(())
 }
 
-/// Nanoseconds for each of so many files.
+/// Nanoseconds for each of that many files.
 fn each(time: u64, files: u64) -> u64 {
     time.checked_div(files).unwrap_or(0)
 }
@@ -137,7 +137,7 @@ pub fn measure<R: Threads + Wait + Clock + Print + Sync>(
     Ok(())
 }
 
-/// Prints the row of one client beside one flusher for twice and four times as many files.
+/// Prints the row of one client with one flusher for twice and four times as many files.
 pub fn measure_growth<R: Threads + Wait + Clock + Print + Sync>(
     rt: &R,
     alloc: Global,

@@ -1,4 +1,5 @@
-//! The work: each client makes the files of a directory of its own, writes a few bytes to each, and asks for each.
+//! The work: each client creates the files of a directory of its own, writes a few bytes to each, and reads the
+//! metadata of each.
 use crate::paths::path_of;
 use bytes::Bytes;
 use engine::{Client, EngineId};
@@ -8,41 +9,41 @@ use std::alloc::Global;
 use std::sync::Wait;
 use volume::Volume;
 
-/// How many bytes a write has.
+/// The number of bytes of a write.
 const LEN: u64 = 16;
 
-/// What is written.
+/// The bytes that are written.
 const TEXT: [u8; 16] = [0x5a; 16];
 
 /// A kind of call.
 #[derive(Clone, Copy)]
 pub enum Kind {
-    /// Makes the client's directory.
+    /// Creates the client's directory.
     Mkdir,
-    /// Makes a file.
+    /// Creates a file.
     Create,
     /// Writes to a file.
     Write,
-    /// Asks for a file.
+    /// Reads the metadata of a file.
     Stat,
 }
 
-/// A directory of its own for each client, with as many files as each other, a power of two.
+/// The share of one client: a directory of its own, with the same number of files as any other, a power of two.
 #[derive(Clone, Copy)]
 pub struct Share {
     /// The client's number.
     pub client: usize,
-    /// How many files it makes.
+    /// The number of files that it creates.
     pub files: u64,
 }
 
-/// What calls are made on.
+/// A store on which calls are made.
 pub trait Store {
-    /// Whether a call is answered as it has to be here.
+    /// Makes a call; returns whether it has the expected reply.
     fn is_done<R: Wait>(&mut self, rt: &R, alloc: Global, call: &Call) -> bool;
 }
 
-/// Whether this is the reply that a call has to get here.
+/// Whether this is the expected reply of a call.
 fn is_right(reply: &Reply) -> bool {
     match reply {
         Reply::Done => true,
@@ -91,7 +92,7 @@ impl Share {
         }
     }
 
-    /// The path of a file. Neighbours in number lie far apart, and each file has one number.
+    /// The path of a file. Consecutive numbers are far apart in key order, and each file has one number.
     fn file(self, alloc: Global, number: u64) -> Option<Path> {
         let client = self.client;
         let number = number
@@ -103,7 +104,7 @@ impl Share {
         }
     }
 
-    /// A call of that kind, on the file of that number where it is one on files.
+    /// A call of that kind, on the file with that number if it is one on files.
     fn call(self, alloc: Global, kind: Kind, number: u64) -> Option<Call> {
         match kind {
             Kind::Mkdir => Some(Call::Mkdir(self.directory(alloc)?)),
@@ -114,7 +115,7 @@ impl Share {
     }
 }
 
-/// How many calls of a kind are made for so many files.
+/// The number of calls of a kind for that many files.
 pub fn calls_of(kind: Kind, files: u64) -> u64 {
     match kind {
         Kind::Mkdir => 1,
@@ -130,7 +131,7 @@ fn write_call(alloc: Global, path: Path) -> Option<Call> {
     }
 }
 
-/// Makes a call; whether it was answered as it has to be.
+/// Makes a call; returns whether it has the expected reply.
 fn does<S: Store, R: Wait>(
     rt: &R,
     alloc: Global,
@@ -145,7 +146,7 @@ fn does<S: Store, R: Wait>(
     }
 }
 
-/// Makes all calls of a kind; how many were answered as they have to be.
+/// Makes all calls of a kind; returns how many have the expected reply.
 pub fn do_share<S: Store, R: Wait>(
     rt: &R,
     alloc: Global,

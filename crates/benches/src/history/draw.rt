@@ -1,36 +1,37 @@
-//! Which calls a client makes: numbers that look random choose them.
-use crate::history::call::{Asked, PathAsked};
+//! Chooses the calls of a client, by pseudo-random numbers.
+use crate::history::call::{PathRequest, Request};
 use crate::history::names::{AREAS, DIRECTORIES, FIRST_OFFSET, PLACES, ROOT, SNAPSHOTS};
 use test_support::Random;
 
-/// How many areas have half of the calls, so that clients often meet in one.
+/// The number of areas that have half of the calls, so that clients often use the same one.
 const BUSY: u32 = 4;
 
-/// How many offsets there are for a write, and how far apart these are. A mark is longer than that, so neighbours overlap, and two of
-/// them lie over the end of a block.
+/// The number of offsets of a write, and the distance between them. A mark is longer than the distance, so neighbours overlap, and
+/// two of them cross the end of a block.
 const OFFSETS: u32 = 5;
 
 const OFFSETS_APART: u64 = 5;
 
-/// How many lengths there are for a truncate beside 0, and how far apart these are.
+/// The number of lengths of a truncate besides 0, and the distance between them.
 const LENGTHS: u32 = 11;
 
 const LENGTHS_APART: u64 = 3;
 
-/// After how many calls a client rests, at an average.
+/// The average number of calls after which a client sleeps.
 const REST_AFTER: u32 = 4;
 
-/// Above this in a mark stands the client's number and one.
+/// The client's number plus one is above this in a mark.
 const CLIENT: u64 = 1 << 32;
 
-/// What chooses the calls of a client.
+/// The generator of a client's calls.
 #[derive(Drop)]
 pub struct Draw {
     random: Random,
     client: u64,
     marks: u64,
-    /// What comes next by itself: a look at a snapshot that was kept, a scan of a tree that was restored, a look at what was changed.
-    then: Option<Asked>,
+    /// The next call, if it follows from the last: a read of a snapshot that was taken, a scan of a tree that was restored, a read of
+    /// what was changed.
+    then: Option<Request>,
 }
 
 impl Draw {
@@ -62,18 +63,18 @@ impl Draw {
         (self.random.below(areas) as usize).wrapping_mul(PLACES)
     }
 
-    /// A place in an area that mostly has a directory.
+    /// The number of a path in an area at which there is mostly a directory.
     fn directory(&mut self) -> usize {
         self.random.below(DIRECTORIES) as usize
     }
 
-    /// A place in an area that mostly has a file.
+    /// The number of a path in an area at which there is mostly a file.
     fn leaf(&mut self) -> usize {
         let leaves = (PLACES as u32).wrapping_sub(DIRECTORIES);
         (self.random.below(leaves) as usize).wrapping_add(DIRECTORIES as usize)
     }
 
-    /// The path of a directory, seldom of a leaf.
+    /// The path of a directory, rarely of a leaf.
     fn directory_path(&mut self) -> usize {
         let place = if self.random.below(8) == 0 {
             self.leaf()
@@ -83,7 +84,7 @@ impl Draw {
         self.area().wrapping_add(place)
     }
 
-    /// The path of a leaf, seldom of a directory.
+    /// The path of a leaf, rarely of a directory.
     fn leaf_path(&mut self) -> usize {
         let place = if self.random.below(16) == 0 {
             self.directory()
@@ -102,8 +103,8 @@ impl Draw {
         }
     }
 
-    /// Two places of one area. What is moved never comes to stand where its entries would have no place: a leaf has none, and
-    /// the directories 1 and 2 have the same. The first of all is never moved, since the other place is below it.
+    /// Two paths of one area for a rename. Nothing is renamed to a path that has fewer places below it: a leaf has none, and
+    /// the directories 1 and 2 have the same. The first of all is never renamed, since the other path is below it.
     fn moved(&mut self) -> (usize, usize) {
         match self.random.below(16) {
             0..=8 => (self.leaf(), self.leaf()),
@@ -114,33 +115,33 @@ impl Draw {
         }
     }
 
-    /// A move within one area.
-    fn rename(&mut self) -> PathAsked {
+    /// A rename within one area.
+    fn rename(&mut self) -> PathRequest {
         let area = self.area();
         let (from, to) = self.moved();
-        PathAsked::Rename(area.wrapping_add(from), area.wrapping_add(to))
+        PathRequest::Rename(area.wrapping_add(from), area.wrapping_add(to))
     }
 
     /// A write of a new mark to a file.
-    fn patch(&mut self, path: usize) -> PathAsked {
+    fn patch(&mut self, path: usize) -> PathRequest {
         let offset = u64::from(self.random.below(OFFSETS)).wrapping_mul(OFFSETS_APART);
-        PathAsked::Write(path, FIRST_OFFSET.wrapping_add(offset), self.mark())
+        PathRequest::Write(path, FIRST_OFFSET.wrapping_add(offset), self.mark())
     }
 
     /// A write of a new mark.
-    fn write(&mut self) -> PathAsked {
+    fn write(&mut self) -> PathRequest {
         let path = self.leaf_path();
         self.patch(path)
     }
 
-    /// A truncate, in one of four to nothing.
-    fn truncate(&mut self) -> PathAsked {
+    /// A truncate, one in four of them to length 0.
+    fn truncate(&mut self) -> PathRequest {
         let path = self.leaf_path();
         if self.random.below(4) == 0 {
-            return PathAsked::Truncate(path, 0);
+            return PathRequest::Truncate(path, 0);
         }
         let more = u64::from(self.random.below(LENGTHS)).wrapping_mul(LENGTHS_APART);
-        PathAsked::Truncate(path, FIRST_OFFSET.wrapping_add(more))
+        PathRequest::Truncate(path, FIRST_OFFSET.wrapping_add(more))
     }
 
     /// The number of a snapshot's name.
@@ -148,93 +149,93 @@ impl Draw {
         self.random.below(SNAPSHOTS as u32) as usize
     }
 
-    /// Whether the client rests before its next call.
+    /// Whether the client sleeps before its next call.
     pub fn rests(&mut self) -> bool {
         self.random.below(REST_AFTER) == 0
     }
 
     /// A call on paths that changes something.
-    fn change(&mut self) -> PathAsked {
+    fn change(&mut self) -> PathRequest {
         match self.random.below(100) {
             0..=35 => self.write(),
             36..=45 => self.truncate(),
-            46..=64 => PathAsked::Create(self.leaf_path()),
-            65..=82 => PathAsked::Mkdir(self.directory_path()),
-            83..=85 => PathAsked::Unlink(self.leaf_path()),
-            86..=90 => PathAsked::Rmdir(self.directory_path()),
-            91 => PathAsked::Rmtree(self.directory_path()),
+            46..=64 => PathRequest::Create(self.leaf_path()),
+            65..=82 => PathRequest::Mkdir(self.directory_path()),
+            83..=85 => PathRequest::Unlink(self.leaf_path()),
+            86..=90 => PathRequest::Rmdir(self.directory_path()),
+            91 => PathRequest::Rmtree(self.directory_path()),
             _ => self.rename(),
         }
     }
 
     /// A call on paths that only reads.
-    fn look(&mut self) -> PathAsked {
+    fn look(&mut self) -> PathRequest {
         match self.random.below(8) {
-            0 => PathAsked::Stat(self.directory_path()),
-            1 => PathAsked::Stat(self.leaf_path()),
-            2..=3 => PathAsked::Readdir(self.listed_path()),
-            _ => PathAsked::Read(self.leaf_path()),
+            0 => PathRequest::Stat(self.directory_path()),
+            1 => PathRequest::Stat(self.leaf_path()),
+            2..=3 => PathRequest::Readdir(self.listed_path()),
+            _ => PathRequest::Read(self.leaf_path()),
         }
     }
 
-    /// A call that numbers choose.
-    fn chosen(&mut self) -> Asked {
+    /// A random call.
+    fn chosen(&mut self) -> Request {
         match self.random.below(1_000) {
-            0..=489 => Asked::Path(self.look()),
-            490..=985 => Asked::Path(self.change()),
-            986..=988 => Asked::Keep(self.name()),
-            989..=991 => Asked::Drop(self.name()),
-            992..=995 => Asked::Restore(self.name()),
-            996..=997 => Asked::Look(self.name()),
-            _ => Asked::Scan,
+            0..=489 => Request::Path(self.look()),
+            490..=985 => Request::Path(self.change()),
+            986..=988 => Request::Keep(self.name()),
+            989..=991 => Request::Drop(self.name()),
+            992..=995 => Request::Restore(self.name()),
+            996..=997 => Request::Look(self.name()),
+            _ => Request::Scan,
         }
     }
 
-    /// What may come behind a write: another patch of the file, or a look at it.
-    fn behind_write(&mut self, path: usize) -> Option<Asked> {
+    /// The call after a write: another patch of the file, or a read of it.
+    fn behind_write(&mut self, path: usize) -> Option<Request> {
         match self.random.below(8) {
-            0..=1 => Some(Asked::Path(self.patch(path))),
-            2..=3 => Some(Asked::Path(PathAsked::Read(path))),
-            4 => Some(Asked::Path(PathAsked::Stat(path))),
+            0..=1 => Some(Request::Path(self.patch(path))),
+            2..=3 => Some(Request::Path(PathRequest::Read(path))),
+            4 => Some(Request::Path(PathRequest::Stat(path))),
             _ => None,
         }
     }
 
-    /// What may come behind another change of a path: a look at it.
-    fn behind_change(&mut self, path: usize) -> Option<Asked> {
+    /// The call after another change of a path: a read of it.
+    fn behind_change(&mut self, path: usize) -> Option<Request> {
         match self.random.below(4) {
-            0 => Some(Asked::Path(PathAsked::Stat(path))),
+            0 => Some(Request::Path(PathRequest::Stat(path))),
             _ => None,
         }
     }
 
-    /// What comes behind a call on paths.
-    fn behind_path_call(&mut self, asked: PathAsked) -> Option<Asked> {
-        match asked {
-            PathAsked::Write(path, _, _) => self.behind_write(path),
-            PathAsked::Mkdir(path)
-            | PathAsked::Create(path)
-            | PathAsked::Truncate(path, _)
-            | PathAsked::Unlink(path)
-            | PathAsked::Rmdir(path)
-            | PathAsked::Rename(path, _)
-            | PathAsked::Rmtree(path) => self.behind_change(path),
-            PathAsked::Read(_) | PathAsked::Stat(_) | PathAsked::Readdir(_) => None,
+    /// The call after a call on paths.
+    fn behind_path_call(&mut self, request: PathRequest) -> Option<Request> {
+        match request {
+            PathRequest::Write(path, _, _) => self.behind_write(path),
+            PathRequest::Mkdir(path)
+            | PathRequest::Create(path)
+            | PathRequest::Truncate(path, _)
+            | PathRequest::Unlink(path)
+            | PathRequest::Rmdir(path)
+            | PathRequest::Rename(path, _)
+            | PathRequest::Rmtree(path) => self.behind_change(path),
+            PathRequest::Read(_) | PathRequest::Stat(_) | PathRequest::Readdir(_) => None,
         }
     }
 
-    /// The next call. Behind one that keeps or restores all paths comes one that sees all of them.
-    pub fn next(&mut self) -> Asked {
-        let asked = match self.then {
-            Some(asked) => asked,
+    /// The next call. A call that takes or restores a snapshot is followed by one that reads all paths of it.
+    pub fn next(&mut self) -> Request {
+        let request = match self.then {
+            Some(request) => request,
             None => self.chosen(),
         };
-        self.then = match asked {
-            Asked::Keep(name) => Some(Asked::Look(name)),
-            Asked::Restore(_) => Some(Asked::Scan),
-            Asked::Path(asked) => self.behind_path_call(asked),
+        self.then = match request {
+            Request::Keep(name) => Some(Request::Look(name)),
+            Request::Restore(_) => Some(Request::Scan),
+            Request::Path(request) => self.behind_path_call(request),
             _ => None,
         };
-        asked
+        request
     }
 }

@@ -1,6 +1,6 @@
 //! The log of a client, as text: `BEGIN END CLIENT CALL : ANSWER`, a line for each call.
 //!
-//! A call is its word with the texts of its paths, an answer is written like the replies of scripts.
+//! A call is its word with the texts of its paths; an answer is printed like the replies of scripts.
 use crate::history::names::PLACES;
 use engine::{Kind, Reply};
 use std::alloc::Global;
@@ -11,13 +11,13 @@ use test_support::ask::SampleCall;
 pub struct Log {
     /// The client's number.
     pub client: usize,
-    /// How many lines there are.
+    /// The number of lines.
     pub made: usize,
     /// The lines.
     pub text: String,
 }
 
-/// Adds a text. Whether there was memory.
+/// Adds a text; `false` if an allocation fails.
 fn put(log: &mut String, text: &str) -> bool {
     write!(log, "{text}").is_ok()
 }
@@ -32,7 +32,7 @@ fn put_hex(log: &mut String, bytes: &[u8]) -> bool {
     is_put
 }
 
-/// Adds a name, which is of letters and digits.
+/// Adds a name, which consists of letters and digits.
 fn put_name(log: &mut String, name: &[u8]) -> bool {
     let mut is_put = true;
     for byte in name {
@@ -55,7 +55,7 @@ fn put_entries(log: &mut String, entries: &[(Kind, Vec<u8>)]) -> bool {
     is_put
 }
 
-/// Adds what stands at a path.
+/// Adds the metadata of an entry.
 fn put_stat(log: &mut String, kind: Kind, len: u64, modified: u64) -> bool {
     let word = if matches!(kind, Kind::Dir) {
         "dir"
@@ -65,12 +65,12 @@ fn put_stat(log: &mut String, kind: Kind, len: u64, modified: u64) -> bool {
     write!(log, "{word} {len} {modified}").is_ok()
 }
 
-/// Adds a number behind a word.
+/// Adds a word followed by a number.
 fn put_number(log: &mut String, word: &str, number: u64) -> bool {
     write!(log, "{word} {number}").is_ok()
 }
 
-/// Adds a reply. Whether there was memory.
+/// Adds a reply; `false` if an allocation fails.
 fn put_reply(log: &mut String, reply: &Reply) -> bool {
     match reply {
         Reply::Done => put(log, "ok"),
@@ -119,7 +119,7 @@ impl Log {
         }
     }
 
-    /// Begins the line of a call that began and ended at these moments.
+    /// Begins the line of a call with these times of its begin and end.
     fn begin(&mut self, begin: u64, end: u64) -> bool {
         let (client, text) = (self.client, &mut self.text);
         write!(text, "{begin} {end} {client} ").is_ok()
@@ -131,7 +131,7 @@ impl Log {
         put(&mut self.text, "\n")
     }
 
-    /// Adds a call on paths with its reply. Whether there was memory.
+    /// Adds a call on paths with its reply; `false` if an allocation fails.
     pub fn add(&mut self, begin: u64, end: u64, call: SampleCall, reply: &Reply) -> bool {
         self.begin(begin, end)
             && put_call(&mut self.text, call)
@@ -156,14 +156,14 @@ impl Log {
             && self.end()
     }
 
-    /// Begins the line of a call that gives a tree back.
+    /// Begins the line of a call that returns a tree.
     pub fn begin_look(&mut self, begin: u64, end: u64, word: &str, name: usize) -> bool {
         self.begin(begin, end)
             && put_number(&mut self.text, word, name as u64)
             && put(&mut self.text, " : ")
     }
 
-    /// Begins what a tree has at the path of a number: an area behind a semicolon, its other places behind a comma.
+    /// Begins what a tree has at the path with a number: an area after a semicolon, its other paths after a comma.
     pub fn put_place(&mut self, number: usize) -> bool {
         put(&mut self.text, if number % PLACES == 0 { ";" } else { "," })
     }

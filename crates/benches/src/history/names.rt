@@ -1,33 +1,33 @@
-//! The paths and snapshots that all clients share, by their numbers.
+//! The paths and snapshot names that all clients share, by their numbers.
 use crate::paths::path_of;
 use engine::{Path, Shape, SnapName, Volume};
 use std::alloc::Global;
 
-/// How many areas there are: directories in the root, each with the same places. A call on paths is in one area.
+/// The number of areas: directories in the root, each with the same names. A call on paths is in one area.
 pub const AREAS: usize = 16;
 
-/// What stands behind an area's path in those of its places. The first few are mostly directories, the others files.
+/// The suffixes of an area's path. The first few are mostly directories, the others files.
 const NAMES: [&str; 8] = ["", "/d", "/e", "/f", "/d/f", "/d/g", "/e/f", "/e/g"];
 
-/// How many places an area has.
+/// The number of paths of an area.
 pub const PLACES: usize = 8;
 
-/// How many of these are mostly directories.
+/// The number of these that are mostly directories.
 pub const DIRECTORIES: u32 = 3;
 
-/// The number of the root, behind those of all areas.
+/// The number of the root, after those of all areas.
 pub const ROOT: usize = 128;
 
-/// Where the first mark of a file may stand: marks lie before and behind the end of the first block, and over it.
+/// The offset of the first mark of a file: marks are before and after the end of the first block, and across it.
 pub const FIRST_OFFSET: u64 = 4_080;
 
-/// How many bytes are read from there on: more than the marks have.
+/// The number of bytes that are read from there on: more than the marks have.
 pub const COUNT: u64 = 40;
 
-/// How many names of snapshots there are.
+/// The number of snapshot names.
 pub const SNAPSHOTS: usize = 3;
 
-/// The smallest shape: the trees are deep, so there are jobs to be taken.
+/// The smallest shape: the trees are deep, so jobs can be taken.
 const SMALL: Shape = Shape {
     fanout: 4,
     pending: 4,
@@ -45,7 +45,7 @@ pub struct Names {
     pub snapshots: Vec<SnapName>,
 }
 
-/// The text of the path of a number.
+/// The text of the path with a number.
 fn text(alloc: Global, number: usize) -> Option<String> {
     let area = number / PLACES;
     match NAMES.get(number % PLACES) {
@@ -54,12 +54,12 @@ fn text(alloc: Global, number: usize) -> Option<String> {
     }
 }
 
-/// The name of a text.
+/// The name with a text.
 fn name(alloc: Global, text: &String) -> Option<SnapName> {
     SnapName::parse(alloc, text.as_bytes()).ok()
 }
 
-/// The name of the snapshot of a number.
+/// The name of the snapshot with a number.
 fn snapshot(alloc: Global, number: usize) -> Option<SnapName> {
     match format!(in alloc; "s{number}") {
         Ok(text) => name(alloc, &text),
@@ -67,7 +67,7 @@ fn snapshot(alloc: Global, number: usize) -> Option<SnapName> {
     }
 }
 
-/// Adds what there is behind the others. Whether it was added.
+/// Appends the element, if there is one; returns whether it did.
 fn adds<T: Drop>(all: &mut Vec<T>, one: Option<T>) -> bool {
     match one {
         Some(one) => all.push(one).is_ok(),
@@ -85,7 +85,7 @@ fn texts(alloc: Global) -> Option<Vec<String>> {
     is_made.then_some(texts)
 }
 
-/// The paths of these texts, but for the last one.
+/// The paths with these texts, except for the last one.
 fn paths(alloc: Global, texts: &[String]) -> Option<Vec<Path>> {
     let mut paths = Vec::new(alloc);
     let mut is_made = true;
@@ -118,7 +118,7 @@ fn named(alloc: Global, texts: Vec<String>) -> Option<Names> {
 }
 
 impl Names {
-    /// All names; none where memory is refused.
+    /// All names; `None` if an allocation fails.
     pub fn new(alloc: Global) -> Option<Names> {
         match texts(alloc) {
             Some(texts) => named(alloc, texts),
@@ -126,7 +126,7 @@ impl Names {
         }
     }
 
-    /// The text of the path of a number.
+    /// The text of the path with a number.
     pub fn text(&self, number: usize) -> &str {
         match self.texts.get(number) {
             Some(text) => text.as_str(),

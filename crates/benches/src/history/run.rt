@@ -1,4 +1,4 @@
-//! Clients of one engine work, each in a thread of its own, beside flushers.
+//! Runs clients of one engine, each in a thread of its own, with flushers.
 ghost use Rattle.std.specs.Prelude.{◌≡◌};
 
 use crate::flushers::{Pace, Turns, Watch, start};
@@ -11,13 +11,13 @@ use std::marker::Brand;
 use std::sync::{Mutex, Wait};
 use std::thread::{Threads, for_each_mut, scope, scope_env};
 
-/// How many clients there are.
+/// The number of clients.
 pub const CLIENTS: usize = 8;
 
-/// How many flushers there are.
+/// The number of flushers.
 pub const FLUSHERS: usize = 8;
 
-/// The clients work. Their logs come in no order.
+/// Runs the clients. The order of their logs is arbitrary.
 fn work_all<J: EngineId + Send + Sync, R: Threads + Wait + Sync>(
     rt: &R,
     alloc: Global,
@@ -36,7 +36,7 @@ fn work_all<J: EngineId + Send + Sync, R: Threads + Wait + Sync>(
     );
 }
 
-/// The clients work while flushers make turns. How many turns they made.
+/// Runs the clients while flushers run turns; returns the turns.
 fn beside<J: EngineId + Send + Sync, R: Threads + Wait + Sync>(
     rt: &R,
     alloc: Global,
@@ -58,7 +58,7 @@ fn beside<J: EngineId + Send + Sync, R: Threads + Wait + Sync>(
     watch.turns()
 }
 
-/// The clients of an engine in the room work beside flushers. How many turns these made; none where memory is refused.
+/// Runs the clients of an engine of the builder with flushers; returns the turns, and `None` if an allocation fails.
 fn in_room<J: EngineId + Send + Sync, R: Threads + Wait + Sync>(
     rt: &R,
     alloc: Global,
@@ -77,7 +77,7 @@ fn in_room<J: EngineId + Send + Sync, R: Threads + Wait + Sync>(
     }
 }
 
-/// A room with a new volume.
+/// An engine builder with a new volume.
 fn new_room(alloc: Global) -> Option<EngineBuilder> {
     match new_volume(alloc) {
         Some(volume) => EngineBuilder::new(alloc, volume).ok(),
@@ -85,16 +85,16 @@ fn new_room(alloc: Global) -> Option<EngineBuilder> {
     }
 }
 
-/// What came of a course.
+/// The result of a workload.
 #[derive(Drop)]
 pub struct Outcome {
-    /// The logs of the clients, in no order.
+    /// The logs of the clients, in any order.
     pub logs: Vec<Log>,
-    /// What the flushers made meanwhile.
+    /// The turns of the flushers meanwhile.
     pub turns: Turns,
 }
 
-/// Makes the calls of a course on an engine over a new volume; none where memory is refused before the first.
+/// Makes the calls of a workload on an engine over a new volume; `None` if an allocation fails before the first.
 pub fn run<R: Threads + Wait + Sync>(rt: &R, alloc: Global, course: &Course) -> Option<Outcome> {
     let logs: Mutex<Vec<Log>> = Mutex::new(Vec::new(alloc));
     match in_room::<Brand, R>(rt, alloc, new_room(alloc)?, course, &logs) {

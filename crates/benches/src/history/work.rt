@@ -1,6 +1,6 @@
-//! A client makes calls, and logs each with what the clock says before it and once it is answered.
+//! Makes the calls of a client, and logs each with the clock before it and after it has returned.
 use crate::flushers::rest;
-use crate::history::call::{Asked, PathAsked};
+use crate::history::call::{PathRequest, Request};
 use crate::history::draw::Draw;
 use crate::history::log::Log;
 use crate::history::names::{COUNT, FIRST_OFFSET, Names};
@@ -10,50 +10,50 @@ use std::sync::Wait;
 use std::sync::atomic::{AtomicU64, Ordering};
 use test_support::ask::SampleCall;
 
-/// How much work there is, and the clock.
+/// The size of the workload, and the clock.
 #[derive(Drop)]
 pub struct Course {
-    /// What chooses the calls.
+    /// The seed of the calls.
     pub seed: u32,
-    /// How many calls each client makes.
+    /// The number of calls of each client.
     pub calls: u64,
-    /// What was read of it, by all threads together.
+    /// How often all threads together have read the clock.
     pub clock: AtomicU64,
 }
 
 impl Course {
-    /// The clock: a number that no other call of this gets, greater than all that were got before.
+    /// The clock: a unique number, greater than all that were returned before.
     fn now(&self) -> u64 {
         self.clock.fetch_add(1, Ordering::SeqCst)
     }
 }
 
-/// The mark that a call writes; 0 where it writes none.
-fn mark_of(asked: PathAsked) -> u64 {
-    match asked {
-        PathAsked::Write(_, _, mark) => mark,
+/// The mark that a call writes; 0 if it writes none.
+fn mark_of(request: PathRequest) -> u64 {
+    match request {
+        PathRequest::Write(_, _, mark) => mark,
         _ => 0,
     }
 }
 
-/// The call that is asked for, with the bytes of its mark.
-fn sample<'a>(names: &'a Names, asked: PathAsked, mark: &'a [u8]) -> SampleCall<'a> {
-    match asked {
-        PathAsked::Mkdir(path) => SampleCall::Mkdir(names.text(path)),
-        PathAsked::Create(path) => SampleCall::Create(names.text(path)),
-        PathAsked::Write(path, offset, _) => SampleCall::Write(names.text(path), offset, mark),
-        PathAsked::Truncate(path, len) => SampleCall::Truncate(names.text(path), len),
-        PathAsked::Unlink(path) => SampleCall::Unlink(names.text(path)),
-        PathAsked::Rmdir(path) => SampleCall::Rmdir(names.text(path)),
-        PathAsked::Rename(old, new) => SampleCall::Rename(names.text(old), names.text(new)),
-        PathAsked::Rmtree(path) => SampleCall::Rmtree(names.text(path)),
-        PathAsked::Read(path) => SampleCall::Read(names.text(path), FIRST_OFFSET, COUNT),
-        PathAsked::Stat(path) => SampleCall::Stat(names.text(path)),
-        PathAsked::Readdir(path) => SampleCall::Readdir(names.text(path)),
+/// The call, with the bytes of its mark.
+fn sample<'a>(names: &'a Names, request: PathRequest, mark: &'a [u8]) -> SampleCall<'a> {
+    match request {
+        PathRequest::Mkdir(path) => SampleCall::Mkdir(names.text(path)),
+        PathRequest::Create(path) => SampleCall::Create(names.text(path)),
+        PathRequest::Write(path, offset, _) => SampleCall::Write(names.text(path), offset, mark),
+        PathRequest::Truncate(path, len) => SampleCall::Truncate(names.text(path), len),
+        PathRequest::Unlink(path) => SampleCall::Unlink(names.text(path)),
+        PathRequest::Rmdir(path) => SampleCall::Rmdir(names.text(path)),
+        PathRequest::Rename(old, new) => SampleCall::Rename(names.text(old), names.text(new)),
+        PathRequest::Rmtree(path) => SampleCall::Rmtree(names.text(path)),
+        PathRequest::Read(path) => SampleCall::Read(names.text(path), FIRST_OFFSET, COUNT),
+        PathRequest::Stat(path) => SampleCall::Stat(names.text(path)),
+        PathRequest::Readdir(path) => SampleCall::Readdir(names.text(path)),
     }
 }
 
-/// Makes a call on paths, at what the clock says before it. Whether there was memory to log it.
+/// Makes a call on paths that began at this time; `false` if logging it fails for lack of memory.
 fn make_on_paths<J: EngineId, R: Wait>(
     rt: &R,
     alloc: Global,
@@ -63,9 +63,9 @@ fn make_on_paths<J: EngineId, R: Wait>(
     log: &mut Log,
 ) -> bool {
     match call.call(alloc) {
-        Ok(asked) => {
+        Ok(request) => {
             let begin = course.now();
-            let reply = client.call(rt, alloc, &asked, begin);
+            let reply = client.call(rt, alloc, &request, begin);
             let end = course.now();
             log.add(begin, end, call, &reply)
         }
@@ -73,77 +73,84 @@ fn make_on_paths<J: EngineId, R: Wait>(
     }
 }
 
-/// Makes the call on paths that is asked for.
+/// Makes the call on paths.
 fn make_path_call<J: EngineId, R: Wait>(
     rt: &R,
     alloc: Global,
     client: &mut Client<J>,
     names: &Names,
     course: &Course,
-    asked: PathAsked,
+    request: PathRequest,
     log: &mut Log,
 ) -> bool {
-    let mark = mark_of(asked).to_be_bytes();
-    make_on_paths(rt, alloc, client, course, sample(names, asked, &mark), log)
+    let mark = mark_of(request).to_be_bytes();
+    make_on_paths(
+        rt,
+        alloc,
+        client,
+        course,
+        sample(names, request, &mark),
+        log,
+    )
 }
 
-/// A call on a snapshot that tells nothing back.
+/// Makes a snapshot call, which returns nothing.
 fn ask_snapshot<J: EngineId, R: Wait>(
     rt: &R,
     alloc: Global,
     client: &mut Client<J>,
-    asked: Asked,
+    request: Request,
     name: &SnapName,
 ) -> Result<(), Errno> {
-    match asked {
-        Asked::Keep(_) => client.snapshot(rt, alloc, name),
-        Asked::Drop(_) => client.drop_snapshot(rt, name),
+    match request {
+        Request::Keep(_) => client.snapshot(rt, alloc, name),
+        Request::Drop(_) => client.drop_snapshot(rt, name),
         _ => client.restore(rt, name),
     }
 }
 
 /// The word of a call on the whole tree, and the number of its snapshot's name.
-fn word_of(asked: Asked) -> (&'static str, usize) {
-    match asked {
-        Asked::Keep(name) => ("snapshot", name),
-        Asked::Drop(name) => ("drop_snapshot", name),
-        Asked::Restore(name) => ("restore", name),
-        Asked::Look(name) => ("look", name),
+fn word_of(request: Request) -> (&'static str, usize) {
+    match request {
+        Request::Keep(name) => ("snapshot", name),
+        Request::Drop(name) => ("drop_snapshot", name),
+        Request::Restore(name) => ("restore", name),
+        Request::Look(name) => ("look", name),
         _ => ("scan", 0),
     }
 }
 
-/// What a call that tells nothing back is answered.
-fn answer_of(told: Result<(), Errno>) -> &'static str {
-    match told {
+/// The word for the result of a call that returns nothing.
+fn answer_of(result: Result<(), Errno>) -> &'static str {
+    match result {
         Ok(()) => "ok",
         Err(fault) => fault.name(),
     }
 }
 
-/// Makes a call on a snapshot that tells nothing back. Whether there was memory to log it.
+/// Makes a snapshot call; `false` if logging it fails for lack of memory.
 fn make_on_snapshot<J: EngineId, R: Wait>(
     rt: &R,
     alloc: Global,
     client: &mut Client<J>,
     names: &Names,
     course: &Course,
-    asked: Asked,
+    request: Request,
     log: &mut Log,
 ) -> bool {
-    let (word, number) = word_of(asked);
+    let (word, number) = word_of(request);
     match names.snapshots.get(number) {
         Some(name) => {
             let begin = course.now();
-            let told = ask_snapshot(rt, alloc, client, asked, name);
+            let result = ask_snapshot(rt, alloc, client, request, name);
             let end = course.now();
-            log.add_snapshot(begin, end, word, number, answer_of(told))
+            log.add_snapshot(begin, end, word, number, answer_of(result))
         }
         None => false,
     }
 }
 
-/// Adds what more there is of a path: the bytes of a file, the entries of a directory.
+/// Adds the content of a path: the bytes of a file, the entries of a directory.
 fn put_content(log: &mut Log, alloc: Global, tree: &Frozen, path: &Path, kind: Kind) -> bool {
     let reply = match kind {
         Kind::Dir => tree.readdir(alloc, path),
@@ -152,7 +159,7 @@ fn put_content(log: &mut Log, alloc: Global, tree: &Frozen, path: &Path, kind: K
     log.put_more(&reply)
 }
 
-/// Adds what a tree that stands still has at the path of a number.
+/// Adds what a frozen tree has at the path with a number.
 fn put_seen(log: &mut Log, alloc: Global, tree: &Frozen, path: &Path, number: usize) -> bool {
     let reply = tree.stat(alloc, path);
     let is_put = log.put_place(number) && log.put_more(&reply);
@@ -162,7 +169,7 @@ fn put_seen(log: &mut Log, alloc: Global, tree: &Frozen, path: &Path, number: us
     }
 }
 
-/// Adds what a tree that stands still has at all paths.
+/// Adds what a frozen tree has at all paths.
 fn put_tree(log: &mut Log, alloc: Global, tree: &Frozen, paths: &[Path]) -> bool {
     let mut is_put = true;
     let mut number = 0usize;
@@ -173,7 +180,7 @@ fn put_tree(log: &mut Log, alloc: Global, tree: &Frozen, paths: &[Path]) -> bool
     is_put
 }
 
-/// The tree of the snapshot of a name, or the live tree where there is no name.
+/// The tree of the snapshot of a name, or the live tree if there is no name.
 fn tree_of<J: EngineId, R: Wait>(
     rt: &R,
     client: &mut Client<J>,
@@ -188,19 +195,20 @@ fn tree_of<J: EngineId, R: Wait>(
     }
 }
 
-/// Gets a tree, and looks at all its paths once the call has ended: it stands still. Whether there was memory to log it.
+/// Freezes a tree, and reads all its paths after the call has ended: it does not change. `false` if logging it fails for
+/// lack of memory.
 fn make_look<J: EngineId, R: Wait>(
     rt: &R,
     alloc: Global,
     client: &mut Client<J>,
     names: &Names,
     course: &Course,
-    asked: Asked,
+    request: Request,
     log: &mut Log,
 ) -> bool {
-    let (word, number) = word_of(asked);
-    let name = match asked {
-        Asked::Look(name) => names.snapshots.get(name),
+    let (word, number) = word_of(request);
+    let name = match request {
+        Request::Look(name) => names.snapshots.get(name),
         _ => None,
     };
     let begin = course.now();
@@ -214,24 +222,26 @@ fn make_look<J: EngineId, R: Wait>(
     }
 }
 
-/// Makes a call. Whether there was memory to log it.
+/// Makes a call; `false` if logging it fails for lack of memory.
 fn make<J: EngineId, R: Wait>(
     rt: &R,
     alloc: Global,
     client: &mut Client<J>,
     names: &Names,
     course: &Course,
-    asked: Asked,
+    request: Request,
     log: &mut Log,
 ) -> bool {
-    match asked {
-        Asked::Path(asked) => make_path_call(rt, alloc, client, names, course, asked, log),
-        Asked::Look(_) | Asked::Scan => make_look(rt, alloc, client, names, course, asked, log),
-        _ => make_on_snapshot(rt, alloc, client, names, course, asked, log),
+    match request {
+        Request::Path(request) => make_path_call(rt, alloc, client, names, course, request, log),
+        Request::Look(_) | Request::Scan => make_look(
+            rt, alloc, client, names, course, request, log,
+        ),
+        _ => make_on_snapshot(rt, alloc, client, names, course, request, log),
     }
 }
 
-/// Makes all calls, as long as there is memory to log them.
+/// Makes all calls, until logging fails for lack of memory.
 fn make_all<J: EngineId, R: Wait>(
     rt: &R,
     alloc: Global,
@@ -251,7 +261,8 @@ fn make_all<J: EngineId, R: Wait>(
     }
 }
 
-/// Makes all calls of the client of a number. What is not in the log was refused memory.
+/// Makes all calls of the client with a number. Calls that could not be logged for lack of memory are missing from the
+/// log.
 pub fn work<J: EngineId, R: Wait>(
     rt: &R,
     alloc: Global,

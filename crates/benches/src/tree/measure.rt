@@ -1,4 +1,4 @@
-//! How long the work takes, on a tree and on a map of std.
+//! Times the work on a tree and on a map of std.
 use crate::tree::number::Set;
 use crate::tree::work::{
     Appended, Numbers, append, insert, look_up, look_up_map, new_tree, settle,
@@ -10,7 +10,7 @@ use std::collections::BTreeMap;
 use std::rt::Clock;
 use std::time::{Duration, Instant};
 
-/// How many messages may wait in the root of a tree that is flushed.
+/// The maximal number of pending messages in the root of a tree that is flushed.
 pub const LIMIT: usize = 4_096;
 
 /// As many keys as messages.
@@ -46,26 +46,26 @@ const EDITED: Numbers = Numbers {
     count: 1_000_000,
 };
 
-/// How many messages may wait in the root while keys are appended.
+/// The maximal numbers of pending messages in the root while keys are appended.
 const LIMITS: &[usize] = &[0, LIMIT];
 
-/// How many messages of other keys wait while few keys are updated.
+/// The numbers of pending messages of other keys while few keys are updated.
 const COUNTS: &[u64] = &[0, WAITING.count];
 
-/// Nanoseconds for each of so many operations.
+/// Nanoseconds for each of that many operations.
 fn each(time: Duration, numbers: Numbers) -> u128 {
     time.as_nanos()
         .checked_div(numbers.count as u128)
         .unwrap_or(0)
 }
 
-/// Look-ups in a settled tree and then with messages that wait in its root, and in a map of the same keys.
+/// Look-ups in a settled tree and then with messages pending in its root, and in a map of the same keys.
 pub fn look_ups(rt: &(impl Clock + Print), alloc: Global) -> anyhow::Result<()> {
     let mut tree = new_tree(alloc)?;
     look_ups_in(rt, alloc, &mut tree)
 }
 
-/// Look-ups in this tree, settled and then with messages that wait in its root, and in a map of the same keys.
+/// Look-ups in this tree, settled and then with messages pending in its root, and in a map of the same keys.
 fn look_ups_in(
     rt: &(impl Clock + Print),
     alloc: Global,
@@ -77,7 +77,7 @@ fn look_ups_in(
     look_ups_beside(rt, alloc, tree, &mut BTreeMap::new(alloc))
 }
 
-/// Look-ups in this settled tree and then with messages that wait in its root, and in this map, which gets the same keys.
+/// Look-ups in this settled tree and then with messages pending in its root, and in this map, which gets the same keys.
 fn look_ups_beside(
     rt: &(impl Clock + Print),
     alloc: Global,
@@ -110,7 +110,7 @@ fn time_look_ups(
     Ok(())
 }
 
-/// Appends with flushes, where no message or many may wait in the root, and inserts into a map of the same keys.
+/// Appends with flushes, with no or many messages pending in the root, and inserts into a map of the same keys.
 pub fn appends(rt: &(impl Clock + Print), alloc: Global) -> anyhow::Result<()> {
     for limit in LIMITS {
         appends_to(rt, alloc, &mut new_tree(alloc)?, *limit)?;
@@ -134,7 +134,8 @@ fn appends_to(
     Ok(())
 }
 
-/// Updates of few keys, which join, where no message or many of other keys wait, and inserts into a map of the same keys.
+/// Updates of few keys, which join, with no or many messages of other keys pending, and inserts into a map of the same
+/// keys.
 pub fn edits(rt: &(impl Clock + Print), alloc: Global) -> anyhow::Result<()> {
     for count in COUNTS {
         edits_in(rt, alloc, &mut new_tree(alloc)?, *count)?;
@@ -158,7 +159,7 @@ fn edits_in(
     Ok(())
 }
 
-/// How long an append to a tree takes.
+/// The time of an append to a tree.
 fn time_appends(
     rt: &impl Clock,
     alloc: Global,
@@ -172,12 +173,12 @@ fn time_appends(
     Ok(each(start.elapsed(rt)?, numbers))
 }
 
-/// How long an insert into a new map takes.
+/// The time of an insert into a new map.
 fn time_inserts(rt: &impl Clock, alloc: Global, numbers: Numbers) -> anyhow::Result<u128> {
     time_inserts_into(rt, alloc, &mut BTreeMap::new(alloc), numbers)
 }
 
-/// How long an insert into this map takes.
+/// The time of an insert into this map.
 fn time_inserts_into(
     rt: &impl Clock,
     alloc: Global,

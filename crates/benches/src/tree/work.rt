@@ -12,32 +12,32 @@ use steps::compact_step;
 /// The shape of the trees.
 const SHAPE: Shape = Shape::USUAL;
 
-/// The numbers of keys, in turn.
+/// The keys of an operation, in order.
 #[derive(Clone, Copy)]
 pub struct Numbers {
     /// The first number.
     pub first: u64,
-    /// How many numbers there are.
+    /// The number of different keys.
     pub keys: u64,
-    /// How many are taken in all, from the first again after the last.
+    /// The total number of keys; after the last key the first follows again.
     pub count: u64,
 }
 
 impl Numbers {
-    /// The key that is taken at a place in turn.
+    /// The key at an index of the order.
     fn key(self, alloc: Global, place: u64) -> Result<Key, NoMemory> {
         let number = place.checked_rem(self.keys).unwrap_or(0);
         key(alloc, self.first.wrapping_add(number))
     }
 }
 
-/// The key with a number: eight bytes in which neighbours lie far apart.
+/// The key with a number: eight bytes in which neighbours are far apart.
 fn key(alloc: Global, number: u64) -> Result<Key, NoMemory> {
     let scattered = number.wrapping_mul(0x9E37_79B9_7F4A_7C15);
     Key::from_bytes(alloc, &scattered.to_be_bytes())
 }
 
-/// How many messages wait in the root.
+/// The number of pending messages in the root.
 fn waiting(tree: &Tree<Set>) -> u128 {
     match tree.root().slots() {
         Some(slots) => pending_len(slots),
@@ -45,7 +45,7 @@ fn waiting(tree: &Tree<Set>) -> u128 {
     }
 }
 
-/// Does a step that relieves the tree; whether one was done.
+/// Does a compaction step; returns whether one was done.
 fn is_relieved(alloc: Global, tree: &mut Tree<Set>) -> bool {
     match compact_step(alloc, tree) {
         Some(turn) => matches!(turn.reply, StepReply::Did(_)),
@@ -53,7 +53,7 @@ fn is_relieved(alloc: Global, tree: &mut Tree<Set>) -> bool {
     }
 }
 
-/// Does one step that relieves the tree where more than `limit` pieces wait in its root.
+/// Does one compaction step if more than `limit` pieces are pending in the root.
 fn relieve_above(alloc: Global, tree: &mut Tree<Set>, limit: usize) -> Result<(), NoMemory> {
     if waiting(tree) > limit as u128 && !is_relieved(alloc, tree) {
         return Err(NoMemory);
@@ -61,17 +61,17 @@ fn relieve_above(alloc: Global, tree: &mut Tree<Set>, limit: usize) -> Result<()
     Ok(())
 }
 
-/// What is appended for a key.
+/// The message for a key.
 #[derive(Clone, Copy)]
 pub enum Appended {
-    /// Its value.
+    /// A put of its value.
     Put,
     /// An update that sets its value, and joins those before it.
     Edit,
 }
 
 impl Appended {
-    /// The message that gives the key the value.
+    /// The message that sets the value of the key.
     fn msg(self, key: Key, value: u64) -> Msg<Set> {
         match self {
             Appended::Put => Msg::Put(key, value),
@@ -80,7 +80,7 @@ impl Appended {
     }
 }
 
-/// Gives the keys values in turn; flushes while more than `limit` pieces wait in the root.
+/// Sets the values of the keys in order; flushes while more than `limit` pieces are pending in the root.
 pub fn append(
     alloc: Global,
     tree: &mut Tree<Set>,
@@ -100,7 +100,7 @@ pub fn new_tree(alloc: Global) -> Result<Tree<Set>, NoMemory> {
     Tree::new(alloc, SHAPE)
 }
 
-/// Flushes until nothing is pending; gives the number of steps.
+/// Flushes until nothing is pending; returns the number of steps.
 pub fn settle(alloc: Global, tree: &mut Tree<Set>) -> u64 {
     for steps in 0..10_000_000 {
         if !is_relieved(alloc, tree) {
@@ -110,7 +110,7 @@ pub fn settle(alloc: Global, tree: &mut Tree<Set>) -> u64 {
     10_000_000
 }
 
-/// Looks the keys up in turn; gives how many were found.
+/// Looks the keys up in order; returns how many were found.
 pub fn look_up(alloc: Global, tree: &Tree<Set>, numbers: Numbers) -> Result<u64, NoMemory> {
     let mut found = 0u64;
     for i in 0..numbers.count {
@@ -121,7 +121,7 @@ pub fn look_up(alloc: Global, tree: &Tree<Set>, numbers: Numbers) -> Result<u64,
     Ok(found)
 }
 
-/// Puts the keys into a map in turn.
+/// Puts the keys into a map in order.
 pub fn insert(
     alloc: Global,
     map: &mut BTreeMap<Key, u64>,
@@ -135,7 +135,7 @@ pub fn insert(
     Ok(())
 }
 
-/// Looks the keys up in a map in turn; gives how many were found.
+/// Looks the keys up in a map in order; returns how many were found.
 pub fn look_up_map(
     alloc: Global,
     map: &BTreeMap<Key, u64>,

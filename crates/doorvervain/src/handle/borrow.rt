@@ -1,4 +1,4 @@
-//! Borrows what a handle owns.
+//! Borrows the value that a handle owns. When the borrow ends, the handle owns the last value written through it.
 ghost use Rattle.std.specs.Prelude.{◌≡◌};
 ghost use types.Logic.{sem};
 ghost use Rattle.doorvervain.specs.Follows.{frozen_follows, handle_follows, loading_follows, printing_follows};

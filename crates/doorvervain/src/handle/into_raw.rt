@@ -1,4 +1,4 @@
-//! Turns handles back into the boxes that they were made of.
+//! Turns handles back into the boxes of which they were made. Ownership moves with the pointer.
 ghost use Rattle.std.specs.Prelude.{◌≡◌};
 
 use super::{FrozenHandle, LoaderHandle, PrinterHandle, VolumeHandle};

@@ -3,7 +3,7 @@ use Rattle.block_index.specs.Layers.{with_layers, layer_in}
 use Rattle.reference.specs.Indexes.{held}
 use Rattle.block_index.proofs.layer_data.apply_all.Given as goal
 
--- the oldest are laid, and those at the beginning are left
+-- the oldest layers were applied, and the first ones are left
 abbrev pub invariant-each : goal.invariant-each
 invariant-each l = record {
   within : l.left ≤ length l.extents;

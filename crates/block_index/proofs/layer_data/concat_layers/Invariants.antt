@@ -2,7 +2,7 @@ use Rattle.std.proofs.Common.{length, ◌≡◌, ◌≤◌, List, ℕ, Option, m
 use Rattle.block_index.specs.Layers.{clipped, with_layers, layer_in}
 use Rattle.block_index.proofs.layer_data.concat_layers.Given as goal
 
--- the oldest are laid, and those at the beginning are left
+-- the oldest layers were applied, and the first ones are left
 abbrev pub invariant-each : goal.invariant-each
 invariant-each l = record {
   within : l.left ≤ length l.extents;

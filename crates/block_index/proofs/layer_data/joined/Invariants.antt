@@ -3,7 +3,7 @@ use Rattle.block_index.specs.Layers.{with_layers, layer_in}
 use Rattle.reference.specs.Indexes.{overlaid}
 use Rattle.block_index.proofs.layer_data.joined.Given as goal
 
--- the layers that were kept, below them the one that comes, and below it those that are left
+-- the layers that were kept, below them the current one, and below it those that are left
 abbrev pub invariant-each : goal.invariant-each
 invariant-each l = record {
   within : l.at ≤ length l.extents;

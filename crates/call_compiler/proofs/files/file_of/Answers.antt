@@ -9,7 +9,7 @@ use Rattle.meta_index.specs.Means.{found_meta}
 use Rattle.call_compiler.specs.Compiled.{has_grown, meta_has_grown}
 use Rattle.call_compiler.proofs.files.file_of.Goals as goal
 
--- a number within a limit is reached where the limit cuts as it is without
+-- a number within a limit is at most a length exactly if it is at most the limited length
 reached : (n len most : ℕ) → n ≤ most → nat_le n (min len most) ≡ nat_le n len
 reached n len most within = elim (nat_le n len) as (λ b. nat_le n len ≡ b → nat_le n (min len most) ≡ b) [
   | true ↦ λ e. le-leb n (min len most) (omega (arith, leb-true n len e))

@@ -4,7 +4,7 @@ use Rattle.volume.specs.Volumes.{PVolume}
 use Rattle.volume.specs.declared.fs_root.FsRoot.{FsRoot}
 use Rattle.ffi_calls.proofs.forks.restore_frozen.Goals as goal
 
--- what is told of a restored tree does not rest on the type of its errors
+-- the reply for a restored tree does not depend on the type of its errors
 told : {E F : Type 0} (r : FsRoot) (u w : Unit {0}) (old new : PVolume) → RestoresTree {E = E} r (Ok u) old new → RestoresTree {E = F} r (Ok w) old new
 told r u w old new h = record { done = h.done; means = h.means; refused = tt; kept = h.kept }
 

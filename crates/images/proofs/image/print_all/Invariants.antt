@@ -5,7 +5,7 @@ use Rattle.images.proofs.Printed.{PrintedTo}
 use Rattle.volume.specs.Volumes.{MeanRooted}
 use Rattle.images.proofs.image.print_all.Given as goal
 
--- all is written up to the place, and these entries come behind it
+-- everything is written up to the position, and these entries follow
 abbrev pub invariant-loop : goal.invariant-loop
 invariant-loop g l = record {
   tree : l.blocks ≡ l.frozen;

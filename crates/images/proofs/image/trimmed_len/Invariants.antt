@@ -2,7 +2,7 @@ use Rattle.std.proofs.Common.{◌≡◌, ◌≤◌, length, take}
 use Rattle.reference.specs.Image.{trimmed}
 use Rattle.images.proofs.image.trimmed_len.Given as goal
 
--- all behind is zero
+-- all bytes after this one are zero
 abbrev pub invariant-loop-kept : goal.invariant-loop-kept
 invariant-loop-kept l = (l.kept ≤ length l.bytes) × (trimmed (take l.kept l.bytes) ≡ trimmed l.bytes)
 

@@ -10,7 +10,7 @@ use Rattle.volume.specs.Volumes.{PVolume}
 use Rattle.images.specs.Loads.{Counts}
 use Rattle.images.proofs.load.write_bytes.Goals as goal
 
--- a call whose answer is no refusal was answered by a count
+-- a call whose answer is not a failure has a count as its answer
 counted_ok : (r : Result ℕ Errno) (call : Call) (at : ℕ) (old new : PVolume) → is_ok r ≡ true → Called call at (replied (λ n. Count n) r) old new → Counts call at old new
 counted_ok (Ok n) call at old new e h = (n, h)
 counted_ok (Err f) call at old new e h = absurd (cc)

@@ -10,7 +10,7 @@ cons_of : (l : List ℕ) (a : ℕ) → 1 ≤ length l → get_or l 0 0 ≡ a →
 cons_of [] a l e = absurd (omega arith)
 cons_of (x ∷ xs) a l e = (xs, ap (λ (y : ℕ). y ∷ xs) e)
 
--- the byte behind the path's key is 0
+-- the byte after the path's key is 0
 first_is : (c : goal.In-Some-eq0) → get_or c.in-Some-eq0.field-0.now 0 0 ≡ 0
 first_is c = search rules
 

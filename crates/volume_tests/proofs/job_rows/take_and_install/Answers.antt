@@ -8,7 +8,7 @@ use Rattle.volume.specs.declared.run_job.RunJob.TheVariants.{Taken, Built}
 use Rattle.volume_tests.proofs.job_rows.take_and_install.Goals.{then-cancelled, else-cancelled}
 use Rattle.volume_tests.proofs.job_rows.take_and_install.Goals as goal
 
--- what was built of the job that was taken is held, also behind the cancelling of its mark
+-- what was built of the job is held, also after its mark is cancelled
 pub installed-requires : goal.installed-requires
 installed-requires c =
     let taken : IsHeld (live_of c.take_job.new.self) (Taken c.in-Taken.job) = taken_held Meta 0 c.in-Taken.job (live_of c.args.volume.now) (live_of c.take_job.new.self) c.in-Taken.ensures.answers in

@@ -53,7 +53,7 @@ into_box_spec 𝓤 𝓛 𝓜 𝓡 wired X A LX LA gh d dd is_alloc is_drop =
     use1 𝓛 (later (some (λ (r : D E). (tokens ⊛ ‵ ((B E).own_val r (u ∷ []))) ⊛ some (λ (_ : Unit {0} × (Unit {0} × Unit {0})). ‵ (fsep ftrue (fsep ftrue ftrue)) ⊛
     (raw (fact 𝓤 (r.value ≡ parts.value)) ⊛ raw (fact 𝓤 (r.alloc ≡ a))))))) (id⊢ 𝓤 _) $
     await ! tt $ pick ! (λ r. split ! $ move ! (1 ∷ []) $ pick ! (λ _. split3 ! $ drop ! $ heard ! _ (λ same. drop ! $
-    -- [the tokens and the box that came]
+    -- [the tokens and the box that was passed]
     split ! $ move ! (1 ∷ []) $ box_fits E ! r u (λ typed. lands_last ! refl typed $
     exec ! 𝓣.C 𝓣.Λ (env fn.locals l) (after 3 fn.body) (at_ret _ (W.post z)) $
     sets ! (of_opd ! (get ! refl)) refl typed $ returns ! (look_at ! 0 refl) $ free_all ! refl $

@@ -11,7 +11,7 @@ use Rattle.meta_index.proofs.ChildOrder.{end_of_zero}
 use Rattle.meta_index.proofs.Spending.{first_asks, none_frugal, rest_spent, taken_frugal}
 use Rattle.meta_index.proofs.index.MetaIndex.first_past.Goals as goal
 
--- where the keys end that begin with such a key
+-- the end of the keys with such a key as prefix
 end_of : (key s : List ℕ) → key ≡ s ++ 0 ∷ [] → IsEndOf (s ++ 1 ∷ []) key
 end_of key s e = subst (λ (k : List ℕ). IsEndOf (s ++ 1 ∷ []) k) (sym e) (end_of_zero s)
 

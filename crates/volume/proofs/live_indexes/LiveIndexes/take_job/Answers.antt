@@ -11,7 +11,7 @@ use Rattle.volume.proofs.Marking.{with_meta, with_block, meta_lasts, block_lasts
 use Rattle.jobs.specs.Replies.{LacksRoom, mark_of}
 use Rattle.volume.proofs.live_indexes.LiveIndexes.take_job.Goals as goal
 
--- what is said of the index that was named, from what is said of the one that it is
+-- from the actual index to the one that was requested
 of_index : (i j : Index) (slot : ℕ) (r : TakeReply) (a b : PLive) → i ≡ j → AnswersTaking j slot r a b → AnswersTaking i slot r a b
 of_index i j slot r a b e h = subst (λ (k : Index). AnswersTaking k slot r a b) (sym e) h
 

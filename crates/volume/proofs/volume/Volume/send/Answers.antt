@@ -15,7 +15,7 @@ use Rattle.volume.proofs.volume.Volume.send.Goals.{After-self-1}
 abbrev old : After-self-1 → PVolume
 old c = volume c.self.inside.live c.self.inside.modified c.self.inside.snapshots
 
--- what became of the live indexes
+-- the effect on the live indexes
 arriving : (c : After-self-1) → Arriving (messages c.in-Ok.batch) c.append-appended.result (live_of (old c)) c.append-appended.new.self
 arriving c = let e = c.append-appended.ensures in record { taken = e.done; no_meta = e.no_meta; no_block = e.no_block; lists = e.lists; err = e.err; marks = e.marks; kept = e.kept }
 

@@ -15,11 +15,11 @@ use Rattle.volume.proofs.volume.Volume.send_mtime.Goals.{After-self-1}
 abbrev old : After-self-1 → PVolume
 old c = volume c.self.inside.live c.self.inside.modified c.self.inside.snapshots
 
--- what became of the live indexes
+-- the effect on the live indexes
 arriving : (c : After-self-1) → Arriving (messages c.in-Ok.batch) c.append-sent.result (live_of (old c)) c.append-sent.new.self
 arriving c = let e = c.append-sent.ensures in record { taken = e.done; no_meta = e.no_meta; no_block = e.no_block; lists = e.lists; err = e.err; marks = e.marks; kept = e.kept }
 
--- what was asked
+-- what was requested
 asked : (c : After-self-1) (p : Path) → Asks c.args.self.now.live.indexes p c.args.at c.args.compiled c.args.is_root → Asks (old c).live.indexes p c.args.at c.args.compiled c.args.is_root
 asked c p given = subst (λ (v : PVolume). Asks v.live.indexes p c.args.at c.args.compiled c.args.is_root) (sym c.self.view_is) given
 

@@ -13,7 +13,7 @@ use Rattle.volume.proofs.volume.Volume.send_zeros.Goals.{After-reply_to}
 abbrev old : After-reply_to → PVolume
 old c = volume c.self.inside.live c.self.inside.modified c.self.inside.snapshots
 
--- what became of the live indexes
+-- the effect on the live indexes
 arriving : (c : After-reply_to) → Arriving (messages c.in-Ok.batch) c.append-punched.result (live_of (old c)) c.append-punched.new.self
 arriving c = let e = c.append-punched.ensures in record { taken = e.done; no_meta = e.no_meta; no_block = e.no_block; lists = e.lists; err = e.err; marks = e.marks; kept = e.kept }
 

@@ -1,4 +1,5 @@
-//! What is asked of a volume behind a script. No function here ensures anything, so that no proof of a test reads the contract of a volume.
+//! Requests to a volume after a script. No function here has a postcondition, so that the proofs of the tests do not unfold the contract of
+//! a volume.
 use node::Shape;
 use pathkey::{Errno, NoMemory};
 use std::alloc::Global;
@@ -24,7 +25,7 @@ pub fn freeze(volume: &Volume) -> Result<Frozen, NoMemory> {
     volume.freeze()
 }
 
-/// How many messages wait in an index.
+/// The number of pending messages in an index.
 pub fn waiting(volume: &Volume, index: Index) -> u128 {
     volume.shape_report(index).pending
 }

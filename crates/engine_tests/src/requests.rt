@@ -1,4 +1,4 @@
-//! What is asked of a client, as a table can hold it.
+//! Requests to a client in a form that constant tables can contain.
 
 use engine::{Client, EngineBuilder, EngineId};
 use node::Shape;
@@ -16,39 +16,39 @@ pub const SMALL: Shape = Shape {
     leaf: 4,
 };
 
-/// A room with a new volume.
+/// An engine builder with a new volume.
 pub fn new_room(alloc: Global, shape: Shape) -> Option<EngineBuilder> {
     let volume = Volume::new(alloc, shape).ok()?;
     EngineBuilder::new(alloc, volume).ok()
 }
 
-/// The reply to a call, and whether it is this one.
+/// Whether this is the reply to a call.
 fn replies<J: EngineId, R: Wait>(
     rt: &R,
     alloc: Global,
     client: &mut Client<J>,
     call: &Call,
-    told: ExpectedReply<'_>,
+    wanted: ExpectedReply<'_>,
 ) -> bool {
     let reply = client.call(rt, alloc, call, 0);
-    is(told, &reply)
+    is(wanted, &reply)
 }
 
 /// Whether this is the reply.
-pub fn is(told: ExpectedReply<'_>, reply: &Reply) -> bool {
-    told.is(reply)
+pub fn is(wanted: ExpectedReply<'_>, reply: &Reply) -> bool {
+    wanted.is(reply)
 }
 
-/// Whether a call of the client is answered so.
+/// Whether a call of the client has this reply.
 pub fn answers<J: EngineId, R: Wait>(
     rt: &R,
     alloc: Global,
     client: &mut Client<J>,
     ask: SampleCall<'_>,
-    told: ExpectedReply<'_>,
+    wanted: ExpectedReply<'_>,
 ) -> bool {
     match call_of(alloc, ask) {
-        Some(call) => replies(rt, alloc, client, &call, told),
+        Some(call) => replies(rt, alloc, client, &call, wanted),
         None => false,
     }
 }
@@ -58,7 +58,7 @@ pub fn call_of(alloc: Global, ask: SampleCall<'_>) -> Option<Call> {
     ask.call(alloc).ok()
 }
 
-/// The name of a text.
+/// The name with a text.
 pub fn name_of(alloc: Global, text: &str) -> Option<SnapName> {
     SnapName::parse(alloc, text.as_bytes()).ok()
 }

@@ -1,6 +1,6 @@
-//! What is asked of a volume, as a table can hold it.
+//! Requests to a volume in a form that constant tables can contain.
 //!
-//! No function here ensures anything, so that no proof of a test reads the contract of a volume.
+//! No function here has a postcondition, so that the proofs of the tests do not unfold the contract of a volume.
 use node::Shape;
 use pathkey::{Errno, NoMemory, SnapName};
 use reference::{Call, Reply};
@@ -18,7 +18,7 @@ pub const SMALL: Shape = Shape {
     leaf: 4,
 };
 
-/// A call on snapshots, with the text of the name.
+/// A snapshot call, with the text of the name.
 #[derive(Clone, Copy)]
 pub enum Snap<'a> {
     Keep(&'a str),
@@ -36,12 +36,12 @@ pub fn freeze(volume: &Volume) -> Result<Frozen, NoMemory> {
     volume.freeze()
 }
 
-/// How many messages wait in an index.
+/// The number of pending messages in an index.
 pub fn waiting(volume: &Volume, index: Index) -> u128 {
     volume.shape_report(index).pending
 }
 
-/// The name of a text.
+/// The name with a text.
 pub fn snap_name(alloc: Global, text: &str) -> Result<SnapName, Errno> {
     SnapName::parse(alloc, text.as_bytes())
 }
@@ -55,12 +55,12 @@ impl<'a> Snap<'a> {
     }
 }
 
-/// The reply to a file call at a moment.
+/// The reply to a file call at a timestamp.
 fn reply_to(alloc: Global, volume: &mut Volume, call: &Call, at: u64) -> Reply {
     volume.call(alloc, call, at)
 }
 
-/// Whether a file call at moment 0 is answered so.
+/// Whether a file call at timestamp 0 has this reply.
 pub fn answers(
     alloc: Global,
     volume: &mut Volume,
@@ -70,7 +70,7 @@ pub fn answers(
     answers_at(alloc, volume, ask, 0, reported)
 }
 
-/// Whether a file call at a moment is answered so.
+/// Whether a file call at a timestamp has this reply.
 pub fn answers_at(
     alloc: Global,
     volume: &mut Volume,
@@ -84,7 +84,7 @@ pub fn answers_at(
     }
 }
 
-/// The reply of a tree that stands still to a call that reads.
+/// The reply of a frozen tree to a call that reads.
 fn reply_of(alloc: Global, frozen: &Frozen, call: &Call) -> Reply {
     match call {
         Call::Read(path, offset, count) => frozen.read(alloc, path, *offset, *count),
@@ -94,8 +94,8 @@ fn reply_of(alloc: Global, frozen: &Frozen, call: &Call) -> Reply {
     }
 }
 
-/// Whether a tree that stands still answers so.
-pub fn tells(
+/// Whether a frozen tree has this reply.
+pub fn replies_frozen(
     alloc: Global,
     frozen: &Frozen,
     ask: SampleCall<'_>,
@@ -115,7 +115,7 @@ pub fn frozen(alloc: Global, volume: &Volume, text: &str) -> Result<Frozen, Errn
     }
 }
 
-/// Whether a file is made at a moment: the one with this number in this directory.
+/// Whether a file is created at a timestamp: the one with this number in this directory.
 pub fn creates(alloc: Global, volume: &mut Volume, directory: &str, number: u32, at: u64) -> bool {
     match format!(in alloc; "{directory}/f{number:03}") {
         Ok(text) => answers_at(
