@@ -1,9 +1,10 @@
 -- What a run of a script comes to: from the worlds and moments that it may begin with to those that it may go on from.
-use Rattle.std.specs.Prelude.{◌≡◌, ◌++◌, ℕ, List, Option, IfSome}
+use Rattle.std.specs.Prelude.{◌≡◌, ◌++◌, ℕ, Bool, List, Option, IfSome}
 use Rattle.std.specs.Io.KnownBytes.{Consumes, IsAtEnd}
 use Rattle.reference.specs.Worlds.{World}
 use Rattle.textio.specs.Lines.{lines_of, whole}
-use Rattle.shell.specs.Script.{Cut, Line, Lines, Script, State, Stopped}
+use Rattle.shell.specs.Script.{Answered, Cut, IsHalt, Line, Lines, Script, State, Stopped}
+use Rattle.shell.specs.declared.verdict.Halt.TheVariants as halt
 
 -- the worlds that a volume, or a client of one, means
 abbrev pub Worlds : Type 1
@@ -36,6 +37,10 @@ DoesGiven D had has first out after = (text : List ℕ) × Consumes had has text
 -- of all that the reader had the lines were done up to an early end
 abbrev pub DoesUntil : Line → Cut → Option (List ℕ) → State → List ℕ → State → Type 0
 DoesUntil D H had first written after = (text : List ℕ) × IfSome had (λ all. all ≡ text) × Stopped D H first text written after
+
+-- the same up to the first line that a run, where it is strict, answers by a fault or an error
+abbrev pub DoesUntilFault : Bool → Option (List ℕ) → State → List ℕ → State → Type 0
+DoesUntilFault strict had = DoesUntil (Answered strict) (IsHalt strict halt.Fault) had
 
 -- these lines, of which there is one at most, were done, and so much of the answer was written
 abbrev pub Halts : Cut → List (List ℕ) → State → List ℕ → State → Type 0

@@ -1,6 +1,6 @@
 //! The slot of which a job would move the most messages.
-ghost use Rattle.std.specs.Prelude.{◌≡◌, ◌<◌, ◌≤◌, IfSome, MatchOption, length};
-ghost use Rattle.jobs.specs.Heaviest.{AreAtMost, IsFirstGreatest, IsHeaviest, MovesNone, movable, movable_each};
+ghost use Rattle.std.specs.Prelude.{◌≡◌, ◌<◌, ◌≤◌, All, IfSome, MatchOption, length};
+ghost use Rattle.jobs.specs.Heaviest.{IsFirstGreatest, IsHeaviest, MovesNone, movable, movable_each};
 ghost use Rattle.node.specs.See.{seen_slots};
 
 use super::{Marks, kept_at};
@@ -33,11 +33,11 @@ fn movable_above<U: Update>(marks: &[Mark], slot: &Slot<U>, room: u16, most: usi
     ensures more { most < movable marks.now room slot.now.lo slot.now.pending.0 slot.now.child.value → result ≡ movable marks.now room slot.now.lo slot.now.pending.0 slot.now.child.value }
     ensures within { result ≤ movable marks.now room slot.now.lo slot.now.pending.0 slot.now.child.value }
 {
-    let waiting = slot.pending.len();
-    if waiting <= most || kept_at(marks, &slot.lo) != 0 {
+    let pending = slot.pending.len();
+    if pending <= most || kept_at(marks, &slot.lo) != 0 {
         return 0;
     }
-    waiting.min(free_pieces(&slot.child, room) as usize)
+    pending.min(free_pieces(&slot.child, room) as usize)
 }
 
 /// The slot of which a job would move the most messages, the first of equals, if these are more than `most`; none if a job of
@@ -50,7 +50,7 @@ fn busiest_slot<U: Update>(
 ) -> Option<Busiest>
     ensures bound { IfSome result (λ b. b.number < length slots.now) }
     ensures more { IfSome result (λ b. most < b.messages) }
-    ensures first { MatchOption result (AreAtMost most (movable_each marks.now room (seen_slots slots.now))) (λ b. IsFirstGreatest b.number b.messages (movable_each marks.now room (seen_slots slots.now))) }
+    ensures first { MatchOption result (All (λ n. n ≤ most) (movable_each marks.now room (seen_slots slots.now))) (λ b. IsFirstGreatest b.number b.messages (movable_each marks.now room (seen_slots slots.now))) }
 {
     let Some((slot, later)) = slots.split_first() else {
         return None;
