@@ -1,5 +1,6 @@
 //! The slot of which a job would move the most messages.
-ghost use Rattle.std.specs.Prelude.{◌≡◌, ◌<◌, ◌≤◌, All, IfSome, MatchOption, length};
+ghost use Rattle.std.specs.Prelude.{◌≡◌, ◌<◌, ◌≤◌, IfSome, MatchOption, length};
+ghost use Rattle.std.specs.List.{AllByRecursion};
 ghost use Rattle.jobs.specs.Heaviest.{IsFirstGreatest, IsHeaviest, MovesNone, movable, movable_each};
 ghost use Rattle.node.specs.See.{seen_slots};
 
@@ -50,7 +51,7 @@ fn busiest_slot<U: Update>(
 ) -> Option<Busiest>
     ensures bound { IfSome result (λ b. b.number < length slots.now) }
     ensures more { IfSome result (λ b. most < b.messages) }
-    ensures first { MatchOption result (All (λ n. n ≤ most) (movable_each marks.now room (seen_slots slots.now))) (λ b. IsFirstGreatest b.number b.messages (movable_each marks.now room (seen_slots slots.now))) }
+    ensures first { MatchOption result (AllByRecursion (λ n. n ≤ most) (movable_each marks.now room (seen_slots slots.now))) (λ b. IsFirstGreatest b.number b.messages (movable_each marks.now room (seen_slots slots.now))) }
 {
     let Some((slot, later)) = slots.split_first() else {
         return None;
