@@ -1,5 +1,6 @@
 -- What the exports that hand out a volume or a tree report.
-use Rattle.std.specs.Prelude.{◌≡◌, ℕ, zero, suc, ⊤, false, List, Result, Ok, Err, IfErr, IfOk, Option, Some, MatchResult}
+use denote.RawPtr.{Ptr}
+use Rattle.std.specs.Prelude.{◌≡◌, ◌↔◌, ◌⊎◌, ℕ, zero, suc, ⊤, false, List, Result, Ok, Err, IfErr, IfOk, Option, Some, MatchResult}
 use Rattle.images.specs.declared.load.LoadFault.{LoadFault}
 use Rattle.images.specs.declared.load.LoadFault.TheVariants.{Shape as BadShape, Bad}
 use Rattle.volume.specs.declared.fs_root.FsRoot.{FsRoot}
@@ -10,6 +11,7 @@ use Rattle.pathkey.specs.declared.errno.Errno.TheVariants.{EINVAL, ENOMEM}
 use Rattle.reference.specs.ImageLines.{IsBadAt}
 use Rattle.volume.specs.Volumes.{PVolume}
 use Rattle.ffi_calls.specs.Snapshots.{FindsNamed}
+use Rattle.doorvervain.specs.Held.{IsClosed}
 
 -- ---- shapes
 
@@ -37,6 +39,13 @@ pub record Hands {X : Type 0} (x : X) (outcome : Result (Unit {0}) Errno) (given
 -- the value that was made is handed out, or ENOMEM is reported; a failure is reported unchanged
 abbrev pub HandsOut : {X : Type 0} → Result X Errno → Result (Unit {0}) Errno → Option X → Type 0
 HandsOut made outcome given = MatchResult made (λ x. Hands x outcome given) (λ e. outcome ≡ Err e)
+
+-- a new value of this shape is handed out; or the shape is no shape of trees, or memory is refused, and the place is closed
+pub record HandsNew {X : Type 0} (IsNew : Shape → X → Type 0) (shape : Shape) (outcome : Result (Unit {0}) Errno) (at : Ptr) (given : Option X) : Type 0 where
+  pub new : IfOk outcome (λ _. Given (IsNew shape) given)
+  pub no_shape : (outcome ≡ Err EINVAL) ↔ (is_shape shape ≡ false)
+  pub refused : IfErr outcome (λ e. (e ≡ EINVAL) ⊎ (e ≡ ENOMEM))
+  pub closed : IfErr outcome (λ _. IsClosed at given)
 
 -- the tree of the snapshot of that name was looked for, and so handed out
 pub record FindsHanded (name : Result (List ℕ) Errno) (v : PVolume) (outcome : Result (Unit {0}) Errno) (given : Option FsRoot) : Type 0 where

@@ -5,7 +5,7 @@ ghost use Rattle.node.specs.declared.shape.Shape.{Shape as TreeShape};
 ghost use Rattle.pathkey.specs.declared.errno.Errno.TheVariants.{EINVAL, ENOMEM};
 ghost use Rattle.images.specs.Taken.{IsFresh, LoadedIn, Took, answer_of};
 ghost use Rattle.ffi_calls.specs.Images.{PrintsOn};
-ghost use Rattle.doorvervain.specs.Handed.{AnswerReported, Given, NoImage, NoShape, shape_of};
+ghost use Rattle.doorvervain.specs.Handed.{AnswerReported, Given, HandsNew, NoImage, shape_of};
 ghost use Rattle.doorvervain.specs.Held.{IsClosed};
 ghost use Rattle.doorvervain.specs.Numbers.{IsNumber, reported, reported_by};
 
@@ -71,10 +71,7 @@ pub extern "C" fn doorvervain_raw_load_begin(
     leaf: u16,
     out: &mut LoaderOut,
 ) -> u8
-    ensures fresh { IfOk (reported result) (λ _. Given (IsFresh (shape_of fanout pending leaf)) out.new.given) }
-    ensures shape { (reported result ≡ Err EINVAL) ↔ NoShape fanout pending leaf }
-    ensures refused { IfErr (reported result) (λ e. (e ≡ EINVAL) ⊎ (e ≡ ENOMEM)) }
-    ensures closed { IfErr (reported result) (λ _. IsClosed out.new.at out.new.given) }
+    ensures fresh { HandsNew IsFresh (shape_of fanout pending leaf) (reported result) out.new.at out.new.given }
     ensures number { IsNumber result }
 {
     let shape = Shape {
@@ -132,10 +129,7 @@ pub extern "C" fn doorvervain_raw_load_abort(alloc: Global, loading: LoaderHandl
 
 // Starts to load an image, and stores the handle of the loader in `out`.
 fn begin(alloc: Global, shape: Shape, out: &mut LoaderOut) -> Result<(), Errno>
-    ensures fresh { IfOk result (λ _. Given (IsFresh shape) out.new.given) }
-    ensures shape { (result ≡ Err EINVAL) ↔ (is_shape shape ≡ false) }
-    ensures refused { IfErr result (λ e. (e ≡ EINVAL) ⊎ (e ≡ ENOMEM)) }
-    ensures closed { IfErr result (λ _. IsClosed out.new.at out.new.given) }
+    ensures { HandsNew IsFresh shape result out.new.at out.new.given }
 {
     let fresh = new_loader(alloc, shape);
     hand_out(alloc, fresh, out)

@@ -2,13 +2,13 @@
 //! afterwards.
 ghost use Rattle.pathkey.specs.SnapNames.{snap_parsed};
 ghost use Rattle.pathkey.specs.declared.errno.Errno.TheVariants.{EINVAL, ENOMEM};
-ghost use Rattle.std.specs.Prelude.{◌≡◌, ◌≤◌, ◌<◌, ◌↔◌, ◌⊎◌, false, Err, IfErr, IfOk, Some};
+ghost use Rattle.std.specs.Prelude.{◌≡◌, ◌≤◌, ◌<◌, ◌⊎◌, false, Err, IfErr, IfOk, Some};
 ghost use Rattle.node.specs.Shapes.{is_shape};
 ghost use Rattle.reference.specs.Worlds.{World};
 ghost use Rattle.images.specs.Taken.{LoadedIn};
 ghost use Rattle.volume.specs.Volumes.{IsNew, Means};
 ghost use Rattle.ffi_calls.specs.Upkeep.{IsIdle, IsStuck, Relieves};
-ghost use Rattle.doorvervain.specs.Handed.{AnswerReported, FaultReported, FindsHanded, Given, NoShape, NotLoaded, shape_of};
+ghost use Rattle.doorvervain.specs.Handed.{AnswerReported, FaultReported, FindsHanded, Given, HandsNew, NoShape, NotLoaded, shape_of};
 ghost use Rattle.doorvervain.specs.Held.{IsClosed};
 ghost use Rattle.doorvervain.specs.Numbers.{IsNumber, reported};
 
@@ -31,10 +31,7 @@ pub extern "C" fn doorvervain_raw_open(
     leaf: u16,
     out: &mut VolumeOut,
 ) -> u8
-    ensures new { IfOk (reported result) (λ _. Given (IsNew (shape_of fanout pending leaf)) out.new.given) }
-    ensures shape { (reported result ≡ Err EINVAL) ↔ NoShape fanout pending leaf }
-    ensures refused { IfErr (reported result) (λ e. (e ≡ EINVAL) ⊎ (e ≡ ENOMEM)) }
-    ensures closed { IfErr (reported result) (λ _. IsClosed out.new.at out.new.given) }
+    ensures new { HandsNew IsNew (shape_of fanout pending leaf) (reported result) out.new.at out.new.given }
     ensures number { IsNumber result }
 {
     let shape = Shape {
@@ -131,10 +128,7 @@ pub extern "C" fn doorvervain_raw_compact(alloc: Global, fs: &mut VolumeHandle, 
 
 // Creates a volume, and stores its handle in `out`.
 fn open(alloc: Global, shape: Shape, out: &mut VolumeOut) -> Result<(), Errno>
-    ensures new { IfOk result (λ _. Given (IsNew shape) out.new.given) }
-    ensures shape { (result ≡ Err EINVAL) ↔ (is_shape shape ≡ false) }
-    ensures refused { IfErr result (λ e. (e ≡ EINVAL) ⊎ (e ≡ ENOMEM)) }
-    ensures closed { IfErr result (λ _. IsClosed out.new.at out.new.given) }
+    ensures { HandsNew IsNew shape result out.new.at out.new.given }
 {
     let made = Volume::new(alloc, shape);
     hand_out(alloc, made, out)

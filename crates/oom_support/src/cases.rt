@@ -12,10 +12,10 @@ use std::io::Write;
 pub fn scene<R: Print>(rt: &R, alloc: Global, words: &[&str], out: &mut Vec<u8>) -> Option<bool> {
     let count = word_at(words, 1)?.parse::<u32>().ok()?;
     match word_at(words, 0)? {
-        "cut" => Some(cut_apart(rt, alloc, count, out).is_ok()),
-        "cut_tail" => Some(cut_nested(rt, alloc, count, out).is_ok()),
-        "join" => Some(join_apart(rt, alloc, count, out).is_ok()),
-        "join_tails" => Some(join_nested(rt, alloc, count, out).is_ok()),
+        "cut" => Some(cut(rt, alloc, Halved::Apart, count, out).is_ok()),
+        "cut_tail" => Some(cut(rt, alloc, Halved::Nested, count, out).is_ok()),
+        "join" => Some(join(rt, alloc, Halved::Apart, count, out).is_ok()),
+        "join_tails" => Some(join(rt, alloc, Halved::Nested, count, out).is_ok()),
         "sink" => Some(sink_apart(rt, alloc, count, out).is_ok()),
         "take" => Some(take_updates(rt, alloc, count, out).is_ok()),
         "copy" => Some(copy_puts(rt, alloc, count, out).is_ok()),
@@ -28,83 +28,68 @@ fn print_outcome(out: &mut Vec<u8>, word: &str, list: &List) {
     let _ = writeln!(out, "{word} {} {}", list.len(), list.range_deletes(0));
 }
 
-/// Splits a list at a key.
+/// The lists that are split and merged in their middle.
+#[derive(Clone, Copy)]
+enum Halved {
+    /// The messages are apart.
+    Apart,
+    /// The messages are not condensed.
+    Nested,
+}
+
+impl Halved {
+    /// The list with as many messages of a kind.
+    fn list(self, alloc: Global, count: u32) -> Result<List, NoMemory> {
+        match self {
+            Halved::Apart => apart(alloc, count),
+            Halved::Nested => nested(alloc, count),
+        }
+    }
+
+    /// The key in the middle of this list.
+    fn middle(self, alloc: Global, count: u32) -> Result<Key, NoMemory> {
+        match self {
+            Halved::Apart => middle_of_apart(alloc, count),
+            Halved::Nested => middle_of_nested(alloc, count),
+        }
+    }
+}
+
+/// Splits a list in its middle.
 fn cut<R: Print>(
     rt: &R,
     alloc: Global,
-    list: List,
-    pivot: &Key,
+    halved: Halved,
+    count: u32,
     out: &mut Vec<u8>,
 ) -> Result<(), NoMemory> {
-    let mut front = list;
+    let pivot = halved.middle(alloc, count)?;
+    let mut front = halved.list(alloc, count)?;
     let first = Key::new(alloc);
     window::open(rt);
-    let back = front.split_off(alloc, 0, &first, pivot);
+    let back = front.split_off(alloc, 0, &first, &pivot);
     window::close(rt);
     print_outcome(out, "front", &front);
     print_outcome(out, "back", &back?);
     Ok(())
 }
 
-/// Splits a list whose messages are apart, in its middle.
-fn cut_apart<R: Print>(
-    rt: &R,
-    alloc: Global,
-    count: u32,
-    out: &mut Vec<u8>,
-) -> Result<(), NoMemory> {
-    let pivot = middle_of_apart(alloc, count)?;
-    cut(rt, alloc, apart(alloc, count)?, &pivot, out)
-}
-
-/// Splits a list whose messages are not condensed, in its middle.
-fn cut_nested<R: Print>(
-    rt: &R,
-    alloc: Global,
-    count: u32,
-    out: &mut Vec<u8>,
-) -> Result<(), NoMemory> {
-    let pivot = middle_of_nested(alloc, count)?;
-    cut(rt, alloc, nested(alloc, count)?, &pivot, out)
-}
-
-/// Merges the parts of a list before a key and from it on.
+/// Merges the halves of a list.
 fn join<R: Print>(
     rt: &R,
     alloc: Global,
-    list: List,
-    pivot: &Key,
+    halved: Halved,
+    count: u32,
     out: &mut Vec<u8>,
 ) -> Result<(), NoMemory> {
-    let mut front = list;
-    let back = front.split_off(alloc, 0, &Key::new(alloc), pivot)?;
+    let pivot = halved.middle(alloc, count)?;
+    let mut front = halved.list(alloc, count)?;
+    let back = front.split_off(alloc, 0, &Key::new(alloc), &pivot)?;
     window::open(rt);
-    let joined = front.merged(alloc, back, pivot);
+    let joined = front.merged(alloc, back, &pivot);
     window::close(rt);
     print_outcome(out, "joined", &joined?);
     Ok(())
-}
-
-/// Merges the halves of a list whose messages are apart.
-fn join_apart<R: Print>(
-    rt: &R,
-    alloc: Global,
-    count: u32,
-    out: &mut Vec<u8>,
-) -> Result<(), NoMemory> {
-    let pivot = middle_of_apart(alloc, count)?;
-    join(rt, alloc, apart(alloc, count)?, &pivot, out)
-}
-
-/// Merges the halves of a list whose messages are not condensed.
-fn join_nested<R: Print>(
-    rt: &R,
-    alloc: Global,
-    count: u32,
-    out: &mut Vec<u8>,
-) -> Result<(), NoMemory> {
-    let pivot = middle_of_nested(alloc, count)?;
-    join(rt, alloc, nested(alloc, count)?, &pivot, out)
 }
 
 /// Flushes all messages of a list into another.

@@ -1,7 +1,8 @@
 -- How much of its text a script has executed.
-use Rattle.std.specs.Prelude.{◌≡◌, ℕ, List, [], ◌∷◌, ◌++◌, ⊤}
-use Rattle.shell.specs.Script.{Cut, Line, Lines, Script, State}
-use Rattle.textio.specs.Held.{IsFree}
+use Rattle.std.specs.Prelude.{◌≡◌, ℕ, Bool, List, [], ◌∷◌, ◌++◌, ⊤}
+use Rattle.shell.specs.Script.{Answered, Cut, IsHalt, Line, Lines, Script, State}
+use Rattle.shell.specs.declared.verdict.Halt.{Halt}
+use Rattle.textio.specs.Held.{Holds, IsFree}
 
 -- the lines, each with its line feed
 abbrev pub text_of_lines : List (List ℕ) → List ℕ
@@ -40,3 +41,11 @@ pub record FailedIn (D : Line) (H : Cut) (held piece : List ℕ) (first : State)
 abbrev pub last_line : List ℕ → List (List ℕ)
 last_line [] = []
 last_line (x ∷ xs) = (x ∷ xs) ∷ []
+
+-- the lines that end in a piece were answered, and `kept` holds the line so far
+abbrev pub DoesPiece : Bool → List ℕ → List ℕ → List ℕ → State → List ℕ → State → Type 0
+DoesPiece strict held piece kept first out after = (left : List ℕ) × Holds left kept × Went (Answered strict) held piece first out left after
+
+-- the lines that end in a piece were answered up to one at which the run ended, for this reason
+abbrev pub HaltsInPiece : Bool → Halt → List ℕ → List ℕ → State → List ℕ → State → Type 0
+HaltsInPiece strict h held piece = FailedIn (Answered strict) (IsHalt strict h) held piece

@@ -1,9 +1,10 @@
 -- The results of a run of a script: from the possible worlds and timestamps before it to those after it.
-use Rattle.std.specs.Prelude.{◌≡◌, ◌++◌, ℕ, List, Option, IfSome}
+use Rattle.std.specs.Prelude.{◌≡◌, ◌++◌, ℕ, Bool, List, Option, IfSome}
 use Rattle.std.specs.Io.KnownBytes.{Consumes, IsAtEnd}
 use Rattle.reference.specs.Worlds.{World}
 use Rattle.textio.specs.Lines.{lines_of, whole}
-use Rattle.shell.specs.Script.{Cut, Line, Lines, Script, State, Stopped}
+use Rattle.shell.specs.Script.{Answered, Cut, IsHalt, Line, Lines, Script, State, Stopped}
+use Rattle.shell.specs.declared.verdict.Halt.TheVariants as halt
 
 -- the worlds to which a volume, or a client of one, abstracts
 abbrev pub Worlds : Type 1
@@ -37,6 +38,10 @@ DoesGiven D had has first out after = (text : List ℕ) × Consumes had has text
 abbrev pub DoesUntil : Line → Cut → Option (List ℕ) → State → List ℕ → State → Type 0
 DoesUntil D H had first written after = (text : List ℕ) × IfSome had (λ all. all ≡ text) × Stopped D H first text written after
 
--- these lines, at most one, were executed, and this part of the answer was written
+-- the same up to the first line that a run, where it is strict, answers by a fault or an error
+abbrev pub DoesUntilFault : Bool → Option (List ℕ) → State → List ℕ → State → Type 0
+DoesUntilFault strict had = DoesUntil (Answered strict) (IsHalt strict halt.Fault) had
+
+-- these lines, of which there is one at most, were done, and so much of the answer was written
 abbrev pub Halts : Cut → List (List ℕ) → State → List ℕ → State → Type 0
 Halts H lines first part after = (rest : List ℕ) × Script first lines (part ++ rest) after × H part rest

@@ -10,8 +10,8 @@ ghost use Rattle.shell.specs.Replies.{reply_text};
 ghost use Rattle.shell.specs.Script.{Answers, Does, IsCut, IsHalt, Lines, Script, Answered, settled_reply};
 ghost use Rattle.reference.specs.Worlds.{World};
 ghost use Rattle.volume.specs.Volumes.{Means};
-ghost use Rattle.shell.specs.Runs.{DoesAll, DoesGiven, DoesUntil, Halts, Leads, Left, Meant};
-ghost use Rattle.shell.specs.Progress.{FailedIn, Went, last_line};
+ghost use Rattle.shell.specs.Runs.{DoesAll, DoesGiven, DoesUntil, DoesUntilFault, Halts, Leads, Left, Meant};
+ghost use Rattle.shell.specs.Progress.{DoesPiece, HaltsInPiece, last_line};
 ghost use Rattle.shell.specs.Verdicts.{Judges, fails, is_fault};
 ghost use Rattle.textio.specs.Held.{Holds};
 
@@ -110,7 +110,7 @@ pub(crate) fn run_lines<S: Session, R: Read, W: Write, P: Pace, V: Watch>(
     ensures write { result ≡ Err (Ending.Failed ScriptFault.Write) → Leads (Meant (S.means session.old) at.old) (Meant (S.means session.new) at.new)
         (DoesUntil (Answered (V.is_strict watch.old)) IsCut (R.remaining reader.old)) (Appends (W.contents writer.old) (W.contents writer.new)) }
     ensures fault { (n : ℕ) → result ≡ Err (Ending.Fault n) → Leads (Meant (S.means session.old) at.old) (Meant (S.means session.new) at.new)
-        (DoesUntil (Answered (V.is_strict watch.old)) (IsHalt (V.is_strict watch.old) Halt.Fault) (R.remaining reader.old)) (Appends (W.contents writer.old) (W.contents writer.new)) }
+        (DoesUntilFault (V.is_strict watch.old) (R.remaining reader.old)) (Appends (W.contents writer.old) (W.contents writer.new)) }
 {
     let Ok(mut piece) = Vec::from_elem(alloc, 0u8, READ_SIZE) else {
         return Err(Ending::Failed(ScriptFault::Memory));
@@ -154,7 +154,7 @@ fn run_over<S: Session, R: Read, W: Write, P: Pace, V: Watch>(
     ensures write { result ≡ Err (Ending.Failed ScriptFault.Write) → Leads (Meant (S.means session.old) at.old) (Meant (S.means session.new) at.new)
         (DoesUntil (Answered (V.is_strict watch.old)) IsCut (R.remaining reader.old)) (Appends (W.contents writer.old) (W.contents writer.new)) }
     ensures fault { (n : ℕ) → result ≡ Err (Ending.Fault n) → Leads (Meant (S.means session.old) at.old) (Meant (S.means session.new) at.new)
-        (DoesUntil (Answered (V.is_strict watch.old)) (IsHalt (V.is_strict watch.old) Halt.Fault) (R.remaining reader.old)) (Appends (W.contents writer.old) (W.contents writer.new)) }
+        (DoesUntilFault (V.is_strict watch.old) (R.remaining reader.old)) (Appends (W.contents writer.old) (W.contents writer.new)) }
 {
     // No input has more pieces than this.
     for _ in 0..u64::MAX {
@@ -206,10 +206,10 @@ fn take_piece<S: Session, W: Write, P: Pace, V: Watch>(
     ensures room { 65536 < vec_capacity line.new }
     ensures same { V.is_strict watch.new ≡ V.is_strict watch.old }
     ensures ok { OnOk result ((held : List ℕ) → Holds held line.old.items → Leads (Meant (S.means session.old) at.old) (Meant (S.means session.new) at.new)
-        (λ first out after. (left : List ℕ) × Holds left line.new.items × Went (Answered (V.is_strict watch.old)) held piece.now first out left after)
+        (DoesPiece (V.is_strict watch.old) held piece.now line.new.items)
         (Appends (W.contents writer.old) (W.contents writer.new))) }
     ensures err { IfErr result (λ h. (held : List ℕ) → Holds held line.old.items → Leads (Meant (S.means session.old) at.old) (Meant (S.means session.new) at.new)
-        (FailedIn (Answered (V.is_strict watch.old)) (IsHalt (V.is_strict watch.old) h) held piece.now) (Appends (W.contents writer.old) (W.contents writer.new))) }
+        (HaltsInPiece (V.is_strict watch.old) h held piece.now) (Appends (W.contents writer.old) (W.contents writer.new))) }
 {
     let mut rest = piece;
     while let Some((end, after)) = split_line(rest) {

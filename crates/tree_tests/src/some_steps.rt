@@ -1,8 +1,8 @@
 //! Random steps of all eight kinds at random nodes.
-use node::{Place, StepKind, StepReply, Tree, TreeStep};
+use node::{StepKind, StepReply, Tree, TreeStep};
 use std::alloc::Global;
 use steps::{TriedStep, compact_step, do_step};
-use test_support::{Digit, Random};
+use test_support::{Digit, Random, some_tree_step};
 
 /// How many steps of each kind were done, in the order of the kinds.
 #[derive(Clone, Copy)]
@@ -32,41 +32,6 @@ impl Done {
     }
 }
 
-/// The node at which up to three slot indexes lead; it need not exist.
-fn somewhere(random: &mut Random) -> Place {
-    let mut at = Place::root();
-    for _ in 0..random.below(4) {
-        match at.under(random.below(4) as u8) {
-            Some(below) => at = below,
-            None => return at,
-        }
-    }
-    at
-}
-
-/// A kind of step. Those that make a tree lower are more frequent than those that make it higher.
-fn some_kind(random: &mut Random) -> StepKind {
-    match random.below(20) {
-        0..=3 => StepKind::FlushInner,
-        4..=7 => StepKind::FlushLeaf,
-        8 => StepKind::SplitInner,
-        9..=11 => StepKind::MergeLeaves,
-        12..=14 => StepKind::MergeInner,
-        15 => StepKind::RootUp,
-        16..=17 => StepKind::RootDown,
-        _ => StepKind::DropCovered,
-    }
-}
-
-/// A step of some kind at some node.
-fn some_step(random: &mut Random) -> TreeStep {
-    TreeStep {
-        kind: some_kind(random),
-        at: somewhere(random),
-        slot: random.below(4) as u8,
-    }
-}
-
 /// Does a step. It has no postcondition, so that the proofs of the tests do not unfold what a step does.
 fn turn_of(alloc: Global, tree: &mut Tree<Digit>, step: TreeStep) -> TriedStep {
     let reply = do_step(alloc, tree, step);
@@ -78,7 +43,7 @@ fn turn(alloc: Global, random: &mut Random, tree: &mut Tree<Digit>) -> Option<Tr
     if random.below(2) == 0 {
         return compact_step(alloc, tree);
     }
-    Some(turn_of(alloc, tree, some_step(random)))
+    Some(turn_of(alloc, tree, some_tree_step(random)))
 }
 
 /// Tries a step, and counts it if it was done.

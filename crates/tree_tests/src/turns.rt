@@ -111,7 +111,8 @@ const ACROSS: &[Plain] = &[
     Plain::Put(9, 2),
 ];
 
-const FULL_LEAF: &[Row] = &[
+/// Rows to a tree with one slot over a full leaf.
+const TO_FULL_LEAF: &[Row] = &[
     (
         Turn::Append(&[
             Plain::Put(1, 0),
@@ -125,6 +126,14 @@ const FULL_LEAF: &[Row] = &[
         Turn::Step(StepKind::FlushLeaf, 0, StepReply::Did(4)),
         [1, 1, 0, 4],
     ),
+];
+
+/// Takes a new tree to this leaf and then through the rows.
+fn follow_full_leaf(alloc: Global, rows: &[Row]) -> Result<(), usize> {
+    follow_behind(alloc, TO_FULL_LEAF, rows)
+}
+
+const SAME_KEYS: &[Row] = &[
     (
         Turn::Append(&[Plain::Put(1, 1), Plain::Put(2, 1), Plain::Del(9)]),
         [1, 1, 3, 4],
@@ -137,23 +146,10 @@ const FULL_LEAF: &[Row] = &[
 
 #[test]
 fn a_full_leaf_takes_what_adds_nothing(rt: HostRuntime) -> Result<(), usize> {
-    follow_behind(rt.alloc(), &[], FULL_LEAF)
+    follow_full_leaf(rt.alloc(), SAME_KEYS)
 }
 
 const CUT_LEAF: &[Row] = &[
-    (
-        Turn::Append(&[
-            Plain::Put(1, 0),
-            Plain::Put(2, 0),
-            Plain::Put(3, 0),
-            Plain::Put(4, 0),
-        ]),
-        [1, 1, 4, 0],
-    ),
-    (
-        Turn::Step(StepKind::FlushLeaf, 0, StepReply::Did(4)),
-        [1, 1, 0, 4],
-    ),
     (
         Turn::Append(&[Plain::Put(5, 0), Plain::Put(6, 0)]),
         [1, 1, 2, 4],
@@ -166,24 +162,11 @@ const CUT_LEAF: &[Row] = &[
 
 #[test]
 fn a_full_leaf_is_cut_for_the_oldest_message(rt: HostRuntime) -> Result<(), usize> {
-    follow_behind(rt.alloc(), &[], CUT_LEAF)
+    follow_full_leaf(rt.alloc(), CUT_LEAF)
 }
 
 /// Two messages for keys in the full leaf precede the first for a key that is not in it: all three are flushed at once.
 const TOUCHED_LEAF: &[Row] = &[
-    (
-        Turn::Append(&[
-            Plain::Put(1, 0),
-            Plain::Put(2, 0),
-            Plain::Put(3, 0),
-            Plain::Put(4, 0),
-        ]),
-        [1, 1, 4, 0],
-    ),
-    (
-        Turn::Step(StepKind::FlushLeaf, 0, StepReply::Did(4)),
-        [1, 1, 0, 4],
-    ),
     (
         Turn::Append(&[
             Plain::Edit(1, 5),
@@ -201,7 +184,7 @@ const TOUCHED_LEAF: &[Row] = &[
 
 #[test]
 fn a_full_leaf_is_cut_behind_messages_for_its_own_keys(rt: HostRuntime) -> Result<(), usize> {
-    follow_behind(rt.alloc(), &[], TOUCHED_LEAF)
+    follow_full_leaf(rt.alloc(), TOUCHED_LEAF)
 }
 
 /// Puts a value and flushes the last slot; returns the reply to the flush, and `None` if an allocation fails.

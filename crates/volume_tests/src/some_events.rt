@@ -1,7 +1,6 @@
 //! Random events: file calls at few paths and their timestamps, calls on three snapshots, steps of all eight kinds.
 use crate::requests::Snap;
-use node::{Place, StepKind, TreeStep};
-use test_support::{Random, SampleCall};
+use test_support::{Random, SampleCall, some_tree_step};
 use volume::{Index, Step};
 
 /// Paths at which directories are created and removed.
@@ -166,39 +165,9 @@ pub fn some_index(random: &mut Random) -> Index {
     }
 }
 
-/// The node at which up to three slot indexes lead; it need not exist.
-fn somewhere(random: &mut Random) -> Place {
-    let mut at = Place::root();
-    for _ in 0..random.below(4) {
-        match at.under(random.below(4) as u8) {
-            Some(below) => at = below,
-            None => return at,
-        }
-    }
-    at
-}
-
-/// A kind of step. Those that make a tree lower are more frequent than those that make it higher.
-fn some_kind(random: &mut Random) -> StepKind {
-    match random.below(20) {
-        0..=3 => StepKind::FlushInner,
-        4..=7 => StepKind::FlushLeaf,
-        8 => StepKind::SplitInner,
-        9..=11 => StepKind::MergeLeaves,
-        12..=14 => StepKind::MergeInner,
-        15 => StepKind::RootUp,
-        16..=17 => StepKind::RootDown,
-        _ => StepKind::DropCovered,
-    }
-}
-
-/// A step of some kind at some node.
+/// A step of some kind somewhere in one of the indexes.
 pub fn some_step(random: &mut Random) -> Step {
-    let step = TreeStep {
-        kind: some_kind(random),
-        at: somewhere(random),
-        slot: random.below(4) as u8,
-    };
+    let step = some_tree_step(random);
     let index = some_index(random);
     Step { index, step }
 }

@@ -5,15 +5,12 @@ use Rattle.volume.specs.Volumes.{IsNew}
 use Rattle.doorvervain.proofs.Handed.{anyway, given_out, refused_out, shape_reported, when_err, when_ok}
 use Rattle.doorvervain.proofs.upkeep.open.Goals as goal
 
-pub returns-clause-new : goal.returns-clause-new
-returns-clause-new c =
-    given_out (IsNew c.args.shape) c.new-made.result c.hand_out.result c.hand_out.new.out.given c.hand_out.ensures.handed
-    (when_ok (IsNew c.args.shape) (λ e. (e ≡ EINVAL) ⊎ (e ≡ ENOMEM)) c.new-made.result c.new-made.ensures.new)
-
-pub returns-clause-shape : goal.returns-clause-shape
-returns-clause-shape c = shape_reported (is_shape c.args.shape ≡ false) c.new-made.result c.hand_out.result c.hand_out.new.out.given c.hand_out.ensures.handed c.new-made.ensures.shape
-
-pub returns-clause-refused : goal.returns-clause-refused
-returns-clause-refused c =
-    refused_out (λ e. (e ≡ EINVAL) ⊎ (e ≡ ENOMEM)) c.new-made.result c.hand_out.result c.hand_out.new.out.given c.hand_out.ensures.handed
-    (when_err (IsNew c.args.shape) (λ e. (e ≡ EINVAL) ⊎ (e ≡ ENOMEM)) c.new-made.result c.new-made.ensures.new) (anyway c.new-made.result (inr refl))
+pub returns : goal.returns
+returns c = record {
+  new = given_out (IsNew c.args.shape) c.new-made.result c.hand_out.result c.hand_out.new.out.given c.hand_out.ensures.handed
+      (when_ok (IsNew c.args.shape) (λ e. (e ≡ EINVAL) ⊎ (e ≡ ENOMEM)) c.new-made.result c.new-made.ensures.new);
+  no_shape = shape_reported (is_shape c.args.shape ≡ false) c.new-made.result c.hand_out.result c.hand_out.new.out.given c.hand_out.ensures.handed c.new-made.ensures.shape;
+  refused = refused_out (λ e. (e ≡ EINVAL) ⊎ (e ≡ ENOMEM)) c.new-made.result c.hand_out.result c.hand_out.new.out.given c.hand_out.ensures.handed
+      (when_err (IsNew c.args.shape) (λ e. (e ≡ EINVAL) ⊎ (e ≡ ENOMEM)) c.new-made.result c.new-made.ensures.new) (anyway c.new-made.result (inr refl));
+  closed = c.hand_out.ensures.closed;
+}
