@@ -1,8 +1,8 @@
-//! Steps of all eight kinds, at places that look random.
+//! Random steps of all eight kinds at random nodes.
 use crate::random::Random;
 use node::{Place, StepKind, TreeStep};
 
-/// The place that up to three numbers of slots lead to, where a node may be.
+/// The node at which up to three slot indexes lead; it need not exist.
 fn somewhere(random: &mut Random) -> Place {
     let mut at = Place::root();
     for _ in 0..random.below(4) {
@@ -14,7 +14,7 @@ fn somewhere(random: &mut Random) -> Place {
     at
 }
 
-/// A kind of step. Those that make a tree lower come more often than those that make it higher.
+/// A kind of step. Those that make a tree lower are more frequent than those that make it higher.
 fn some_kind(random: &mut Random) -> StepKind {
     match random.below(20) {
         0..=3 => StepKind::FlushInner,
@@ -28,7 +28,7 @@ fn some_kind(random: &mut Random) -> StepKind {
     }
 }
 
-/// A step of some kind somewhere.
+/// A step of some kind at some node.
 pub fn some_tree_step(random: &mut Random) -> TreeStep {
     TreeStep {
         kind: some_kind(random),
