@@ -188,7 +188,7 @@ impl MetaIndex {
     {
         match given_in_root(alloc, &self.tree, range)? {
             None => Ok(false),
-            Some(key) => self.has_in(alloc, range, &key),
+            Some(key) => self.has_in(alloc, range, key),
         }
     }
 
