@@ -1,5 +1,5 @@
 -- The last key with a message for it alone.
-use Rattle.std.proofs.Common.{◌≡◌, ℕ, ◌+◌, ◌<◌, ◌≤◌, Bool, true, false, ◌||◌, List, [], ◌∷◌, ◌++◌, length, take, get_or, refl, ap, sym, ◌∙◌, subst, Option, Some, None, cond}
+use Rattle.std.proofs.Common.{◌≡◌, ℕ, ◌+◌, ◌<◌, ◌≤◌, Bool, true, false, List, [], ◌∷◌, ◌++◌, length, take, get_or, refl, ap, sym, ◌∙◌, subst, Option, Some, None, cond}
 use Rattle.std.specs.Prelude.{◌&&◌, IfSome}
 use Rattle.std.specs.List.{AllByRecursion}
 use Rattle.std.specs.Map.{keys_of}
@@ -17,7 +17,7 @@ use Rattle.pathkey.proofs.OrderFacts.{same_itself}
 use Rattle.cow_map.specs.Places.{Rises}
 use Rattle.message.specs.declared.msg.Msg.{Msg}
 use Rattle.message.specs.Effects.{point_key}
-use Rattle.message.specs.Ranges.{reaches, before, within, later_key}
+use Rattle.message.specs.Ranges.{reaches, before, within}
 use Rattle.message.specs.PointKeys.{has_point}
 use Rattle.message.specs.Stretches.{is_for, is_key}
 use Rattle.message.proofs.KeyOrder.{both, unlike_earlier}
