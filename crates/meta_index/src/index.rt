@@ -192,7 +192,7 @@ impl MetaIndex {
     {
         match given_in_root(alloc, &self.tree, range)? {
             None => Ok(false),
-            Some(key) => self.has_in(alloc, range, &key),
+            Some(key) => self.has_in(alloc, range, key),
         }
     }
 

@@ -14,8 +14,8 @@ use std::alloc::Global;
 /// The maximum number of inner levels of a tree.
 const LEVELS: u8 = 16;
 
-/// The maximum number of keys of a slot's messages that are tried.
-const TRIES: u8 = 64;
+/// The maximum number of keys with messages in a slot that are tried.
+const TRIES: u8 = 8;
 
 /// The last slot that begins before the end of the range.
 fn last_slot<'a>(slots: &'a [Slot<MetaUpdate>], range: &KeyRange) -> Option<&'a Slot<MetaUpdate>> {
@@ -51,61 +51,36 @@ fn is_given(alloc: Global, slot: &Slot<MetaUpdate>, key: &Key) -> Result<bool, N
     Ok(matches!(resolution, Resolution::Value(Some(_))))
 }
 
-/// The least key after all keys that begin with the same `depth` bytes as this one and the next byte; `None` if there is no such
-/// byte or it is 255.
-fn past(alloc: Global, key: &Key, depth: usize) -> Result<Option<Key>, NoMemory> {
-    let bytes = key.as_bytes();
-    let Some(byte) = bytes.get(depth) else {
-        return Ok(None);
-    };
-    let Some(next) = byte.checked_add(1) else {
-        return Ok(None);
-    };
-    let mut front = Vec::from_slice(alloc, &bytes[..depth])?;
-    front.push(next)?;
-    Ok(Some(Key::from_bytes(alloc, front.as_slice())?))
-}
-
-/// A key in the range to which the messages of a slot give a value.
-///
-/// From one key with a message it advances to the first that differs in an early byte, as long as there is one, then to the
-/// first that differs in a later byte: so it skips long runs of removed names, and reaches the last key with a message.
-pub(crate) fn given_in(
+/// The last key in the range to which the messages of a slot give a value, among the last keys with messages there.
+fn last_given<'a>(
     alloc: Global,
-    slot: &Slot<MetaUpdate>,
+    slot: &'a Slot<MetaUpdate>,
     range: &KeyRange,
-) -> Result<Option<Key>, NoMemory> {
-    let mut from = range.lo.copy(alloc)?;
-    let mut at = from.copy(alloc)?;
-    let mut depth = range.lo.as_bytes().len().saturating_sub(1);
+) -> Result<Option<&'a Key>, NoMemory> {
+    let mut end = range.hi.as_ref();
     for _ in 0..TRIES {
-        if let Some(key) = slot.pending.next_point(&from, range.hi.as_ref()) {
-            if is_given(alloc, slot, key)? {
-                return Ok(Some(key.copy(alloc)?));
-            }
-            at = key.copy(alloc)?;
-        } else {
-            depth = depth.saturating_add(1);
+        let Some(key) = slot.pending.last_point(&range.lo, end) else {
+            return Ok(None);
+        };
+        if is_given(alloc, slot, key)? {
+            return Ok(Some(key));
         }
-        match past(alloc, &at, depth)? {
-            Some(next) => from = next,
-            None => return Ok(None),
-        }
+        end = Some(key);
     }
     Ok(None)
 }
 
 /// A key in the range to which the messages of the root give a value, in the slot in which the range ends.
-pub(crate) fn given_in_root(
+pub(crate) fn given_in_root<'a>(
     alloc: Global,
-    tree: &Tree<MetaUpdate>,
+    tree: &'a Tree<MetaUpdate>,
     range: &KeyRange,
-) -> Result<Option<Key>, NoMemory> {
+) -> Result<Option<&'a Key>, NoMemory> {
     let Some(slots) = tree.root().slots() else {
         return Ok(None);
     };
     match last_slot(slots, range) {
-        Some(slot) => given_in(alloc, slot, range),
+        Some(slot) => last_given(alloc, slot, range),
         None => Ok(None),
     }
 }

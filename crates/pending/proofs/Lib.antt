@@ -3,6 +3,7 @@ pub mod Meaning
 pub mod Coming
 pub mod OneKey
 pub mod Stretching
+pub mod LastPoints
 pub mod Cutting
 pub mod Leaving
 pub mod Meeting

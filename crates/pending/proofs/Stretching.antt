@@ -67,6 +67,11 @@ module _ {X : Type 0} where
       let t : reaches from e.0 ≡ true = le_le from x e.0 r (reaches-from_before x e.0 b) in
       inr (e.0, ap (λ c. cond c (Some e.0) (first_from from es)) t, b)
 
+-- no range-delete is for one key alone
+pub ranges_point : (U V : Type 0) (rs : List Span) (k : List ℕ) → has_point {U = U} {V = V} (range_msgs rs) k ≡ false
+ranges_point U V [] k = refl
+ranges_point U V (r ∷ rs) k = ranges_point U V rs k
+
 module _ {U V : Type 0} where
   -- ---- where the points act alike
 
@@ -106,7 +111,7 @@ module _ {U V : Type 0} where
       same_not : (a b : List ℕ) → same a b ≡ false → same b a ≡ false
       same_not a b h = by_bytes_equiv.symm b a ∙ h
 
-  run_points : (k : List ℕ) (cs : List (KeyOp U V)) (q : List ℕ) → 0 < length cs → has_point (run_msgs k cs) q ≡ same k q
+  pub run_points : (k : List ℕ) (cs : List (KeyOp U V)) (q : List ℕ) → 0 < length cs → has_point (run_msgs k cs) q ≡ same k q
   run_points k cs q some = key_points k q (run_msgs k cs) (run_alike k cs) (ap (λ (ms : List (Msg U V)). first_point ms) (sym (append-nil (run_msgs k cs))) ∙ run_first k cs [] some)
 
   -- a message is for the key alone, where that is the first from it on
@@ -158,11 +163,7 @@ module _ {U V : Type 0} where
 
   pub sorted_stop : (rs : List Span) (es : List (List ℕ × List (KeyOp U V))) (from : List ℕ) (end stop : Option (List ℕ)) → Rises es → AreRuns es → stop ≡ point_stop (first_from from es) from end → IsPointStop (sorted_msgs rs es) from end stop
   sorted_stop rs es from end stop s r is =
-      subst (IsPointStop (sorted_msgs rs es) from end) (sym is) (stop_then (range_msgs rs) (point_msgs es) from end end (point_stop (first_from from es) from end) (stop_one (range_msgs rs) None from end (λ k. none rs k)) (points_stop from end es s r))
-    where
-      none : (rs : List Span) (k : List ℕ) → has_point {U = U} {V = V} (range_msgs rs) k ≡ false
-      none [] k = refl
-      none (r ∷ rs) k = none rs k
+      subst (IsPointStop (sorted_msgs rs es) from end) (sym is) (stop_then (range_msgs rs) (point_msgs es) from end end (point_stop (first_from from es) from end) (stop_one (range_msgs rs) None from end (λ k. ranges_point U V rs k)) (points_stop from end es s r))
 
   -- ---- range-deletes
 

@@ -1,4 +1,5 @@
 pub mod Ahead
+pub mod LastPoint
 pub mod MsgRef
 pub mod SharedRange
 pub mod SortedMsgs

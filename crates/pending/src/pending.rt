@@ -15,9 +15,11 @@ ghost use Rattle.message.specs.Stretches.{IsStretch};
 ghost use Rattle.message.specs.Resolution.{IsResolved};
 ghost use Rattle.pathkey.specs.Keys.{is_below};
 ghost use Rattle.pending.specs.Ahead.{StandsAt};
+ghost use Rattle.pending.specs.LastPoint.{IsLastPoint};
 
 use crate::msg_ref::MsgRef;
 use crate::point_cursor::PointCursor;
+use crate::segment::later;
 use crate::sorted_msgs::SortedMsgs;
 use crate::tail::Tail;
 use message::ends::is_before_end;
@@ -571,6 +573,14 @@ impl<U: Update> Pending<U> {
             return None;
         }
         Some(key)
+    }
+
+    /// The last key from `lo` up to, but excluding, `hi` that has a message for it alone, if there is one.
+    pub fn last_point(&self, lo: &Key, hi: Option<&Key>) -> Option<&Key>
+        ensures { IsLastPoint self.now.0 lo.now (option_copied hi.entry) (option_copied result) }
+    {
+        let in_sorted = self.sorted.last_point(lo, hi);
+        later(in_sorted, self.tail_msgs.last_point(lo, hi))
     }
 
     /// A cursor over the keys from `from` on that have messages for them alone.

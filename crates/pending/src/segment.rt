@@ -7,6 +7,7 @@ ghost use Rattle.pathkey.specs.Keys.{is_below};
 ghost use Rattle.message.specs.PointKeys.{point_stop, IsPointStop};
 ghost use Rattle.pending.specs.MsgRef.{borrowed_msg};
 ghost use Rattle.message.specs.Stretches.{ahead_of, range_end, IsNextEnd, IsStretch};
+ghost use Rattle.pending.specs.LastPoint.{later_point, point_within, IsLastPoint};
 
 use crate::buffered_msg::BufferedMsg;
 use crate::msg_ref::MsgRef;
@@ -95,4 +96,39 @@ pub(crate) fn next_point<'a, U: Update>(
         stop = point_stop(waiting.as_msg().point_key(), from, stop);
     }
     stop
+}
+
+/// The later of two keys, or the only one.
+pub(crate) fn later<'a>(a: Option<&'a Key>, b: Option<&'a Key>) -> Option<&'a Key>
+    ensures { option_copied result ≡ later_point (option_copied a.entry) (option_copied b.entry) }
+{
+    match (a, b) {
+        (None, key) | (key, None) => key,
+        (Some(a), Some(b)) => Some(if a.cmp(b).is_lt() { b } else { a }),
+    }
+}
+
+/// The key, if it is from `lo` up to, but excluding, `hi`.
+pub(crate) fn point_within<'a>(at: Option<&'a Key>, lo: &Key, hi: Option<&Key>) -> Option<&'a Key>
+    ensures { option_copied result ≡ point_within (option_copied at.entry) lo.now (option_copied hi.entry) }
+{
+    match at {
+        Some(key) if is_within(key, lo, hi) => Some(key),
+        _ => None,
+    }
+}
+
+/// The last key from `lo` up to, but excluding, `hi` that has a message for it alone, if there is one.
+pub(crate) fn last_point<'a, U: Update>(
+    msgs: &'a [BufferedMsg<U>],
+    lo: &Key,
+    hi: Option<&Key>,
+) -> Option<&'a Key>
+    ensures { IsLastPoint msgs.now lo.now (option_copied hi.entry) (option_copied result) }
+{
+    let mut last = None;
+    for waiting in msgs {
+        last = later(last, point_within(waiting.as_msg().point_key(), lo, hi));
+    }
+    last
 }

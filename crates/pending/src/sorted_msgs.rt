@@ -19,10 +19,11 @@ ghost use Rattle.point_ops.specs.PointOps.{left, AreRuns, IsLeft};
 ghost use Rattle.pending.specs.Ahead.{AreFrom};
 ghost use Rattle.pending.specs.MsgRef.{borrowed_msg};
 ghost use Rattle.pending.specs.SortedMsgs.{sorted_msgs};
+ghost use Rattle.pending.specs.LastPoint.{IsLastPoint};
 
 use crate::insert::insert;
 use crate::msg_ref::MsgRef;
-use crate::segment::point_stop;
+use crate::segment::{point_stop, point_within};
 use cow_map::Cursor;
 use message::ends::earlier;
 use message::{Msg, Resolution, Update, UpdateTarget};
@@ -376,6 +377,14 @@ impl<U: Update> SortedMsgs<U> {
     {
         self.points.assert_invariant();
         point_stop(self.points.first_from(from), from, end)
+    }
+
+    /// The last key from `lo` up to, but excluding, `hi` that has a message for it alone, if there is one.
+    pub(crate) fn last_point(&self, lo: &Key, hi: Option<&Key>) -> Option<&Key>
+        ensures { IsLastPoint self.now lo.now (option_copied hi.entry) (option_copied result) }
+    {
+        self.points.assert_invariant();
+        point_within(self.points.last_before(hi), lo, hi)
     }
 
     /// The entries from the key on, if no message of the first key is consumed.

@@ -11,13 +11,14 @@ ghost use Rattle.pending.specs.MsgRef.{borrowed_msg};
 ghost use Rattle.message.specs.PointKeys.{is_cleared, IsPointStop};
 ghost use Rattle.message.specs.Stretches.{IsStretch};
 ghost use Rattle.pathkey.specs.Keys.{is_below};
+ghost use Rattle.pending.specs.LastPoint.{IsLastPoint};
 
 use crate::buffered_msg::BufferedMsg;
 use crate::list::{
     apply_msgs, copy_behind, is_range_deleted, is_touched, lie_in, ranges_in, share_behind,
 };
 use crate::msg_ref::MsgRef;
-use crate::segment::{next_point, segment_end};
+use crate::segment::{last_point, later, next_point, segment_end};
 use message::{Msg, MsgDrain, Update, UpdateTarget};
 use pathkey::{Key, NoMemory};
 use std::alloc::Global;
@@ -307,6 +308,15 @@ impl<U: Update> Tail<U> {
         let (near, far) = self.msgs.as_slices();
         let stop = next_point(near, from, end);
         next_point(far, from, stop)
+    }
+
+    /// The last key from `lo` up to, but excluding, `hi` that has a message for it alone, if there is one.
+    pub(crate) fn last_point(&self, lo: &Key, hi: Option<&Key>) -> Option<&Key>
+        ensures { IsLastPoint self.now.0 lo.now (option_copied hi.entry) (option_copied result) }
+    {
+        let (near, far) = self.msgs.as_slices();
+        let in_near = last_point(near, lo, hi);
+        later(in_near, last_point(far, lo, hi))
     }
 
     /// Whether a range-delete covers the key.

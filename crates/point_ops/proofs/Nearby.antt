@@ -1,25 +1,30 @@
 -- The first keys and the last, and whether one lies in a range.
-use Rattle.std.proofs.Common.{◌≡◌, ℕ, suc, ◌-◌, Bool, true, false, ◌&&◌, ◌||◌, cond, List, [], ◌∷◌, length, drop, refl, ap, sym, ◌∙◌, subst, Option, Some, None, arith}
+use Rattle.std.proofs.Common.{◌≡◌, ℕ, suc, ◌-◌, Bool, true, false, ◌&&◌, ◌||◌, cond, List, [], ◌∷◌, length, drop, take, refl, ap, sym, ◌∙◌, subst, Option, Some, None, arith}
 use Rattle.std.specs.declared.cmp.Ordering.TheVariants.{Less, Equal, Greater}
 use Rattle.std.specs.Ordering.{is_lt, is_le, match_ordering}
 use Rattle.std.specs.List.{AllByRecursion, list_any, slice_get}
 use Rattle.std.specs.Map.{keys_of}
-use Rattle.std.specs.Option.{option_map}
+use Rattle.std.specs.Option.{option_map, option_or}
 use Rattle.std.proofs.lemmas.List.Elements.{All-from_recursion, All-head, All-tail}
 use Rattle.std.proofs.lemmas.Map.Keys.{sorted_head, sorted_tail}
 use Rattle.pathkey.specs.Keys.{is_below, is_in}
 use Rattle.pathkey.specs.Order.{by_bytes}
 use Rattle.pathkey.specs.declared.range.KeyRange.{KeyRange}
-use Rattle.pathkey.proofs.KeyOrder.{le_le, lt_le, not_before_from_reaches, reaches-from_before, reaches-from_not_before}
+use Rattle.pathkey.proofs.KeyOrder.{le_le, lt_le, before_from_not_reaches, not_before_from_reaches, reaches-from_before, reaches-from_not_before}
 use Rattle.message.proofs.KeyOrder.{split_bool}
 use Rattle.cow_map.specs.Places.{Rises, before, last_of, place, reaches, AreBefore, AreFrom}
 use Rattle.cow_map.proofs.Parts.{reach_rest}
-use Rattle.point_ops.specs.PointOps.{first_from}
+use Rattle.point_ops.specs.PointOps.{first_from, last_below}
 
 -- the key, if there is one, stands below the end
 abbrev pub next_below : Option (List ℕ) → Option (List ℕ) → Bool
 next_below None hi = false
 next_below (Some q) hi = is_below q hi
+
+-- two maps in turn are one
+pub map_twice : {A B C : Type 0} (f : A → B) (h : B → C) (o : Option A) → option_map (λ x. h (f x)) o ≡ option_map h (option_map f o)
+map_twice f h None = refl
+map_twice f h (Some x) = refl
 
 module _ {X : Type 0} where
   -- ---- the first key from one on
@@ -106,3 +111,42 @@ module _ {X : Type 0} where
       let no : before x.0 p ≡ false = subst (λ (t : List ℕ × X). before t.0 p ≡ false) one n in
       cc
   not_before_last p e (x ∷ z ∷ es) h n a = not_before_last p e (z ∷ es) (h ∙ last_later x z es) n (All-tail (λ q. before q p ≡ true) x.0 (keys_of (z ∷ es)) a)
+
+  -- ---- the last key before an end
+
+  last_cons : (x : List ℕ × X) (es : List (List ℕ × X)) → last_of (x ∷ es) ≡ option_or (last_of es) (Some x)
+  last_cons x [] = last_only x
+  last_cons x (y ∷ es) = last_later x y es ∙ last_cons y es ∙ sym (or_last (last_of es)) ∙ ap (λ o. option_or o (Some x)) (sym (last_cons y es))
+    where
+      or_last : (o : Option (List ℕ × X)) → option_or (option_or o (Some y)) (Some x) ≡ option_or o (Some y)
+      or_last None = refl
+      or_last (Some z) = refl
+
+  key_cons : (x : List ℕ × X) (es : List (List ℕ × X)) (o : Option (List ℕ)) → option_map (λ (e : List ℕ × X). e.0) (last_of es) ≡ o → option_map (λ (e : List ℕ × X). e.0) (last_of (x ∷ es)) ≡ option_or o (Some x.0)
+  key_cons x es o is = ap (option_map (λ (e : List ℕ × X). e.0)) (last_cons x es) ∙ map_or (last_of es) ∙ ap (λ p. option_or p (Some x.0)) is
+    where
+      map_or : (p : Option (List ℕ × X)) → option_map (λ (e : List ℕ × X). e.0) (option_or p (Some x)) ≡ option_or (option_map (λ (e : List ℕ × X). e.0) p) (Some x.0)
+      map_or None = refl
+      map_or (Some z) = refl
+
+  pub last_all : (es : List (List ℕ × X)) → option_map (λ (e : List ℕ × X). e.0) (last_of es) ≡ last_below None es
+  last_all [] = refl
+  last_all (e ∷ es) = key_cons e es (last_below None es) (last_all es)
+
+  -- none is before an end that is at or before the first key
+  none_below : (k x : List ℕ) (es : List (List ℕ × X)) → reaches k x ≡ true → AllByRecursion (λ y. by_bytes x y ≡ Less) (keys_of es) → last_below (Some k) es ≡ None
+  none_below k x [] r a = refl
+  none_below k x (e ∷ es) r a =
+      let out : before e.0 k ≡ false = not_before_from_reaches k e.0 (le_le k x e.0 r (reaches-from_before x e.0 (ap is_lt a.0))) in
+      ap (λ o. option_or o (cond (before e.0 k) (Some e.0) None)) (none_below k x es r a.1) ∙ ap (λ b. cond b (Some e.0) None) out
+
+  pub last_place : (k : List ℕ) (es : List (List ℕ × X)) → Rises es → option_map (λ (e : List ℕ × X). e.0) (last_of (take (place k es) es)) ≡ last_below (Some k) es
+  last_place k [] s = refl
+  last_place k (e ∷ es) s = (elim (by_bytes k e.0) as (λ o. by_bytes k e.0 ≡ o → option_map (λ (x : List ℕ × X). x.0) (last_of (take (match_ordering o 0 0 (suc (place k es))) (e ∷ es))) ≡ last_below (Some k) (e ∷ es)) [
+    | Less ↦ λ q. sym (none_here (ap is_le q))
+    | Equal ↦ λ q. sym (none_here (ap is_le q))
+    | Greater ↦ λ q. key_cons e (take (place k es) es) (last_below (Some k) es) (last_place k es (sorted_tail by_bytes e.0 (keys_of es) s)) ∙ sym (ap (λ b. option_or (last_below (Some k) es) (cond b (Some e.0) None)) (before_from_not_reaches k e.0 (ap is_le q)))
+  ]) refl
+    where
+      none_here : reaches k e.0 ≡ true → last_below (Some k) (e ∷ es) ≡ None
+      none_here r = ap (λ o. option_or o (cond (before e.0 k) (Some e.0) None)) (none_below k e.0 es r (sorted_head by_bytes e.0 (keys_of es) s)) ∙ ap (λ b. cond b (Some e.0) None) (not_before_from_reaches k e.0 r)

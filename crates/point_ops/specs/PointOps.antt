@@ -2,6 +2,8 @@
 use Rattle.std.specs.Prelude.{◌≡◌, ℕ, ◌+◌, ◌^◌, ◌<◌, ◌≤◌, Bool, false, if◌then◌else◌, List, [], ◌∷◌, ◌++◌, length, drop, Option, Some, None}
 use Rattle.std.specs.List.{sum_by, All}
 use Rattle.std.specs.BTreeMap.{insert_entry}
+use Rattle.std.specs.Option.{option_or}
+use Rattle.pathkey.specs.Keys.{is_below}
 use Rattle.pathkey.specs.Order.{by_bytes, same}
 use Rattle.message.specs.declared.msg.Msg.{Msg}
 use Rattle.cow_map.specs.Places.{at_key, reaches}
@@ -75,6 +77,15 @@ abbrev pub first_where : {X : Type 0} → (List ℕ → Bool) → List (List ℕ
 first_where p [] = None
 first_where p (e ∷ es) = if p e.0 then Some e.0 else first_where p es
 
+-- the last key that passes
+abbrev pub last_where : {X : Type 0} → (List ℕ → Bool) → List (List ℕ × X) → Option (List ℕ)
+last_where p [] = None
+last_where p (e ∷ es) = option_or (last_where p es) (if p e.0 then Some e.0 else None)
+
 -- the first key at or after this one
 abbrev pub first_from : {X : Type 0} → List ℕ → List (List ℕ × X) → Option (List ℕ)
 first_from k es = first_where (reaches k) es
+
+-- the last key before the end, if there is an end
+abbrev pub last_below : {X : Type 0} → Option (List ℕ) → List (List ℕ × X) → Option (List ℕ)
+last_below end es = last_where (λ k. is_below k end) es

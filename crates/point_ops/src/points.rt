@@ -10,7 +10,7 @@ ghost use Rattle.pathkey.specs.Keys.{is_in};
 ghost use Rattle.pathkey.specs.Order.{by_bytes};
 ghost use Rattle.cow_map.specs.Places.{Rises, at_key, place, AreBefore, AreFrom};
 ghost use Rattle.point_ops.specs.Changes.{Put, Del, run_effect};
-ghost use Rattle.point_ops.specs.PointOps.{left, point_count, point_msgs, first_from, AreRuns, IsLeft, Inserts, TakesFirst};
+ghost use Rattle.point_ops.specs.PointOps.{left, point_count, point_msgs, first_from, last_below, AreRuns, IsLeft, Inserts, TakesFirst};
 
 use crate::counts::{copy_msgs, count_of, whole_keys};
 use crate::edits_in_place::PushOp;
@@ -100,9 +100,17 @@ impl<U: Update> PointOps<U> {
     pub fn first_from(&self, key: &Key) -> Option<&Key>
         ensures { option_copied result ≡ first_from key.now self.now }
     {
-        match self.rows.lower_bound(key).peek() {
-            None => None,
-            Some((first, _)) => Some(first),
+        key_of(self.rows.lower_bound(key).peek())
+    }
+
+    /// The last key with messages before `end`; `None` means no upper bound.
+    pub fn last_before(&self, end: Option<&Key>) -> Option<&Key>
+        ensures { option_copied result ≡ last_below (option_copied end.entry) self.now }
+    {
+        self.rows.assert_invariant();
+        match end {
+            None => key_of(self.rows.last()),
+            Some(end) => key_of(self.rows.last_before(end)),
         }
     }
 
@@ -325,5 +333,15 @@ impl<U: Update> PointOps<U> {
             rows,
             count: self.count + newer.count,
         })
+    }
+}
+
+/// The key of the entry, if there is one.
+fn key_of<'a, T>(entry: Option<(&'a Key, &'a T)>) -> Option<&'a Key>
+    ensures { option_copied result ≡ option_map (λ p. p.0.now) entry.entry }
+{
+    match entry {
+        None => None,
+        Some((key, _)) => Some(key),
     }
 }
