@@ -13,9 +13,11 @@ use Rattle.message.specs.Stretches.{all_ends}
 use Rattle.message.proofs.KeyOrder.{both, begins_before_end, below_next}
 use Rattle.message.proofs.NextKey.{by_bool, in_range, one_key, before-next, reaches-next, reaches-from_before_next, one_before_next}
 use Rattle.message.proofs.PointKeys.{left_by_ranges, forgets, point_end, below_past}
+use Rattle.node.specs.declared.node.Slot.{Slot}
+use Rattle.node.specs.Meaning.{value}
 use Rattle.scan.specs.Pairs.{HasNone, IsFirst, IsScan, AddsScan}
-use Rattle.scan.specs.Stretches.{pair_of}
-use Rattle.scan.specs.Merging.{AreAll, StartsFrom, IsMoved, HasPoint, applied, LeavesGaps, IsMerged}
+use Rattle.scan.specs.Stretches.{pair_of, slot_value}
+use Rattle.scan.specs.Merging.{AreAll, StartsFrom, IsMoved, HasPoint, applied, LeavesGaps, IsMerged, Merges, GoesOn}
 use Rattle.scan.proofs.Ahead.{ahead, ahead_falls, fewer}
 use Rattle.scan.proofs.AtHand.{all_from, head_first, tail_scan, found_none}
 use Rattle.scan.proofs.Firsts.{none_start}
@@ -26,7 +28,7 @@ use Rattle.scan.proofs.ReadaheadFacts.{short_law}
 
 module _ {V : Type 0} (f : List ℕ → Option V) where
   -- a scan that found fewer than were asked for
-  pub all_fewer : (lo : List ℕ) (hi : Option (List ℕ)) (n : ℕ) (ps : List (List ℕ × V)) → IsScan f lo hi n ps → length ps < n → AreAll f lo hi ps
+  all_fewer : (lo : List ℕ) (hi : Option (List ℕ)) (n : ℕ) (ps : List (List ℕ × V)) → IsScan f lo hi n ps → length ps < n → AreAll f lo hi ps
   all_fewer lo hi n ps s l = record {
     few = omega arith;
     sound = s.sound;
@@ -280,7 +282,7 @@ module _ {U V : Type 0} (means : U → Option V → Option V) (ms : List (Msg U 
       adds_moved (applied means ms child) (applied means ms none) from stop stop limit old new (λ k w. w) (λ k w. w) (λ k w. forgets means ms k (child k) None (alike k w ∙ t)) m.added
 
   -- where they hold none, the child's values stay between the keys with messages
-  pub gaps_clear : ((k : List ℕ) → within from stop k ≡ true → is_cleared ms k ≡ false) → LeavesGaps means ms child from stop
+  gaps_clear : ((k : List ℕ) → within from stop k ≡ true → is_cleared ms k ≡ false) → LeavesGaps means ms child from stop
   gaps_clear clear k w h = left_by_ranges means ms k (child k) h ∙ ap (λ b. cond b None (child k)) (clear k w)
 
   -- and everywhere, where no key has messages
@@ -290,7 +292,7 @@ module _ {U V : Type 0} (means : U → Option V → Option V) (ms : List (Msg U 
 -- ---- a round
 
 -- enough pairs up to a key of the range are enough
-pub adds_enough : {V : Type 0} (f : List ℕ → Option V) (lo mid : List ℕ) (hi : Option (List ℕ)) (limit : ℕ) (old new : List (List ℕ × V)) → reaches lo mid ≡ true → ((k : List ℕ) → within lo (Some mid) k ≡ true → is_below k hi ≡ true) → AddsScan f lo (Some mid) limit old new → limit ≤ length new → AddsScan f lo hi limit old new
+adds_enough : {V : Type 0} (f : List ℕ → Option V) (lo mid : List ℕ) (hi : Option (List ℕ)) (limit : ℕ) (old new : List (List ℕ × V)) → reaches lo mid ≡ true → ((k : List ℕ) → within lo (Some mid) k ≡ true → is_below k hi ≡ true) → AddsScan f lo (Some mid) limit old new → limit ≤ length new → AddsScan f lo hi limit old new
 adds_enough f lo mid hi limit old new low inside a l = adds_join f lo mid hi limit old new new low inside a (adds_zero f mid hi limit new l)
 
 module _ {V : Type 0} (f : List ℕ → Option V) (lo : List ℕ) (hi : Option (List ℕ)) (n : ℕ) (ps : List (List ℕ × V)) (s : IsScan f lo hi n ps) (i : ℕ) (p : List ℕ × V) (l : i < length ps) (at : p ≡ get_or ps i p) where
@@ -315,7 +317,7 @@ module _ {U V : Type 0} (means : U → Option V → Option V) (ms : List (Msg U 
     pub merged : IsMerged means ms child from (Some next) limit below old new
 
   -- which came as they were asked for
-  pub round_is : (n : ℕ) → IsScan child from stop n below → (i : ℕ) (p : List ℕ × V) → i + 1 ≡ length below → p ≡ get_or below i p → ((k : List ℕ) → within from stop k ≡ true → is_cleared ms k ≡ false) → (next : List ℕ) → next ≡ next_key p.0 → ((f : List ℕ → Option V) → AreAll f from (Some next) below → LeavesGaps means ms f from (Some next) → IsMerged means ms f from (Some next) limit below old new) → IsRound next
+  round_is : (n : ℕ) → IsScan child from stop n below → (i : ℕ) (p : List ℕ × V) → i + 1 ≡ length below → p ≡ get_or below i p → ((k : List ℕ) → within from stop k ≡ true → is_cleared ms k ≡ false) → (next : List ℕ) → next ≡ next_key p.0 → ((f : List ℕ → Option V) → AreAll f from (Some next) below → LeavesGaps means ms f from (Some next) → IsMerged means ms f from (Some next) limit below old new) → IsRound next
   round_is n s i p l at clear next e apply_pass =
       let b : i < length below = omega (arith, l) in
       let merged : (f : List ℕ → Option V) → AreAll f from (Some (next_key p.0)) below → LeavesGaps means ms f from (Some (next_key p.0)) → IsMerged means ms f from (Some (next_key p.0)) limit below old new = subst (λ (k : List ℕ). (f : List ℕ → Option V) → AreAll f from (Some k) below → LeavesGaps means ms f from (Some k) → IsMerged means ms f from (Some k) limit below old new) e apply_pass in
@@ -324,6 +326,27 @@ module _ {U V : Type 0} (means : U → Option V → Option V) (ms : List (Msg U 
         inside = next_in child from stop n below s i p b at;
         merged = merged child (all_full child from stop n below i p s l at) (gaps_clear means ms child from (Some (next_key p.0)) (λ k w. clear k (next_within child from stop n below s i p b at k w)));
       })
+
+-- one of a slot: the walk of its child gave as many pairs as were wanted, or fewer
+module _ {U V : Type 0} (means : U → Option V → Option V) (s : Slot U V) (from : List ℕ) (stop : Option (List ℕ)) (limit wanted : ℕ) (below old new : List (List ℕ × V)) (scan : IsScan (value means s.child.value) from stop wanted below) (clear : (k : List ℕ) → within from stop k ≡ true → is_cleared s.pending.0 k ≡ false) where
+  pub round_last : length below < wanted → Merges means s.pending.0 from stop limit below old new → AddsScan (slot_value means s) from stop limit old new
+  round_last few merges = (merges (value means s.child.value) (all_fewer (value means s.child.value) from stop wanted below scan few) (gaps_clear means s.pending.0 (value means s.child.value) from stop clear)).added
+
+  module _ (next : List ℕ) (last : List ℕ × V) (count : ℕ) (all : count ≡ length below) (some : 0 < count) (at : last ≡ get_or below (count - 1) last) (is : next ≡ next_key last.0) (merges : Merges means s.pending.0 from (Some next) limit below old new) where
+    round : IsRound means s.pending.0 (value means s.child.value) from stop limit below old new next
+    round = round_is means s.pending.0 (value means s.child.value) from stop limit below old new wanted scan (count - 1) last (omega (arith, all, some)) at clear next is merges
+
+    pub round_full : limit ≤ length new → AddsScan (slot_value means s) from stop limit old new
+    round_full enough = adds_enough (slot_value means s) from next stop limit old new round.reached round.inside round.merged.added enough
+
+    pub round_goes_on : limit ≤ length old + count → length new < limit → GoesOn means s from stop limit old new next
+    round_goes_on enough room = record {
+      reached = round.reached;
+      inside = round.inside;
+      added = round.merged.added;
+      passed = ⊎_elim (λ (x : length old + length below ≤ length new). absurd (omega (arith, x, all, enough, room))) (λ (x : HasPoint s.pending.0 from (Some next)). x) (round.merged.more room);
+      room = room;
+    }
 
 -- a reference to nothing
 pub copied_none : {X : Type 0} (o : Option (Bor X)) → is_some o ≡ false → option_copied o ≡ None
