@@ -17,7 +17,7 @@ use Rattle.node.specs.declared.node.Slot.{Slot}
 use Rattle.node.specs.Meaning.{value}
 use Rattle.scan.specs.Pairs.{HasNone, IsFirst, IsScan, AddsScan}
 use Rattle.scan.specs.Stretches.{pair_of, slot_value}
-use Rattle.scan.specs.Merging.{AreAll, StartsFrom, IsMoved, HasPoint, applied, LeavesGaps, IsMerged, Merges, GoesOn}
+use Rattle.scan.specs.Merging.{AreAll, StartsFrom, IsMoved, HasPoint, applied, LeavesGaps, IsMerged, Merges, Moves, OfAllFrom, GoesOn}
 use Rattle.scan.proofs.Ahead.{ahead, ahead_falls, fewer}
 use Rattle.scan.proofs.AtHand.{all_from, head_first, tail_scan, found_none}
 use Rattle.scan.proofs.Firsts.{none_start}
@@ -236,7 +236,7 @@ module _ {U V : Type 0} (means : U → Option V → Option V) (ms : List (Msg U 
           (gap (Some q) newer (λ k b. below_next k q end b at_q.1) next.2 m.added)
 
       -- enough pairs stand before the next key
-      pub merging_full : limit ≤ length newer → IsMerged means ms child from end limit below old newer
+      merging_full : limit ≤ length newer → IsMerged means ms child from end limit below old newer
       merging_full l = record {
         added = walk_full (applied means ms child) from end limit q old newer before_q l;
         more = λ h. absurd (omega (arith, h, l));
@@ -258,8 +258,25 @@ module _ {U V : Type 0} (means : U → Option V → Option V) (ms : List (Msg U 
         more = inr (q, in_range from q end (le_le from at q x.walked.reached at_q.0) at_q.1, next.1);
       })
 
-      pub merging_met : (newest last : List (List ℕ × V)) → length newer < limit → (AreAll child q end left → is_below q end ≡ true → newest ≡ newer ++ option_to_list (pair_of q (applied means ms child q))) → (AreAll child q end left → is_below q end ≡ true → AreAll child (next_key q) end last) → IsMerging (next_key q) newest last
+      merging_met : (newest last : List (List ℕ × V)) → length newer < limit → (AreAll child q end left → is_below q end ≡ true → newest ≡ newer ++ option_to_list (pair_of q (applied means ms child q))) → (AreAll child q end left → is_below q end ≡ true → AreAll child (next_key q) end last) → IsMerging (next_key q) newest last
       merging_met newest last l pushed others = merging_on newest last (next_key q) l (pushed (all_there l) at_q.1) (others (all_there l) at_q.1) refl
+
+    -- the pairs before the next key were moved, and then the key with its messages was
+    module _ (q key : List ℕ) (next : IsNextPoint ms at end (Some q)) (is : key ≡ q) (newer left : List (List ℕ × V)) (moves : Moves (Some key) limit new newer rest left) where
+      key_below : is_below key end ≡ true
+      key_below = ap (λ k. is_below k end) is ∙ (both (reaches at q) (is_below q end) next.0).1
+
+      before_key : IsMoved child at end (Some q) limit new newer left
+      before_key = subst (λ (k : List ℕ). IsMoved child at end (Some k) limit new newer left) is (moves child at end x.all (λ k b. below_next k key end b key_below))
+
+      pub pass_full : limit ≤ length newer → IsMerged means ms child from end limit below old newer
+      pass_full l = merging_full q next newer left before_key l
+
+      pub pass_met : (seen : List (Msg U V)) → seen ≡ ms → (newest last : List (List ℕ × V)) → length newer < limit → OfAllFrom q left (λ f hi. newest ≡ newer ++ option_to_list (pair_of q (applied means seen f q))) → OfAllFrom q left (λ f hi. AreAll f (next_key q) hi last) → IsMerging (next_key q) newest last
+      pass_met seen same newest last l pushed others =
+          merging_met q next newer left before_key newest last l
+          (λ all low. pushed child end all low ∙ ap (λ (t : List (Msg U V)). newer ++ option_to_list (pair_of q (applied means t child q))) same)
+          (λ all low. others child end all low)
 
     -- no key with messages is left
     pub merging_over : IsNextPoint ms at end None → (newer left : List (List ℕ × V)) → IsMoved child at end end limit new newer left → length newer + length left ≡ length new + length rest → IsMerged means ms child from end limit below old newer
