@@ -13,9 +13,11 @@ use Rattle.message.specs.Stretches.{all_ends}
 use Rattle.message.proofs.KeyOrder.{both, begins_before_end, below_next}
 use Rattle.message.proofs.NextKey.{by_bool, in_range, one_key, before-next, reaches-next, reaches-from_before_next, one_before_next}
 use Rattle.message.proofs.PointKeys.{left_by_ranges, forgets, point_end, below_past}
+use Rattle.node.specs.declared.node.Slot.{Slot}
+use Rattle.node.specs.Meaning.{value}
 use Rattle.scan.specs.Pairs.{HasNone, IsFirst, IsScan, AddsScan}
-use Rattle.scan.specs.Stretches.{pair_of}
-use Rattle.scan.specs.Merging.{AreAll, StartsFrom, IsMoved, HasPoint, applied, LeavesGaps, IsMerged}
+use Rattle.scan.specs.Stretches.{pair_of, slot_value}
+use Rattle.scan.specs.Merging.{AreAll, StartsFrom, IsMoved, HasPoint, applied, LeavesGaps, IsMerged, Merges, Moves, OfAllFrom, GoesOn}
 use Rattle.scan.proofs.Ahead.{ahead, ahead_falls, fewer}
 use Rattle.scan.proofs.AtHand.{all_from, head_first, tail_scan, found_none}
 use Rattle.scan.proofs.Firsts.{none_start}
@@ -26,7 +28,7 @@ use Rattle.scan.proofs.ReadaheadFacts.{short_law}
 
 module _ {V : Type 0} (f : List ℕ → Option V) where
   -- a scan that found fewer pairs than its limit
-  pub all_fewer : (lo : List ℕ) (hi : Option (List ℕ)) (n : ℕ) (ps : List (List ℕ × V)) → IsScan f lo hi n ps → length ps < n → AreAll f lo hi ps
+  all_fewer : (lo : List ℕ) (hi : Option (List ℕ)) (n : ℕ) (ps : List (List ℕ × V)) → IsScan f lo hi n ps → length ps < n → AreAll f lo hi ps
   all_fewer lo hi n ps s l = record {
     few = omega arith;
     sound = s.sound;
@@ -234,7 +236,7 @@ module _ {U V : Type 0} (means : U → Option V → Option V) (ms : List (Msg U 
           (gap (Some q) newer (λ k b. below_next k q end b at_q.1) next.2 m.added)
 
       -- enough pairs are before the next key
-      pub merging_full : limit ≤ length newer → IsMerged means ms child from end limit below old newer
+      merging_full : limit ≤ length newer → IsMerged means ms child from end limit below old newer
       merging_full l = record {
         added = walk_full (applied means ms child) from end limit q old newer before_q l;
         more = λ h. absurd (omega (arith, h, l));
@@ -256,8 +258,25 @@ module _ {U V : Type 0} (means : U → Option V → Option V) (ms : List (Msg U 
         more = inr (q, in_range from q end (le_le from at q x.walked.reached at_q.0) at_q.1, next.1);
       })
 
-      pub merging_met : (newest last : List (List ℕ × V)) → length newer < limit → (AreAll child q end left → is_below q end ≡ true → newest ≡ newer ++ option_to_list (pair_of q (applied means ms child q))) → (AreAll child q end left → is_below q end ≡ true → AreAll child (next_key q) end last) → IsMerging (next_key q) newest last
+      merging_met : (newest last : List (List ℕ × V)) → length newer < limit → (AreAll child q end left → is_below q end ≡ true → newest ≡ newer ++ option_to_list (pair_of q (applied means ms child q))) → (AreAll child q end left → is_below q end ≡ true → AreAll child (next_key q) end last) → IsMerging (next_key q) newest last
       merging_met newest last l pushed others = merging_on newest last (next_key q) l (pushed (all_there l) at_q.1) (others (all_there l) at_q.1) refl
+
+    -- the pairs before the next key were moved, and then the key with its messages was
+    module _ (q key : List ℕ) (next : IsNextPoint ms at end (Some q)) (is : key ≡ q) (newer left : List (List ℕ × V)) (moves : Moves (Some key) limit new newer rest left) where
+      key_below : is_below key end ≡ true
+      key_below = ap (λ k. is_below k end) is ∙ (both (reaches at q) (is_below q end) next.0).1
+
+      before_key : IsMoved child at end (Some q) limit new newer left
+      before_key = subst (λ (k : List ℕ). IsMoved child at end (Some k) limit new newer left) is (moves child at end x.all (λ k b. below_next k key end b key_below))
+
+      pub pass_full : limit ≤ length newer → IsMerged means ms child from end limit below old newer
+      pass_full l = merging_full q next newer left before_key l
+
+      pub pass_met : (seen : List (Msg U V)) → seen ≡ ms → (newest last : List (List ℕ × V)) → length newer < limit → OfAllFrom q left (λ f hi. newest ≡ newer ++ option_to_list (pair_of q (applied means seen f q))) → OfAllFrom q left (λ f hi. AreAll f (next_key q) hi last) → IsMerging (next_key q) newest last
+      pass_met seen same newest last l pushed others =
+          merging_met q next newer left before_key newest last l
+          (λ all low. pushed child end all low ∙ ap (λ (t : List (Msg U V)). newer ++ option_to_list (pair_of q (applied means t child q))) same)
+          (λ all low. others child end all low)
 
     -- no key with messages is left
     pub merging_over : IsNextPoint ms at end None → (newer left : List (List ℕ × V)) → IsMoved child at end end limit new newer left → length newer + length left ≡ length new + length rest → IsMerged means ms child from end limit below old newer
@@ -280,7 +299,7 @@ module _ {U V : Type 0} (means : U → Option V → Option V) (ms : List (Msg U 
       adds_moved (applied means ms child) (applied means ms none) from stop stop limit old new (λ k w. w) (λ k w. w) (λ k w. forgets means ms k (child k) None (alike k w ∙ t)) m.added
 
   -- if they cover none, the child's values remain between the keys with messages
-  pub gaps_clear : ((k : List ℕ) → within from stop k ≡ true → is_cleared ms k ≡ false) → LeavesGaps means ms child from stop
+  gaps_clear : ((k : List ℕ) → within from stop k ≡ true → is_cleared ms k ≡ false) → LeavesGaps means ms child from stop
   gaps_clear clear k w h = left_by_ranges means ms k (child k) h ∙ ap (λ b. cond b None (child k)) (clear k w)
 
   -- and everywhere, if no key has messages
@@ -290,7 +309,7 @@ module _ {U V : Type 0} (means : U → Option V → Option V) (ms : List (Msg U 
 -- ---- a round
 
 -- enough pairs up to a key of the range are enough
-pub adds_enough : {V : Type 0} (f : List ℕ → Option V) (lo mid : List ℕ) (hi : Option (List ℕ)) (limit : ℕ) (old new : List (List ℕ × V)) → reaches lo mid ≡ true → ((k : List ℕ) → within lo (Some mid) k ≡ true → is_below k hi ≡ true) → AddsScan f lo (Some mid) limit old new → limit ≤ length new → AddsScan f lo hi limit old new
+adds_enough : {V : Type 0} (f : List ℕ → Option V) (lo mid : List ℕ) (hi : Option (List ℕ)) (limit : ℕ) (old new : List (List ℕ × V)) → reaches lo mid ≡ true → ((k : List ℕ) → within lo (Some mid) k ≡ true → is_below k hi ≡ true) → AddsScan f lo (Some mid) limit old new → limit ≤ length new → AddsScan f lo hi limit old new
 adds_enough f lo mid hi limit old new low inside a l = adds_join f lo mid hi limit old new new low inside a (adds_zero f mid hi limit new l)
 
 module _ {V : Type 0} (f : List ℕ → Option V) (lo : List ℕ) (hi : Option (List ℕ)) (n : ℕ) (ps : List (List ℕ × V)) (s : IsScan f lo hi n ps) (i : ℕ) (p : List ℕ × V) (l : i < length ps) (at : p ≡ get_or ps i p) where
@@ -315,7 +334,7 @@ module _ {U V : Type 0} (means : U → Option V → Option V) (ms : List (Msg U 
     pub merged : IsMerged means ms child from (Some next) limit below old new
 
   -- which were returned as requested
-  pub round_is : (n : ℕ) → IsScan child from stop n below → (i : ℕ) (p : List ℕ × V) → i + 1 ≡ length below → p ≡ get_or below i p → ((k : List ℕ) → within from stop k ≡ true → is_cleared ms k ≡ false) → (next : List ℕ) → next ≡ next_key p.0 → ((f : List ℕ → Option V) → AreAll f from (Some next) below → LeavesGaps means ms f from (Some next) → IsMerged means ms f from (Some next) limit below old new) → IsRound next
+  round_is : (n : ℕ) → IsScan child from stop n below → (i : ℕ) (p : List ℕ × V) → i + 1 ≡ length below → p ≡ get_or below i p → ((k : List ℕ) → within from stop k ≡ true → is_cleared ms k ≡ false) → (next : List ℕ) → next ≡ next_key p.0 → ((f : List ℕ → Option V) → AreAll f from (Some next) below → LeavesGaps means ms f from (Some next) → IsMerged means ms f from (Some next) limit below old new) → IsRound next
   round_is n s i p l at clear next e apply_pass =
       let b : i < length below = omega (arith, l) in
       let merged : (f : List ℕ → Option V) → AreAll f from (Some (next_key p.0)) below → LeavesGaps means ms f from (Some (next_key p.0)) → IsMerged means ms f from (Some (next_key p.0)) limit below old new = subst (λ (k : List ℕ). (f : List ℕ → Option V) → AreAll f from (Some k) below → LeavesGaps means ms f from (Some k) → IsMerged means ms f from (Some k) limit below old new) e apply_pass in
@@ -324,6 +343,27 @@ module _ {U V : Type 0} (means : U → Option V → Option V) (ms : List (Msg U 
         inside = next_in child from stop n below s i p b at;
         merged = merged child (all_full child from stop n below i p s l at) (gaps_clear means ms child from (Some (next_key p.0)) (λ k w. clear k (next_within child from stop n below s i p b at k w)));
       })
+
+-- one of a slot: the walk of its child gave as many pairs as were wanted, or fewer
+module _ {U V : Type 0} (means : U → Option V → Option V) (s : Slot U V) (from : List ℕ) (stop : Option (List ℕ)) (limit wanted : ℕ) (below old new : List (List ℕ × V)) (scan : IsScan (value means s.child.value) from stop wanted below) (clear : (k : List ℕ) → within from stop k ≡ true → is_cleared s.pending.0 k ≡ false) where
+  pub round_last : length below < wanted → Merges means s.pending.0 from stop limit below old new → AddsScan (slot_value means s) from stop limit old new
+  round_last few merges = (merges (value means s.child.value) (all_fewer (value means s.child.value) from stop wanted below scan few) (gaps_clear means s.pending.0 (value means s.child.value) from stop clear)).added
+
+  module _ (next : List ℕ) (last : List ℕ × V) (count : ℕ) (all : count ≡ length below) (some : 0 < count) (at : last ≡ get_or below (count - 1) last) (is : next ≡ next_key last.0) (merges : Merges means s.pending.0 from (Some next) limit below old new) where
+    round : IsRound means s.pending.0 (value means s.child.value) from stop limit below old new next
+    round = round_is means s.pending.0 (value means s.child.value) from stop limit below old new wanted scan (count - 1) last (omega (arith, all, some)) at clear next is merges
+
+    pub round_full : limit ≤ length new → AddsScan (slot_value means s) from stop limit old new
+    round_full enough = adds_enough (slot_value means s) from next stop limit old new round.reached round.inside round.merged.added enough
+
+    pub round_goes_on : limit ≤ length old + count → length new < limit → GoesOn means s from stop limit old new next
+    round_goes_on enough room = record {
+      reached = round.reached;
+      inside = round.inside;
+      added = round.merged.added;
+      passed = ⊎_elim (λ (x : length old + length below ≤ length new). absurd (omega (arith, x, all, enough, room))) (λ (x : HasPoint s.pending.0 from (Some next)). x) (round.merged.more room);
+      room = room;
+    }
 
 -- a reference to nothing
 pub copied_none : {X : Type 0} (o : Option (Bor X)) → is_some o ≡ false → option_copied o ≡ None

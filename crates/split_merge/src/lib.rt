@@ -6,14 +6,14 @@
 #![tactic(auto)]
 
 pub mod drop_subtree;
+pub mod lower_root;
 pub mod merge;
-pub mod root_down;
-pub mod root_up;
+pub mod raise_root;
 pub mod split;
 
 pub use drop_subtree::drop_covered;
+pub use lower_root::root_down;
 pub use merge::{merge_inner, merge_leaves};
 pub use node::StepReply;
-pub use root_down::root_down;
-pub use root_up::root_up;
+pub use raise_root::root_up;
 pub use split::split_inner;

@@ -1,17 +1,14 @@
-use Rattle.std.proofs.Common.{◌≡◌, ◌∙◌, ◌++◌, ◌<◌, arith, ap, refl, sym, subst, length, true, false, Some, None}
-use Rattle.std.specs.Option.{option_copied, option_to_list, is_some}
+use Rattle.std.proofs.Common.{◌≡◌, ◌∙◌, ◌<◌, arith, ap, refl, sym, subst, true, false, Some, None}
+use Rattle.std.specs.Option.{option_copied, is_some}
 use Rattle.pathkey.specs.Keys.{is_below, next_key}
 use Rattle.pathkey.proofs.KeyOrder.{reaches-refl}
-use Rattle.message.specs.Effects.{effects}
 use Rattle.message.specs.PointKeys.{IsNextPoint}
 use Rattle.message.specs.Ranges.{reaches}
 use Rattle.message.specs.Stretches.{all_ends}
-use Rattle.message.proofs.KeyOrder.{both, below_next}
+use Rattle.message.proofs.KeyOrder.{both}
 use Rattle.pending.proofs.Meeting.{none_ahead}
-use Rattle.scan.specs.Merging.{IsMoved}
-use Rattle.scan.specs.Stretches.{pair_of}
 use Rattle.scan.proofs.Ahead.{ahead}
-use Rattle.scan.proofs.Merging.{merging_start, merging_full, merging_met, merging_over, point_falls}
+use Rattle.scan.proofs.Merging.{merging_over, merging_start, pass_full, pass_met, point_falls}
 use Rattle.scan.proofs.apply_pass.apply_pass.Goals as goal
 
 pub points-init : goal.points-init
@@ -19,58 +16,32 @@ points-init g c = (c.walk_points-ahead.ensures.list, c.args.from.now, c.walk_poi
 
 pub points-preserved-then-goes_along : goal.points-preserved-then-goes_along
 points-preserved-then-goes_along g c =
-    let means = g.U.Update.means in
     let ms = c.args.list.now.0 in
-    let from = c.args.from.now in
     let end = option_copied c.args.end in
-    let old = c.args.pairs.now.items in
-    let below = c.args.below.items in
     let here = c.points.invariant.1 in
     let q = c.in-Some.met.0 in
-    let newer = c.push_before.new.pairs.items in
-    let left = c.push_before.new.rest.items in
     let same : c.next_from.new.ahead.0 ≡ ms = c.next_from.ensures.same ∙ c.points.invariant.0 in
-    let next : IsNextPoint ms here end (Some q) = subst (λ t. IsNextPoint t here end (Some q)) c.points.invariant.0 (c.in-Some.ensures.point here c.points.invariant.2 c.points.invariant.3) in
-    let key_below : is_below c.key.result.now end ≡ true = ap (λ k. is_below k end) c.key.ensures ∙ (both (reaches here q) (is_below q end) next.0).1 in (
+    let next : IsNextPoint ms here end (Some q) = subst (λ t. IsNextPoint t here end (Some q)) c.points.invariant.0 (c.in-Some.ensures.point here c.points.invariant.2 c.points.invariant.3) in (
       same,
       next_key q,
       c.in-Some.ensures.stands here c.points.invariant.2,
       λ h. absurd (let no : false ≡ true = sym h ∙ sym c.goes_along.ensures ∙ c.if-goes_along.true in cc),
-      λ child s gaps.
-          let x = c.points.invariant.4 child s gaps in
-          let m : IsMoved child here end (Some q) c.args.limit c.points.pairs.items newer left = subst (λ k. IsMoved child here end (Some k) c.args.limit c.points.pairs.items newer left) c.key.ensures (c.in_ok-push_before.ensures.moved child here end x.all (λ k b. below_next k c.key.result.now end b key_below)) in
-          let room : length newer < c.args.limit = omega (arith, c.len.ensures, c.push_before.new.pairs.ok.0, c.if-len-limit.false) in
-          merging_met means ms child from end c.args.limit below old here c.points.pairs.items c.points.rest.items x gaps q next newer left m c.push_at.new.pairs.items c.push_at.new.rest.items room
-          (λ all low. c.in_ok-push_at.ensures.pushed child end all low ∙ ap (λ t. newer ++ option_to_list (pair_of q (effects means t q (child q)))) same)
-          (λ all low. c.in_ok-push_at.ensures.left child end all low),
+      λ child s gaps. pass_met g.U.Update.means ms child c.args.from.now end c.args.limit c.args.below.items c.args.pairs.now.items here c.points.pairs.items c.points.rest.items (c.points.invariant.4 child s gaps) gaps q c.key.result.now next c.key.ensures c.push_before.new.pairs.items c.push_before.new.rest.items c.in_ok-push_before.ensures.moved c.next_from.new.ahead.0 same c.push_at.new.pairs.items c.push_at.new.rest.items (omega (arith, c.len.ensures, c.push_before.new.pairs.ok.0, c.if-len-limit.false)) c.in_ok-push_at.ensures.pushed c.in_ok-push_at.ensures.left,
     )
 
 pub points-preserved : goal.points-preserved
 points-preserved g c =
-    let means = g.U.Update.means in
     let ms = c.args.list.now.0 in
-    let from = c.args.from.now in
     let end = option_copied c.args.end in
-    let old = c.args.pairs.now.items in
-    let below = c.args.below.items in
     let here = c.points.invariant.1 in
     let q = c.in-Some.met.0 in
-    let newer = c.push_before.new.pairs.items in
-    let left = c.push_before.new.rest.items in
     let same : c.next_from.new.ahead.0 ≡ ms = c.next_from.ensures.same ∙ c.points.invariant.0 in
-    let next : IsNextPoint ms here end (Some q) = subst (λ t. IsNextPoint t here end (Some q)) c.points.invariant.0 (c.in-Some.ensures.point here c.points.invariant.2 c.points.invariant.3) in
-    let key_below : is_below c.key.result.now end ≡ true = ap (λ k. is_below k end) c.key.ensures ∙ (both (reaches here q) (is_below q end) next.0).1 in (
+    let next : IsNextPoint ms here end (Some q) = subst (λ t. IsNextPoint t here end (Some q)) c.points.invariant.0 (c.in-Some.ensures.point here c.points.invariant.2 c.points.invariant.3) in (
       same,
       next_key q,
       c.in-Some.ensures.stands here c.points.invariant.2,
       λ h. sym (c.in_ok-at-2.ensures ∙ ap next_key c.key-in-Some.ensures),
-      λ child s gaps.
-          let x = c.points.invariant.4 child s gaps in
-          let m : IsMoved child here end (Some q) c.args.limit c.points.pairs.items newer left = subst (λ k. IsMoved child here end (Some k) c.args.limit c.points.pairs.items newer left) c.key.ensures (c.in_ok-push_before.ensures.moved child here end x.all (λ k b. below_next k c.key.result.now end b key_below)) in
-          let room : length newer < c.args.limit = omega (arith, c.len.ensures, c.push_before.new.pairs.ok.0, c.if-len-limit.false) in
-          merging_met means ms child from end c.args.limit below old here c.points.pairs.items c.points.rest.items x gaps q next newer left m c.push_at.new.pairs.items c.push_at.new.rest.items room
-          (λ all low. c.in_ok-push_at.ensures.pushed child end all low ∙ ap (λ t. newer ++ option_to_list (pair_of q (effects means t q (child q)))) same)
-          (λ all low. c.in_ok-push_at.ensures.left child end all low),
+      λ child s gaps. pass_met g.U.Update.means ms child c.args.from.now end c.args.limit c.args.below.items c.args.pairs.now.items here c.points.pairs.items c.points.rest.items (c.points.invariant.4 child s gaps) gaps q c.key.result.now next c.key.ensures c.push_before.new.pairs.items c.push_before.new.rest.items c.in_ok-push_before.ensures.moved c.next_from.new.ahead.0 same c.push_at.new.pairs.items c.push_at.new.rest.items (omega (arith, c.len.ensures, c.push_before.new.pairs.ok.0, c.if-len-limit.false)) c.in_ok-push_at.ensures.pushed c.in_ok-push_at.ensures.left,
     )
 
 pub points-smaller-then-goes_along : goal.points-smaller-then-goes_along
@@ -99,13 +70,8 @@ returns-then-len-limit g c = λ child s gaps.
     let end = option_copied c.args.end in
     let here = c.points.invariant.1 in
     let q = c.in-Some.met.0 in
-    let newer = c.push_before.new.pairs.items in
-    let left = c.push_before.new.rest.items in
-    let x = c.points.invariant.4 child s gaps in
     let next : IsNextPoint ms here end (Some q) = subst (λ t. IsNextPoint t here end (Some q)) c.points.invariant.0 (c.in-Some.ensures.point here c.points.invariant.2 c.points.invariant.3) in
-    let key_below : is_below c.key.result.now end ≡ true = ap (λ k. is_below k end) c.key.ensures ∙ (both (reaches here q) (is_below q end) next.0).1 in
-    let m : IsMoved child here end (Some q) c.args.limit c.points.pairs.items newer left = subst (λ k. IsMoved child here end (Some k) c.args.limit c.points.pairs.items newer left) c.key.ensures (c.in_ok-push_before.ensures.moved child here end x.all (λ k b. below_next k c.key.result.now end b key_below)) in
-    merging_full g.U.Update.means ms child c.args.from.now end c.args.limit c.args.below.items c.args.pairs.now.items here c.points.pairs.items c.points.rest.items x gaps q next newer left m (omega (arith, c.len.ensures, c.push_before.new.pairs.ok.0, c.if-len-limit.true))
+    pass_full g.U.Update.means ms child c.args.from.now end c.args.limit c.args.below.items c.args.pairs.now.items here c.points.pairs.items c.points.rest.items (c.points.invariant.4 child s gaps) gaps q c.key.result.now next c.key.ensures c.push_before.new.pairs.items c.push_before.new.rest.items c.in_ok-push_before.ensures.moved (omega (arith, c.len.ensures, c.push_before.new.pairs.ok.0, c.if-len-limit.true))
 
 pub returns : goal.returns
 returns g c = λ child s gaps.

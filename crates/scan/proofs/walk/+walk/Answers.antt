@@ -1,4 +1,4 @@
-use Rattle.std.proofs.Common.{arith, ap, refl, sym, subst, ◌∙◌, ◌≡◌, ◌<◌, ◌≤◌, ◌+◌, ◌-◌, ◌*◌, ⊎_elim, ℕ, List, length, true, false, not, Some, None}
+use Rattle.std.proofs.Common.{arith, ap, refl, sym, subst, ◌∙◌, ◌≡◌, ◌<◌, ◌≤◌, ◌+◌, ◌-◌, ◌*◌, ℕ, List, length, true, false, not, None}
 use Rattle.std.specs.Prelude.{OnOk}
 use Rattle.std.specs.Option.{option_copied}
 use Rattle.std.proofs.lemmas.Result.{on_ok_weaker}
@@ -11,11 +11,11 @@ use Rattle.message.specs.PointKeys.{is_cleared, IsNextPoint}
 use Rattle.message.specs.Ranges.{reaches, before, within}
 use Rattle.message.proofs.KeyOrder.{both}
 use Rattle.message.proofs.NextKey.{in_range, reaches-next}
-use Rattle.scan.specs.Pairs.{AddsScan, IsScan}
-use Rattle.scan.specs.Merging.{Merges, HasPoint, GoesOn}
+use Rattle.scan.specs.Pairs.{AddsScan}
+use Rattle.scan.specs.Merging.{Merges, GoesOn}
 use Rattle.scan.specs.Stretches.{slot_value}
 use Rattle.scan.proofs.Joins.{walk_start, walk_on, walk_end, walk_full, walk_past, scan_added}
-use Rattle.scan.proofs.Merging.{adds_cleared, adds_pointless, adds_enough, all_fewer, gaps_clear, round_is, point_falls, copied_none}
+use Rattle.scan.proofs.Merging.{adds_cleared, adds_pointless, copied_none, point_falls, round_full, round_goes_on, round_last}
 use Rattle.scan.proofs.Searching.{child_lower, child_searchable, from_below, stands_at, walked_on, walked_out, fewer_ahead}
 use Rattle.scan.proofs.walk.+walk.Goals as goal
 
@@ -137,57 +137,30 @@ walk_rounds-returns g t c =
 
 pub round-returns-then-count-wanted : goal.round-returns-then-count-wanted
 round-returns-then-count-wanted g t c =
-    let means = g.U.Update.means in
     let s = c.args.slot.now in
-    let child = value means s.child.value in
     let from = c.args.from.now in
     let stop = option_copied c.args.stop in
-    let below = c.walk.new.pairs.items in
     let wanted = c.args.limit - c.len.result in
-    let scan : IsScan child from stop wanted below = scan_added child from stop wanted c.new-below.result.items below c.new-below.ensures.items (subst (λ n. AddsScan (value means n) from stop wanted c.new-below.result.items below) c.deref.ensures c.in_ok-walk.ensures) in
-    let few = all_fewer child from stop wanted below scan (omega (arith, c.len-count.ensures, c.walk.new.pairs.ok.0, c.if-count-wanted.true)) in
-    (c.in_ok-apply_pass.ensures child few (gaps_clear means s.pending.0 child from stop c.requires.clear)).added
+    let scan = scan_added (value g.U.Update.means s.child.value) from stop wanted c.new-below.result.items c.walk.new.pairs.items c.new-below.ensures.items (subst (λ n. AddsScan (value g.U.Update.means n) from stop wanted c.new-below.result.items c.walk.new.pairs.items) c.deref.ensures c.in_ok-walk.ensures) in
+    round_last g.U.Update.means s from stop c.args.limit wanted c.walk.new.pairs.items c.args.pairs.now.items c.apply_pass.new.pairs.items scan c.requires.clear (omega (arith, c.len-count.ensures, c.walk.new.pairs.ok.0, c.if-count-wanted.true)) c.in_ok-apply_pass.ensures
 
 pub round-returns-then-len-limit : goal.round-returns-then-len-limit
 round-returns-then-len-limit g t c =
-    let means = g.U.Update.means in
     let s = c.args.slot.now in
-    let child = value means s.child.value in
     let from = c.args.from.now in
     let stop = option_copied c.args.stop in
-    let below = c.walk.new.pairs.items in
-    let old = c.args.pairs.now.items in
-    let new = c.apply_pass-2.new.pairs.items in
-    let next = c.in_ok-next.next in
-    let count = c.len-count.result in
     let wanted = c.args.limit - c.len.result in
-    let scan : IsScan child from stop wanted below = scan_added child from stop wanted c.new-below.result.items below c.new-below.ensures.items (subst (λ n. AddsScan (value means n) from stop wanted c.new-below.result.items below) c.deref.ensures c.in_ok-walk.ensures) in
-    let l : count - 1 + 1 ≡ length below = omega (arith, c.len-count.ensures, c.walk.new.pairs.ok.0, c.if-count-wanted.false, c.requires.room, c.len.ensures, c.args.pairs.now.ok.0) in
-    let r = round_is means s.pending.0 child from stop c.args.limit below old new wanted scan (count - 1) c.index-last.result.now l c.index-last.ensures c.requires.clear next c.in_ok-next.ensures c.in_ok-apply_pass-2.ensures in
-    adds_enough (slot_value means s) from next stop c.args.limit old new r.reached r.inside r.merged.added (omega (arith, c.len-2.ensures, c.apply_pass-2.new.pairs.ok.0, c.if-len-limit.true))
+    let scan = scan_added (value g.U.Update.means s.child.value) from stop wanted c.new-below.result.items c.walk.new.pairs.items c.new-below.ensures.items (subst (λ n. AddsScan (value g.U.Update.means n) from stop wanted c.new-below.result.items c.walk.new.pairs.items) c.deref.ensures c.in_ok-walk.ensures) in
+    let some : 0 < c.len-count.result = omega (arith, c.if-count-wanted.false, c.requires.room, c.len.ensures, c.args.pairs.now.ok.0) in
+    round_full g.U.Update.means s from stop c.args.limit wanted c.walk.new.pairs.items c.args.pairs.now.items c.apply_pass-2.new.pairs.items scan c.requires.clear c.in_ok-next.next c.index-last.result.now c.len-count.result (omega (arith, c.len-count.ensures, c.walk.new.pairs.ok.0)) some c.index-last.ensures c.in_ok-next.ensures c.in_ok-apply_pass-2.ensures (omega (arith, c.len-2.ensures, c.apply_pass-2.new.pairs.ok.0, c.if-len-limit.true))
 
 pub round-returns : goal.round-returns
 round-returns g t c =
-    let means = g.U.Update.means in
     let s = c.args.slot.now in
-    let child = value means s.child.value in
     let from = c.args.from.now in
     let stop = option_copied c.args.stop in
-    let below = c.walk.new.pairs.items in
-    let old = c.args.pairs.now.items in
-    let new = c.apply_pass-2.new.pairs.items in
-    let next = c.in_ok-next.next in
-    let count = c.len-count.result in
     let wanted = c.args.limit - c.len.result in
-    let scan : IsScan child from stop wanted below = scan_added child from stop wanted c.new-below.result.items below c.new-below.ensures.items (subst (λ n. AddsScan (value means n) from stop wanted c.new-below.result.items below) c.deref.ensures c.in_ok-walk.ensures) in
-    let l : count - 1 + 1 ≡ length below = omega (arith, c.len-count.ensures, c.walk.new.pairs.ok.0, c.if-count-wanted.false, c.requires.room, c.len.ensures, c.args.pairs.now.ok.0) in
-    let r = round_is means s.pending.0 child from stop c.args.limit below old new wanted scan (count - 1) c.index-last.result.now l c.index-last.ensures c.requires.clear next c.in_ok-next.ensures c.in_ok-apply_pass-2.ensures in
-    let room : length new < c.args.limit = omega (arith, c.len-2.ensures, c.apply_pass-2.new.pairs.ok.0, c.if-len-limit.false) in
-    let enough : c.args.limit ≤ length old + length below = omega (arith, c.len-count.ensures, c.walk.new.pairs.ok.0, c.if-count-wanted.false, c.requires.room, c.len.ensures, c.args.pairs.now.ok.0) in
-    record {
-      reached = r.reached;
-      inside = r.inside;
-      added = r.merged.added;
-      passed = ⊎_elim (λ (x : length old + length below ≤ length new). absurd (omega (arith, x, enough, room))) (λ (x : HasPoint s.pending.0 from (Some next)). x) (r.merged.more room);
-      room = room;
-    }
+    let scan = scan_added (value g.U.Update.means s.child.value) from stop wanted c.new-below.result.items c.walk.new.pairs.items c.new-below.ensures.items (subst (λ n. AddsScan (value g.U.Update.means n) from stop wanted c.new-below.result.items c.walk.new.pairs.items) c.deref.ensures c.in_ok-walk.ensures) in
+    let some : 0 < c.len-count.result = omega (arith, c.if-count-wanted.false, c.requires.room, c.len.ensures, c.args.pairs.now.ok.0) in
+    let enough : c.args.limit ≤ length c.args.pairs.now.items + c.len-count.result = omega (arith, c.if-count-wanted.false, c.requires.room, c.len.ensures, c.args.pairs.now.ok.0) in
+    round_goes_on g.U.Update.means s from stop c.args.limit wanted c.walk.new.pairs.items c.args.pairs.now.items c.apply_pass-2.new.pairs.items scan c.requires.clear c.in_ok-next.next c.index-last.result.now c.len-count.result (omega (arith, c.len-count.ensures, c.walk.new.pairs.ok.0)) some c.index-last.ensures c.in_ok-next.ensures c.in_ok-apply_pass-2.ensures enough (omega (arith, c.len-2.ensures, c.apply_pass-2.new.pairs.ok.0, c.if-len-limit.false))

@@ -2,7 +2,7 @@ use Rattle.std.proofs.Common.{ap, ◌∙◌}
 use Rattle.node.specs.See.{seen_slots}
 use Rattle.node.specs.Pure.{inner, slots, more, none}
 use Rattle.split_merge.proofs.RootUp.{emptied-hollow}
-use Rattle.split_merge.proofs.root_up.node_over_slots.Goals as goal
+use Rattle.split_merge.proofs.raise_root.node_over_slots.Goals as goal
 
 pub returns : goal.returns
 returns g c =

@@ -3,7 +3,7 @@ use Rattle.node.specs.See.{see, seen_slots}
 use Rattle.node.specs.Pure.{inner}
 use Rattle.node.specs.Searchable.{IsRoot}
 use Rattle.split_merge.proofs.RootDown.{not_one}
-use Rattle.split_merge.proofs.root_down.new_root_down.Goals as goal
+use Rattle.split_merge.proofs.lower_root.new_root_down.Goals as goal
 
 pub returns-then-len-ne1-clause-err : goal.returns-then-len-ne1-clause-err
 returns-then-len-ne1-clause-err g c =

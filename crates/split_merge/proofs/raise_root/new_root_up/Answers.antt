@@ -4,7 +4,7 @@ use Rattle.node.specs.Pure.{inner}
 use Rattle.node.specs.RootSteps.{levels}
 use Rattle.split_merge.specs.Raised.{IsAbove, Raised}
 use Rattle.split_merge.proofs.RootUp.{one_slot, other_slots}
-use Rattle.split_merge.proofs.root_up.new_root_up.Goals as goal
+use Rattle.split_merge.proofs.raise_root.new_root_up.Goals as goal
 
 pub returns-then-len-eq1-clause-err : goal.returns-then-len-eq1-clause-err
 returns-then-len-eq1-clause-err g c =

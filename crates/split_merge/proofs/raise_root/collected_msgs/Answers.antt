@@ -4,7 +4,7 @@ use Rattle.message.proofs.Composing.{takes-none, takes-on}
 use Rattle.node.specs.See.{seen_slots}
 use Rattle.split_merge.specs.Raised.{all_msgs}
 use Rattle.split_merge.proofs.Gathering.{gathered_next, gathered_end}
-use Rattle.split_merge.proofs.root_up.collected_msgs.Goals as goal
+use Rattle.split_merge.proofs.raise_root.collected_msgs.Goals as goal
 
 pub loop-slot-preserved : goal.loop-slot-preserved
 loop-slot-preserved g c =

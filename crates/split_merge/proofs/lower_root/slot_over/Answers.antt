@@ -3,7 +3,7 @@ use Rattle.std.specs.Option.{option_copied}
 use Rattle.message.specs.Effects.{Takes}
 use Rattle.message.specs.Cuts.{pieces}
 use Rattle.message.proofs.Composing.{takes-instead}
-use Rattle.split_merge.proofs.root_down.slot_over.Goals as goal
+use Rattle.split_merge.proofs.lower_root.slot_over.Goals as goal
 
 pub returns : goal.returns
 returns g c =
