@@ -1,4 +1,4 @@
-//! Sets the mtime of a file or directory explicitly. It sends one message, and changes nothing else.
+//! Sets the mtime of a file or directory explicitly. It sends at most one message, and changes nothing else.
 ghost use Rattle.std.specs.Prelude.{IfOk};
 ghost use Rattle.call_compiler.specs.Compiled.{messages};
 ghost use Rattle.call_compiler.specs.Mtimes.{SetsMtime};
