@@ -1,5 +1,4 @@
-//! The lines of a text and the words of a line, as slices. Every line but the last ends with a line feed, and one space
-//! separates words.
+//! The lines of a text and the words of a line, as slices. A line ends with a line feed, and one space separates words.
 ghost use Rattle.std.specs.Prelude.{◌≡◌, ◌≢◌, ◌++◌, ◌<◌, [], ◌∷◌, All, MatchOption, length, take, option_map, slice_index};
 ghost use Rattle.textio.specs.Lines.{at_sign, words_of};
 
