@@ -1,9 +1,9 @@
 -- What is below a path: its keys, and the entries of the directory there.
-use Rattle.std.proofs.Common.{◌≡◌, ℕ, List, [], ◌∷◌, ◌++◌, Bool, true, false, not, cond, refl, sym, ap, subst, ◌∙◌, Option, Some, None, append-nil}
+use Rattle.std.proofs.Common.{◌≡◌, ◌==◌, ℕ, suc, ◌<◌, length, arith, List, [], ◌∷◌, ◌++◌, Bool, true, false, not, cond, refl, sym, ap, subst, ◌∙◌, Option, Some, None, append-nil}
 use Rattle.std.specs.Prelude.{fold}
-use Rattle.std.specs.Option.{is_none, is_some}
+use Rattle.std.specs.Option.{is_some}
 use Rattle.std.specs.Ordering.{is_le}
-use Rattle.std.proofs.lemmas.Bool.{and_parts, and_from}
+use Rattle.std.proofs.lemmas.Bool.{and_parts, and_from, ne_eqb}
 use Rattle.pathkey.specs.Order.{by_bytes}
 use Rattle.pathkey.specs.Names.{Name, Path, EachName, IsPath}
 use Rattle.pathkey.specs.Keys.{Key, enc, is_in, is_below, next_key, subtree}
@@ -11,7 +11,8 @@ use Rattle.pathkey.proofs.OrderFacts.{same_itself}
 use Rattle.pathkey.proofs.KeyFacts.{enc-append, path_in_subtree, path_in_subtree_from, same_beginning}
 use Rattle.pathkey.proofs.KeyOrder.{le_le, not_reaches_from_before, reaches-from_before}
 use Rattle.message.specs.Ranges.{reaches, within}
-use Rattle.scan.specs.Pairs.{IsFirst}
+use Rattle.scan.specs.Pairs.{IsScan}
+use Rattle.scan.proofs.AtHand.{found_none}
 use Rattle.message.proofs.NextKey.{before-next, reaches-next}
 use Rattle.reference.specs.Tree.{Tree, Dir, File, nothing, entry, entry_at, named, found, onward, At, Found, Missing, Blocked}
 use Rattle.reference.specs.Calls.{is_full}
@@ -89,13 +90,6 @@ pub seen_some : (x : Tree) → meta_of (sighted (Found x)) ≡ None → ⊥
 seen_some (Dir date es) e = cc
 seen_some (File date b) e = cc
 
--- what is not some is none
-pub none_from_some : {A : Type 0} (o : Option A) (b : Bool) → is_some o ≡ not b → b ≡ is_none o
-none_from_some None true e = refl
-none_from_some None false e = absurd (cc)
-none_from_some (Some x) true e = absurd (cc)
-none_from_some (Some x) false e = refl
-
 -- a value that was found at a key of a range is a pair of the range
 pub pair_at : (f : List ℕ → Option Meta) (lo : List ℕ) (hi : Option (List ℕ)) (k : List ℕ) (o : Option Meta) (b : Bool) → within lo hi k ≡ true → o ≡ f k → b ≡ is_some o → b ≡ true → HasPair f lo hi
 pair_at f lo hi k None b w e s t = absurd (cc)
@@ -114,23 +108,24 @@ occupied t m p is_path means x = elim (is_full (entry_at t p)) as (λ b. is_full
       cc)
 ] refl
 
--- whether there is a key below a path shows whether there is a directory with entries there
-pub emptiness : (t : Tree) (m : MetaIndex) (p : Path) (first : Option (Key × Meta)) → IsPath p → IsMeantBy t m → IsFirst (metadata m) (below p).lo (below p).hi first → is_none first ≡ not (is_full (entry_at t p))
-emptiness t m p first is_path means h = elim (is_full (entry_at t p)) as (λ b. is_full (entry_at t p) ≡ b → is_none first ≡ not b) [
-  | true ↦ λ full. some first h full
-  | false ↦ λ empty. none first h empty
+-- whether a scan of the keys below a path finds a pair shows whether there is a directory with entries there
+pub emptiness : (t : Tree) (m : MetaIndex) (p : Path) (n : ℕ) (ps : List (Key × Meta)) → 0 < n → IsPath p → IsMeantBy t m → IsScan (metadata m) (below p).lo (below p).hi n ps → (length ps == 0) ≡ not (is_full (entry_at t p))
+emptiness t m p n ps some_wanted is_path means s = elim (is_full (entry_at t p)) as (λ b. is_full (entry_at t p) ≡ b → (length ps == 0) ≡ not b) [
+  | true ↦ λ full. some ps s full
+  | false ↦ λ empty. none ps s empty
 ] refl
   where
-    some : (f : Option (Key × Meta)) → IsFirst (metadata m) (below p).lo (below p).hi f → is_full (entry_at t p) ≡ true → is_none f ≡ false
-    some None g full = absurd (
+    some : (qs : List (Key × Meta)) → IsScan (metadata m) (below p).lo (below p).hi n qs → is_full (entry_at t p) ≡ true → (length qs == 0) ≡ false
+    some [] q full = absurd (
         let e : EntryOf (entry_at t p) = full_entry (entry_at t p) full in
         let there : entry_at t (p ++ e.name ∷ []) ≡ Found e.tree = along t p (e.name ∷ []) ∙ e.stands in
         let meta : metadata m (enc (p ++ e.name ∷ [])) ≡ meta_of (sight t (p ++ e.name ∷ [])) = means.meta.paths (p ++ e.name ∷ []) (means.tree.paths (p ++ e.name ∷ []) e.tree there) in
-        seen_some e.tree (sym (ap (λ (a : At). meta_of (sighted a)) there) ∙ sym meta ∙ g (enc (p ++ e.name ∷ [])) (in_below p e.name [])))
-    some (Some x) g full = refl
+        seen_some e.tree (sym (ap (λ (a : At). meta_of (sighted a)) there) ∙ sym meta ∙ found_none (metadata m) (below p).lo (below p).hi n some_wanted q (enc (p ++ e.name ∷ [])) (in_below p e.name [])))
+    some (x ∷ qs) q full = ne_eqb (suc (length qs)) 0 (λ e. cc)
 
-    none : (f : Option (Key × Meta)) → IsFirst (metadata m) (below p).lo (below p).hi f → is_full (entry_at t p) ≡ false → is_none f ≡ true
-    none None g empty = refl
-    none (Some x) g empty = absurd (
-        let full : is_full (entry_at t p) ≡ true = occupied t m p is_path means (record { key = x.0; value = x.1; inside = g.0; stands = g.1 }) in
+    none : (qs : List (Key × Meta)) → IsScan (metadata m) (below p).lo (below p).hi n qs → is_full (entry_at t p) ≡ false → (length qs == 0) ≡ true
+    none [] q empty = refl
+    none (x ∷ qs) q empty = absurd (
+        let found : (within (below p).lo (below p).hi x.0 ≡ true) × (metadata m x.0 ≡ Some x.1) = q.sound 0 x (omega (arith)) in
+        let full : is_full (entry_at t p) ≡ true = occupied t m p is_path means (record { key = x.0; value = x.1; inside = found.0; stands = found.1 }) in
         cc)

@@ -25,8 +25,12 @@ use node::{Shape, Tree};
 use pathkey::{Errno, Key, KeyRange, NoMemory, Path, subtree};
 use reference::{Kind, Meta};
 use scan::readahead::Readahead;
-use scan::{first_in, scan};
+use scan::scan;
 use std::alloc::Global;
+
+/// How many pairs a test for emptiness asks for. A walk for one pair would go down anew for each entry that was flushed and whose
+/// removal was not.
+const FEW: usize = 16;
 
 /// The metadata of each path that exists, including the root, under the path's key.
 #[derive(Drop)]
@@ -137,8 +141,8 @@ impl MetaIndex {
         self.is_empty_dir_counted(alloc, path, &mut searches)
     }
 
-    /// Whether nothing exists below the path, as `is_empty_dir` reports it. It stores in `searches` how often it searched the
-    /// tree for a first pair: once.
+    /// Whether nothing exists below the path, as `is_empty_dir` reports it. It stores in `searches` how often it walked the tree:
+    /// once.
     pub fn is_empty_dir_counted(
         &self,
         alloc: Global,
@@ -150,13 +154,14 @@ impl MetaIndex {
     {
         let below = keys_below(alloc, path)?;
         *searches = 1;
-        Ok(first_in(alloc, &self.tree, &below)?.is_none())
+        let pairs = scan(alloc, &self.tree, &below, FEW)?;
+        Ok(pairs.as_slice().is_empty())
     }
 
     /// Whether something exists below the path, by looking up keys at which an entry probably exists. `true` is certain; `false`
     /// says nothing.
     ///
-    /// A search for the first pair passes every removed name, which this does not: call it first if a directory is probably not
+    /// A walk to the first pair passes every removed name, which this does not: call it first if a directory is probably not
     /// empty. It fails only if an allocation fails.
     pub fn probe_nonempty(&self, alloc: Global, path: &Path) -> Result<bool, NoMemory>
         ensures { IfOk result (λ there. there ≡ true → (t : DirectoryTree) → IsMeantBy t self.now → is_full (entry_at t path.now) ≡ true) }

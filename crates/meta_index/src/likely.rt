@@ -15,7 +15,7 @@ use std::alloc::Global;
 const LEVELS: u8 = 16;
 
 /// The maximum number of keys with messages in a slot that are tried.
-const TRIES: u8 = 8;
+const TRIES: u8 = 2;
 
 /// The last slot that begins before the end of the range.
 fn last_slot<'a>(slots: &'a [Slot<MetaUpdate>], range: &KeyRange) -> Option<&'a Slot<MetaUpdate>> {
