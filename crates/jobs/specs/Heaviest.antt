@@ -1,6 +1,5 @@
 -- The slot of which a job would move the most messages.
-use Rattle.std.specs.Prelude.{◌≡◌, ℕ, ◌≤◌, ◌<◌, List, [], ◌∷◌, length, min, if◌then◌else◌}
-use Rattle.std.specs.List.{AllByRecursion}
+use Rattle.std.specs.Prelude.{◌≡◌, ℕ, ◌≤◌, ◌<◌, List, [], ◌∷◌, length, min, if◌then◌else◌, ⊤}
 use Rattle.std.proofs.Common.{zero, suc}
 use Rattle.message.specs.declared.msg.Msg.{Msg}
 use Rattle.flush.specs.Sunk.{free_pieces}
@@ -8,10 +7,15 @@ use Rattle.node.specs.Pure.{PNode, leaf, inner, PSlots, none, more, PTree}
 use Rattle.jobs.specs.declared.mark.Mark.{Mark}
 use Rattle.jobs.specs.Replies.{IsBacklog, can_take_first}
 
+-- each of these numbers is at most n
+abbrev pub AreAtMost : ℕ → List ℕ → Type 0
+AreAtMost n [] = ⊤
+AreAtMost n (x ∷ xs) = (x ≤ n) × AreAtMost n xs
+
 -- number i of the list is n, each before it is less, and each behind it is at most as much
 abbrev pub IsFirstGreatest : ℕ → ℕ → List ℕ → Type 0
 IsFirstGreatest i n [] = ⊥
-IsFirstGreatest zero n (x ∷ xs) = (x ≡ n) × AllByRecursion (λ y. y ≤ n) xs
+IsFirstGreatest zero n (x ∷ xs) = (x ≡ n) × AreAtMost n xs
 IsFirstGreatest (suc i) n (x ∷ xs) = (x < n) × IsFirstGreatest i n xs
 
 module _ {U V : Type 0} where
@@ -32,7 +36,7 @@ module _ {U V : Type 0} where
 
   -- no job that can be taken of the tree's root would move a message
   abbrev pub MovesNone : List Mark → PTree U V → Type 0
-  MovesNone ms t = AllByRecursion (λ n. n ≤ 0) (movable_in ms t.shape.pending t.root)
+  MovesNone ms t = AreAtMost 0 (movable_in ms t.shape.pending t.root)
 
   -- a job can be taken of the slot number i of the tree's root and would move at most n messages, where a node may hold `most`;
   -- a job of a slot before it would move fewer, and one of a slot behind it no more

@@ -3,8 +3,7 @@
 //! Invariant of the search: the greatest number so far is passed on, so that it looks below only those slots that have more
 //! messages pending.
 ghost use Rattle.std.specs.Prelude.{◌≡◌, ◌<◌, ◌≤◌, IfSome, MatchOption, length};
-ghost use Rattle.std.specs.List.{AllByRecursion};
-ghost use Rattle.jobs.specs.Heaviest.{IsFirstGreatest, IsHeaviest, MovesNone, movable, movable_each};
+ghost use Rattle.jobs.specs.Heaviest.{AreAtMost, IsFirstGreatest, IsHeaviest, MovesNone, movable, movable_each};
 ghost use Rattle.node.specs.See.{seen_slots};
 
 use super::{Marks, kept_at};
@@ -37,11 +36,11 @@ fn movable_above<U: Update>(marks: &[Mark], slot: &Slot<U>, room: u16, most: usi
     ensures more { most < movable marks.now room slot.now.lo slot.now.pending.0 slot.now.child.value → result ≡ movable marks.now room slot.now.lo slot.now.pending.0 slot.now.child.value }
     ensures within { result ≤ movable marks.now room slot.now.lo slot.now.pending.0 slot.now.child.value }
 {
-    let pending = slot.pending.len();
-    if pending <= most || kept_at(marks, &slot.lo) != 0 {
+    let waiting = slot.pending.len();
+    if waiting <= most || kept_at(marks, &slot.lo) != 0 {
         return 0;
     }
-    pending.min(free_pieces(&slot.child, room) as usize)
+    waiting.min(free_pieces(&slot.child, room) as usize)
 }
 
 /// The slot whose job would move the most messages, the first of equals, if these are more than `most`; `None` if no slot's job
@@ -54,7 +53,7 @@ fn busiest_slot<U: Update>(
 ) -> Option<Busiest>
     ensures bound { IfSome result (λ b. b.number < length slots.now) }
     ensures more { IfSome result (λ b. most < b.messages) }
-    ensures first { MatchOption result (AllByRecursion (λ n. n ≤ most) (movable_each marks.now room (seen_slots slots.now))) (λ b. IsFirstGreatest b.number b.messages (movable_each marks.now room (seen_slots slots.now))) }
+    ensures first { MatchOption result (AreAtMost most (movable_each marks.now room (seen_slots slots.now))) (λ b. IsFirstGreatest b.number b.messages (movable_each marks.now room (seen_slots slots.now))) }
 {
     let Some((slot, later)) = slots.split_first() else {
         return None;
