@@ -30,7 +30,7 @@ use std::alloc::Global;
 
 /// How many pairs a test for emptiness asks for. A walk for one pair would go down anew for each entry that was flushed and whose
 /// removal was not.
-const FEW: usize = 16;
+const FEW: usize = 4;
 
 /// The metadata of each path that exists, including the root, under the path's key.
 #[derive(Drop)]
