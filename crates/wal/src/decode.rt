@@ -5,6 +5,7 @@ ghost use Rattle.wal.specs.Entries.{IsNoName, IsNoText, ReadsEntry, RefusesBody,
 ghost use Rattle.pathkey.specs.Texts.{text_of};
 
 use crate::entry::{EntryHeader, split_entry};
+use crate::u64_le::split_u64;
 use crate::wal_entry::{SnapshotCall, WalEntry};
 use bytes::Bytes;
 use pathkey::{Errno, NoMemory, Path, SnapName};
@@ -62,6 +63,7 @@ fn read_entry(
         11 => decode_snapshot_call(alloc, SnapshotCall::Remove, head, first, second),
         12 => decode_snapshot_call(alloc, SnapshotCall::Restore, head, first, second),
         13 => read_mtime(alloc, head, first, second),
+        14 => read_copy_range(alloc, head, first, second),
         _ => Err(Errno::EINVAL),
     }
 }
@@ -178,6 +180,24 @@ fn read_mtime(
     }
     let path = read_path(alloc, first)?;
     Ok(WalEntry::SetMtime(path, head.at))
+}
+
+// Decodes a copied range. Its second text is the offset in the target and the target's path.
+fn read_copy_range(
+    alloc: Global,
+    head: EntryHeader,
+    first: &[u8],
+    second: &[u8],
+) -> Result<WalEntry, Errno>
+    requires { 14 ≡ head.kind }
+    ensures { ReadsEntry head first.now second.now result }
+{
+    let Some((target, text)) = split_u64(second) else {
+        return Err(Errno::EINVAL);
+    };
+    let from = read_path(alloc, first)?;
+    let to = read_path(alloc, text)?;
+    Ok(WalEntry::CopyRange(from, head.offset, to, target, head.count, head.at))
 }
 
 // Decodes a snapshot call.
