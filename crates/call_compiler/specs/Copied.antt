@@ -1,5 +1,5 @@
 -- Copies: bytes of a file that are written to another file, or to the same.
-use Rattle.std.specs.Prelude.{◌≡◌, ◌≤◌, ◌<◌, ◌+◌, ◌/◌, ◌%◌, ◌&&◌, ℕ, List, length, take, drop, Option, Some, nat_eq, if◌then◌else◌}
+use Rattle.std.specs.Prelude.{◌≡◌, ◌≤◌, ◌<◌, ◌+◌, ◌/◌, ◌%◌, ◌&&◌, ◌==◌, ℕ, List, length, take, drop, Option, Some, if◌then◌else◌}
 use Rattle.block_index.specs.Changed.{Messages as BlockMessages, after}
 use Rattle.block_index.specs.Means.{blocks}
 use Rattle.meta_index.specs.Means.{metadata}
@@ -52,9 +52,9 @@ pub record Overwrites (d : Blocks) (q : Path) (off : ℕ) (w : List ℕ) (ms : B
   pub changes : BlocksChange change q d (after ms d)
   pub holds : (b : List ℕ) → Hold (λ i. d (block_key q i)) b → Hold (λ i. change i (d (block_key q i))) (over b off w)
 
--- if the blocks are those of a tree, with a file of so many bytes at p, the messages overwrite the file at q with n bytes of it
-abbrev pub CopiesBytes : Blocks → Path → ℕ → ℕ → Path → ℕ → ℕ → BlockMessages → Type 0
-CopiesBytes d p size off q target n ms = (t : Tree) (b : List ℕ) → BlocksMean t d → look t p ≡ Some (Bytes b) → length b ≡ size → Overwrites d q target (take n (drop off b)) ms
+-- if the blocks are those of a tree, with a file of so many bytes at p, this holds of n bytes of it from off on
+abbrev pub HoldsOfBytes : Blocks → Path → ℕ → ℕ → ℕ → (List ℕ → Type 0) → Type 0
+HoldsOfBytes d p size off n F = (t : Tree) (b : List ℕ) → BlocksMean t d → look t p ≡ Some (Bytes b) → length b ≡ size → F (take n (drop off b))
 
 -- n blocks of q from number t on become those of p from number s on, stored or not, and nothing else changes
 pub record Shares (d : Blocks) (p : Path) (s : ℕ) (q : Path) (t n : ℕ) (ms : BlockMessages) : Type 0 where
@@ -71,4 +71,4 @@ blocks_between p f l = record { lo = block_key p f; hi = Some (block_key p l) }
 
 -- how many whole blocks a copy of n bytes at off to target shares: none unless both begin at a block's start
 abbrev pub whole_of : ℕ → ℕ → ℕ → ℕ
-whole_of off target n = if nat_eq (off % 4096) 0 && nat_eq (target % 4096) 0 then n / 4096 else 0
+whole_of off target n = if (off % 4096 == 0) && (target % 4096 == 0) then n / 4096 else 0

@@ -2,9 +2,9 @@
 ghost use Rattle.std.specs.Prelude.{◌≡◌, ◌≢◌, ◌<◌, ◌≤◌, ◌*◌, ◌+◌, ◌/◌, ◌^◌, [], IfOk, ℕ, List, length};
 ghost use Rattle.block_index.specs.Means.{blocks};
 ghost use Rattle.call_compiler.specs.Compiled.{messages};
-ghost use Rattle.call_compiler.specs.Copied.{CopiesBytes, IsCopied, SharesWhereMeant, blocks_between, whole_of};
+ghost use Rattle.call_compiler.specs.Copied.{HoldsOfBytes, IsCopied, Overwrites, SharesWhereMeant, blocks_between, whole_of};
 ghost use Rattle.pathkey.specs.Keys.{block_key as key_of_block};
-ghost use Rattle.reference.specs.Indexes.{most_blocks};
+ghost use Rattle.reference.specs.Indexes.{Blocks, most_blocks};
 
 use crate::batch::{Batch, refused, without_messages};
 use crate::files::find_file;
@@ -84,7 +84,7 @@ fn copy_msgs(
     requires files { (from.now ≢ []) × (to.now ≢ []) }
     requires within { offset + len ≤ size }
     requires short { (size ≤ 2 ^ 40) × (target + len ≤ 2 ^ 40) }
-    ensures copied { IfOk result (λ msgs. CopiesBytes (blocks index.now) from.now size offset to.now target len msgs.items) }
+    ensures copied { IfOk result (λ msgs. HoldsOfBytes (blocks index.now) from.now size offset len (λ w. Overwrites (blocks index.now) to.now target w msgs.items)) }
     ensures few { IfOk result (λ msgs. length msgs.items ≤ len / 4096 + 2) }
 {
     let whole = whole_blocks(offset, target, len);
@@ -199,7 +199,7 @@ fn byte_msgs(
     requires files { (from.now ≢ []) × (to.now ≢ []) }
     requires within { offset + count ≤ size }
     requires short { (size ≤ 2 ^ 40) × (target + count ≤ 2 ^ 40) }
-    ensures copied { IfOk result (λ msgs. CopiesBytes (blocks index.now) from.now size offset to.now target count msgs.items) }
+    ensures copied { IfOk result (λ msgs. HoldsOfBytes (blocks index.now) from.now size offset count (λ w. (d : Blocks) → Overwrites d to.now target w msgs.items)) }
     ensures few { IfOk result (λ msgs. length msgs.items ≤ (target + count + 4095) / 4096 - target / 4096) }
 {
     let bytes = index.read(alloc, from, offset, count, size)?;
