@@ -4,8 +4,8 @@ use pathkey::Errno;
 use std::alloc::Global;
 use std::test::Fail;
 use wal::encode::{
-    encode_mtime, encode_path_call, encode_punch, encode_rename, encode_snapshot_call,
-    encode_truncate, encode_write,
+    encode_copy_range, encode_mtime, encode_path_call, encode_punch, encode_rename,
+    encode_snapshot_call, encode_truncate, encode_write,
 };
 use wal::{PathCall, SnapshotCall, wal_dump};
 
@@ -79,6 +79,8 @@ fn each_change_reported(rt: HostRuntime) -> Result<(), Fail> {
     assert!(rt; is_laid_reported(rt.alloc(), laid, &room, b"# punch /a 4096 8192\n"));
     let laid = encode_mtime(rt.alloc(), b"/a b", 6, &mut room);
     assert!(rt; is_laid_reported(rt.alloc(), laid, &room, b"# mtime /a%20b 6\n"));
+    let laid = encode_copy_range(rt.alloc(), b"/a b", 4096, b"/%", 8192, 5, 6, &mut room);
+    assert!(rt; is_laid_reported(rt.alloc(), laid, &room, b"# copy /a%20b 4096 /%25 8192 5\n"));
     let laid = encode_snapshot_call(rt.alloc(), SnapshotCall::Remove, b"s", &mut room);
     assert!(rt; is_laid_reported(rt.alloc(), laid, &room, b"drop s\n"));
     let laid = encode_snapshot_call(rt.alloc(), SnapshotCall::Restore, b"s", &mut room);
