@@ -16,8 +16,8 @@ use Rattle.wal.specs.declared.wal_entry.WalEntry.{WalEntry}
 use Rattle.wal.specs.declared.wal_entry.WalEntry.TheVariants.{OnPath, Rename, Truncate, Write, Punch, SetMtime, CopyRange, Keep}
 use Rattle.wal.specs.declared.wal_entry.SnapshotCall.TheVariants.{Snapshot, Remove, Restore}
 use Rattle.reference.specs.declared.path_call.PathCall.TheVariants.{Mkdir, Create, Unlink, Rmdir, Rmtree}
-use Rattle.wal.specs.Entries.{IsChange, IsEntryOf, IsHead, IsNoEntry, IsNoText, IsWord, first_of, head_of, keeping_kind, path_kind, second_of, word}
-use Rattle.wal.proofs.Cuts.{after_word}
+use Rattle.wal.specs.Entries.{IsChange, IsHead, IsNoTarget, IsNoText, IsWord, first_of, head_of, second_of, word}
+use Rattle.wal.proofs.Cuts.{after_word, word_once}
 
 -- ---- texts of paths
 
@@ -56,6 +56,14 @@ short_text p h = let few = few_bytes p h in omega arith
 
 short_target : (n : ℕ) (p : Path) → IsPath p → IsWord (length (word n ++ text_of p))
 short_target n p h = let few = few_bytes p h in let size = after_word n (word n ++ text_of p) (text_of p) refl in omega arith
+
+-- ---- offsets before texts of paths
+
+pub no_offset : (text : List ℕ) → length text < 8 → IsNoTarget text
+no_offset text few = λ n p fits is same. let size = after_word n text (text_of p) (sym same) in omega (arith, size, few)
+
+pub no_target : (text rest : List ℕ) (m : ℕ) → text ≡ word m ++ rest → IsWord m → IsNoText rest → IsNoTarget text
+no_target text rest m split small none = λ n p fits is same. let parts = word_once n m (text_of p) rest fits small (same ∙ split) in none p is parts.1
 
 -- ---- sizes
 

@@ -116,6 +116,10 @@ Refuses IsNone e = ((e ≡ EINVAL) × IsNone) ⊎ (e ≡ ENOMEM)
 abbrev pub IsNoText : List ℕ → Type 0
 IsNoText text = (p : Path) → IsPath p → text_of p ≢ text
 
+-- no offset stands at its front with the text of a path behind
+abbrev pub IsNoTarget : List ℕ → Type 0
+IsNoTarget text = (n : ℕ) (p : Path) → IsWord n → IsPath p → word n ++ text_of p ≢ text
+
 abbrev pub IsNoName : List ℕ → Type 0
 IsNoName text = is_snap_name text ≢ true
 
