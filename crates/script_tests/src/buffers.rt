@@ -129,12 +129,7 @@ fn copies(
 }
 
 /// How many bytes of the other file are read from an offset into a buffer.
-fn count_read_other(
-    alloc: Global,
-    volume: &Volume,
-    offset: u64,
-    room: &mut [u8],
-) -> Option<usize> {
+fn count_read_other(alloc: Global, volume: &Volume, offset: u64, room: &mut [u8]) -> Option<usize> {
     read(alloc, volume, b"/g", offset, room).ok()
 }
 

@@ -4,7 +4,8 @@ ghost use Rattle.wal.specs.Added.{Adds, AddsParts};
 ghost use Rattle.wal.specs.Dump.{exceeds_range};
 
 use crate::print::{
-    put_copy_range, put_hole, put_keep, put_moment, put_mtime, put_on_path, put_rename, put_truncate, put_write,
+    put_copy_range, put_hole, put_keep, put_moment, put_mtime, put_on_path, put_rename,
+    put_truncate, put_write,
 };
 use crate::wal_entry::WalEntry;
 use pathkey::Path;
