@@ -400,7 +400,16 @@ impl VolumeHandle {
         self.change(|raw| {
             done(unsafe {
                 doorvervain_raw_copy_range(
-                    raw, from_at, from.len(), offset, to_at, to.len(), target, count, at, &mut copied,
+                    raw,
+                    from_at,
+                    from.len(),
+                    offset,
+                    to_at,
+                    to.len(),
+                    target,
+                    count,
+                    at,
+                    &mut copied,
                 )
             })
         })?;
