@@ -183,6 +183,9 @@ fn more_bytes_than_a_block_are_copied(rt: HostRuntime) -> Result<(), usize> {
     copies_long(rt.alloc())
 }
 
+/// A copy of one byte.
+const BYTE: Copied = (0, 0, 1, 1, 0);
+
 /// Copies between texts, and why they fail where `/f` alone is a file.
 const REFUSED: [(&[u8], &[u8], Errno); 6] = [
     (b"f", b"", Errno::EINVAL),
@@ -196,18 +199,26 @@ const REFUSED: [(&[u8], &[u8], Errno); 6] = [
 /// Whether each fails so in a volume; the number of the first that does not.
 fn refuses_each(alloc: Global, volume: &mut Volume) -> Result<(), usize> {
     for (number, (from, to, fault)) in REFUSED.iter().enumerate() {
-        if copies(alloc, volume, from, to, &COPIES[0]) != Err(*fault) {
+        if copies(alloc, volume, from, to, &BYTE) != Err(*fault) {
             return Err(number);
         }
     }
     Ok(())
 }
 
+/// Whether each fails so in a volume that gets the file.
+fn refuses_in(alloc: Global, volume: &mut Volume) -> Result<(), usize> {
+    if !makes(alloc, volume) {
+        return Err(usize::MAX);
+    }
+    refuses_each(alloc, volume)
+}
+
 /// Whether each fails so in a new volume with the file.
 fn refuses_in_new(alloc: Global) -> Result<(), usize> {
     match new_volume(alloc, USUAL) {
-        Ok(mut volume) if makes(alloc, &mut volume) => refuses_each(alloc, &mut volume),
-        _ => Err(usize::MAX),
+        Ok(mut volume) => refuses_in(alloc, &mut volume),
+        Err(_) => Err(usize::MAX),
     }
 }
 
