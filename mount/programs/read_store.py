@@ -227,7 +227,8 @@ class Store:
             self.tree[path][offset:end] = bytes(max(0, end - offset))
         elif what == "copy":
             data = bytes(self.tree[path][offset:offset + count])
-            self.do("write" if data else "mtime", number(other[:8]), 0, other[8:], data)
+            if data:
+                self.do("write", number(other[:8]), 0, other[8:], data)
         elif what != "mtime":
             self.keep(what, path)
 
