@@ -962,7 +962,8 @@ static inline uint8_t doorvervain_frozen_next_extent(const struct doorvervain_fr
 
 // A log is a sequence of records, whose numbers increase by one. A record is DOORVERVAIN_WAL_HEADER bytes, a body, and
 // DOORVERVAIN_WAL_TRAILER bytes. A body is what one request changed: a sequence of entries, one for each change. An entry has
-// DOORVERVAIN_WAL_ENTRY bytes and its texts: a path or a name, and after it the second path of a rename or the bytes of a write.
+// DOORVERVAIN_WAL_ENTRY bytes and its texts: a path or a name, and after it the second path of a rename, the bytes of a write, or 8
+// bytes and the second path of a copy.
 enum { DOORVERVAIN_WAL_HEADER = 24, DOORVERVAIN_WAL_TRAILER = 32, DOORVERVAIN_WAL_ENTRY = 48 };
 
 // The error for a text, a buffer or a size that is null; else 0.
