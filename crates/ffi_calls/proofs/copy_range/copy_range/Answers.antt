@@ -14,6 +14,6 @@ returns-in_err-source c =
 
 pub returns-in_err-destination : goal.returns-in_err-destination
 returns-in_err-destination c =
-    let p = err_from_is_err_and c.from_residual.result c.from_residual.ensures.1 in
+    let p = err_from_is_err_and c.from_residual-in_err-destination.result c.from_residual-in_err-destination.ensures.1 in
     subst (λ (r : Result ℕ Errno). CopiesAt (parsed c.args.from.now) c.args.offset (parsed c.args.to.now) c.args.target c.args.count c.args.at r c.args.volume.now c.args.volume.now) (sym p.1)
     (unread_target c.in_ok-source.source c.args.offset c.args.target c.args.count c.args.at (parsed c.args.from.now) (parsed c.args.to.now) _ p.0 c.args.volume.now c.in_ok-source.ensures c.in_err-destination.ensures (cc))
