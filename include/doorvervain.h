@@ -155,6 +155,8 @@ uint8_t doorvervain_raw_truncate(
 uint8_t doorvervain_raw_write(struct doorvervain *fs, const uint8_t *path, size_t length, uint64_t offset,
     const uint8_t *bytes, size_t count, uint64_t at);
 uint8_t doorvervain_raw_set_mtime(struct doorvervain *fs, const uint8_t *path, size_t length, uint64_t at);
+uint8_t doorvervain_raw_copy_range(struct doorvervain *fs, const uint8_t *from, size_t from_length, uint64_t offset,
+    const uint8_t *to, size_t to_length, uint64_t target, uint64_t count, uint64_t at, uint64_t *copied);
 uint8_t doorvervain_raw_read(struct doorvervain *fs, const uint8_t *path, size_t length, uint64_t offset,
     uint8_t *out, size_t capacity, size_t *got);
 uint8_t doorvervain_raw_stat(
@@ -231,6 +233,8 @@ uint8_t doorvervain_raw_wal_punch(const uint8_t *path, size_t length, uint64_t o
     uint8_t *out, size_t capacity, size_t *size);
 uint8_t doorvervain_raw_wal_set_mtime(
     const uint8_t *path, size_t length, uint64_t at, uint8_t *out, size_t capacity, size_t *size);
+uint8_t doorvervain_raw_wal_copy_range(const uint8_t *from, size_t from_length, uint64_t offset, const uint8_t *to,
+    size_t to_length, uint64_t target, uint64_t count, uint64_t at, uint8_t *out, size_t capacity, size_t *size);
 uint8_t doorvervain_raw_wal_snapshot(const uint8_t *name, size_t length, uint8_t *out, size_t capacity, size_t *size);
 uint8_t doorvervain_raw_wal_drop(const uint8_t *name, size_t length, uint8_t *out, size_t capacity, size_t *size);
 uint8_t doorvervain_raw_wal_restore(const uint8_t *name, size_t length, uint8_t *out, size_t capacity, size_t *size);
@@ -912,6 +916,22 @@ static inline uint8_t doorvervain_punch(
     return err ? err : doorvervain_raw_punch(fs, doorvervain_in(path), length, offset, count, at);
 }
 
+// Copies `count` bytes of the file `from` from `offset` on, as far as it has them, to the file `to` from `target` on, which exists
+// and may be the same file; the ranges may overlap (copy_file_range(2)). Returns in `*copied` how many bytes were copied. The tree is
+// the same as after a write of these bytes. If both offsets are multiples of 4,096, whole blocks are shared, and take no memory until
+// one is changed. The copy is atomic; one of no bytes changes nothing. Fails with ENOENT or ENOTDIR if a path does not exist, with
+// EISDIR if it is a directory, with EFBIG if the copy reaches past 2^40 bytes, and with ENOMEM; `*copied` is 0 then.
+static inline uint8_t doorvervain_copy_range(struct doorvervain *fs, const char *from, size_t from_length, uint64_t offset,
+    const char *to, size_t to_length, uint64_t target, uint64_t count, uint64_t at, uint64_t *copied) {
+    if (!copied) return DOORVERVAIN_NULL;
+    *copied = 0;
+    uint8_t err = doorvervain_bad_args(fs, from, from_length);
+    if (!err) err = doorvervain_bad_args(fs, to, to_length);
+    return err ? err
+               : doorvervain_raw_copy_range(fs, doorvervain_in(from), from_length, offset, doorvervain_in(to), to_length,
+                     target, count, at, copied);
+}
+
 // Returns the next allocated extent of a file at or after `offset`: the bytes from `*from` to `*to`, without the latter, within the
 // file and not before `offset`. All bytes from `offset` to `*from` are zeros. If there is no such extent, both are the file's size.
 // Fails with ENOENT or ENOTDIR if the path does not exist, with EISDIR if it is a directory, and with ENOMEM.
@@ -942,7 +962,8 @@ static inline uint8_t doorvervain_frozen_next_extent(const struct doorvervain_fr
 
 // A log is a sequence of records, whose numbers increase by one. A record is DOORVERVAIN_WAL_HEADER bytes, a body, and
 // DOORVERVAIN_WAL_TRAILER bytes. A body is what one request changed: a sequence of entries, one for each change. An entry has
-// DOORVERVAIN_WAL_ENTRY bytes and its texts: a path or a name, and after it the second path of a rename or the bytes of a write.
+// DOORVERVAIN_WAL_ENTRY bytes and its texts: a path or a name, and after it the second path of a rename, the bytes of a write, or 8
+// bytes and the second path of a copy.
 enum { DOORVERVAIN_WAL_HEADER = 24, DOORVERVAIN_WAL_TRAILER = 32, DOORVERVAIN_WAL_ENTRY = 48 };
 
 // The error for a text, a buffer or a size that is null; else 0.
@@ -1040,6 +1061,16 @@ static inline uint8_t doorvervain_wal_set_mtime(
                  : doorvervain_raw_wal_set_mtime(doorvervain_in(path), length, at, doorvervain_out(out), capacity, size);
 }
 
+// Encodes the entry of a copy, as doorvervain_copy_range makes it. Fails as doorvervain_wal_mkdir does.
+static inline uint8_t doorvervain_wal_copy_range(const char *from, size_t from_length, uint64_t offset, const char *to,
+    size_t to_length, uint64_t target, uint64_t count, uint64_t at, void *out, size_t capacity, size_t *size) {
+    uint8_t err = doorvervain_wal_bad_args(from, from_length, out, capacity, size);
+    if (!err) err = doorvervain_wal_bad_args(to, to_length, out, capacity, size);
+    return err ? err
+               : doorvervain_raw_wal_copy_range(doorvervain_in(from), from_length, offset, doorvervain_in(to), to_length,
+                     target, count, at, doorvervain_out(out), capacity, size);
+}
+
 // Encodes the entry of a snapshot that is taken. Fails with EINVAL if the text is not a name, and with ENOMEM.
 static inline uint8_t doorvervain_wal_snapshot(const char *name, size_t length, void *out, size_t capacity, size_t *size) {
     uint8_t err = doorvervain_wal_bad_args(name, length, out, capacity, size);
@@ -1078,9 +1109,9 @@ static inline uint8_t doorvervain_wal_next(const void *log, size_t length, uint6
     return err ? err : doorvervain_raw_wal_salted_next(doorvervain_in(log), length, doorvervain_in(NULL), 0, number, size);
 }
 
-// Dumps a body as the lines of a script that makes its changes, in their order and each with its timestamp. A punch is a comment without
-// its timestamp, since scripts have no line for it: "# punch PATH OFFSET COUNT". Fails with EINVAL if the bytes are not a body, with
-// EFBIG if a write reaches past 2^64, and with ENOMEM.
+// Dumps a body as the lines of a script that makes its changes, in their order and each with its timestamp. A punch and a copy
+// are comments without their timestamp, since scripts have no line for them: "# punch PATH OFFSET COUNT", "# copy FROM OFFSET TO
+// TARGET COUNT". Fails with EINVAL if the bytes are not a body, with EFBIG if a write reaches past 2^64, and with ENOMEM.
 static inline uint8_t doorvervain_wal_dump(
     const void *body, size_t length, void *out, size_t capacity, size_t *size) {
     uint8_t err = doorvervain_wal_bad_args(body, length, out, capacity, size);

@@ -1,4 +1,4 @@
-// Punches holes into a file, and reads its allocated extents before and after. It prints what it finds; examples/run
+// Punches holes into a file, copies ranges of it, and reads its allocated extents before and after. It prints what it finds; examples/run
 // compares that with holes.expected, whose numbers are computed independently.
 //
 // Built with -DREFUSE (examples/run does so), it also has each allocation of a call fail in turn.
@@ -86,6 +86,35 @@ static void holes(struct doorvervain *fs) {
     say_bytes(fs, "/f");
 }
 
+static void say_copy(struct doorvervain *fs, const char *from, uint64_t offset, const char *to, uint64_t target, uint64_t count) {
+    uint64_t copied = OLD;
+    uint8_t number =
+        doorvervain_copy_range(fs, from, strlen(from), offset, to, strlen(to), target, count, 8, &copied);
+    printf("copy of %llu from %s %llu to %s %llu: %d, %llu\n", (unsigned long long)count, from, (unsigned long long)offset, to,
+        (unsigned long long)target, number, (unsigned long long)copied);
+}
+
+// Copies of a file to another one and within it: whole blocks, parts of blocks, ranges that overlap, and no byte; and those that fail.
+static void copies(struct doorvervain *fs) {
+    printf("create: %d\n", doorvervain_create(fs, "/g", 2, 4));
+    say_copy(fs, "/f", LENGTH, "/g", 0, 5);
+    say_bytes(fs, "/g");
+    say_copy(fs, "/f", BLOCK, "/g", 0, BLOCK);
+    say_copy(fs, "/f", 2 * BLOCK, "/g", 2 * BLOCK, UINT64_MAX);
+    say_bytes(fs, "/g");
+    say_runs("  stored", fs, "/g");
+    say_copy(fs, "/f", BLOCK - 6, "/g", BLOCK - 5, 10);
+    say_bytes(fs, "/g");
+    say_copy(fs, "/g", BLOCK - 6, "/g", BLOCK - 5, 10);
+    say_bytes(fs, "/g");
+    say_copy(fs, "/none", 0, "/", 0, 1);
+    say_copy(fs, "/f", 0, "/", 0, 1);
+    say_copy(fs, "/f", 0, "/g", (uint64_t)1 << 40, 1);
+    say_copy(fs, "/f", 0, "g", 0, 1);
+    printf("a null result: %d\n", doorvervain_copy_range(fs, "/f", 2, 0, "/g", 2, 0, 1, 8, NULL));
+    printf("unlink: %d\n", doorvervain_unlink(fs, "/g", 2, 8));
+}
+
 // A file of 2^40 bytes of which one is stored.
 static void sparse(struct doorvervain *fs) {
     uint64_t last = ((uint64_t)1 << 40) - 1;
@@ -150,6 +179,23 @@ static void refused_memory(struct doorvervain *fs) {
         (unsigned long long)to);
 }
 
+// Makes each allocation of a copy fail in turn: it returns ENOMEM and no count, and the file is unchanged.
+static void refused_copy(struct doorvervain *fs) {
+    uint8_t number = doorvervain_create(fs, "/g", 2, 4), kind;
+    uint64_t copied = OLD, size = OLD, modified = OLD;
+    int refusals = 0, changed = number;
+    number = DOORVERVAIN_ENOMEM;
+    for (long request = 1; number == DOORVERVAIN_ENOMEM; request++) {
+        refused_request = request;
+        number = doorvervain_copy_range(fs, "/f", 2, 10, "/g", 2, 3, 2 * BLOCK, 8, &copied);
+        refused_request = 0;
+        changed += number && (doorvervain_stat(fs, "/g", 2, &kind, &size, &modified) || copied || size || modified != 4);
+        refusals += number != 0;
+    }
+    printf("a copy without memory: %s, %d changed, then %d, %llu bytes\n", refusals ? "refused" : "not refused", changed, number,
+        (unsigned long long)copied);
+}
+
 // Makes each allocation of a read fail in turn, which the archive does in three pieces: it returns ENOMEM, and no bytes.
 static void refused_read(struct doorvervain *fs) {
     enum { SIZE = 2 * 1048576 + 1 };
@@ -172,6 +218,7 @@ static void refused_read(struct doorvervain *fs) {
 }
 #else
 static void refused_memory(struct doorvervain *fs) { (void)fs; }
+static void refused_copy(struct doorvervain *fs) { (void)fs; }
 static void refused_read(struct doorvervain *fs) { (void)fs; }
 #endif
 
@@ -179,9 +226,11 @@ int main(void) {
     struct doorvervain fs = {0};
     printf("open: %d\n", doorvervain_open(&fs, 4, 4, 4));
     holes(&fs);
+    copies(&fs);
     sparse(&fs);
     refusals(&fs);
     refused_memory(&fs);
+    refused_copy(&fs);
     refused_read(&fs);
     doorvervain_close(&fs);
     return EXIT_SUCCESS;

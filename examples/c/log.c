@@ -130,6 +130,8 @@ static void say_all_lines(const struct log *log) {
     say_lines("no body", body, size - 1, CAPACITY);
     doorvervain_wal_set_mtime("/a b", 4, 5, body, sizeof body, &size);
     say_lines("an mtime", body, size, CAPACITY);
+    doorvervain_wal_copy_range("/a b", 4, 3, "/%", 2, 4, 5, 6, body, sizeof body, &size);
+    say_lines("a copy", body, size, CAPACITY);
     doorvervain_wal_write("/a", 2, UINT64_MAX, "x", 1, 5, body, sizeof body, &size);
     say_lines("too far", body, size, CAPACITY);
 }

@@ -72,6 +72,18 @@ static void do_punch(struct run *run, struct doorvervain *fs, struct model *mode
     check(run, doorvervain_punch(fs, path, size, offset, count, at), model_punch(model, it, offset, count, at));
 }
 
+static void do_copy(struct run *run, struct doorvervain *fs, struct model *model, struct place from, uint64_t at) {
+    char old[PATH], new[PATH];
+    struct place to = drawn(run, 4) ? draw_place(run) : from;
+    int cell = (int)drawn(run, CELLS), target = (int)drawn(run, CELLS);
+    uint64_t count = drawn(run, 1 + CELL), copied, expected;
+    size_t old_size = path_of(from, old), new_size = path_of(to, new);
+    uint8_t number = doorvervain_copy_range(
+        fs, old, old_size, (uint64_t)cell * STRIDE, new, new_size, (uint64_t)target * STRIDE, count, at, &copied);
+    check(run, number, model_copy(model, from, cell, to, target, count, at, &expected));
+    run->wrong += copied != expected;
+}
+
 // Creates each folder of the model and each file below it.
 static void fill(struct run *run, struct doorvervain *fs, struct model *model) {
     char path[PATH];
@@ -90,7 +102,7 @@ static void change(struct run *run, struct doorvervain *fs, struct model *model)
     struct place it = draw_place(run);
     size_t size = path_of(it, path);
     uint64_t at = drawn(run, 1000), length = drawn(run, MOST);
-    switch (drawn(run, 17)) {
+    switch (drawn(run, 18)) {
     case 0: check(run, doorvervain_unlink(fs, path, size, at), model_unlink(model, it, at)); break;
     case 1: check(run, doorvervain_rmdir(fs, path, size, at), model_rmdir(model, it, at)); break;
     case 2:
@@ -110,6 +122,7 @@ static void change(struct run *run, struct doorvervain *fs, struct model *model)
     case 11:
     case 12: check(run, doorvervain_create(fs, path, size, at), model_create(model, it, DOORVERVAIN_FILE, at)); break;
     case 13: check(run, doorvervain_set_mtime(fs, path, size, at), model_set_mtime(model, it, at)); break;
+    case 14: do_copy(run, fs, model, it, at); break;
     default: do_write(run, fs, model, it, at);
     }
 }

@@ -190,6 +190,20 @@ static uint8_t model_punch(struct model *model, struct place it, uint64_t offset
     return DOORVERVAIN_DONE;
 }
 
+// Copies at most `count` bytes of a cell of a file to a cell of another or the same one, as far as the first file has them.
+static uint8_t model_copy(
+    struct model *model, struct place from, int cell, struct place to, int target, uint64_t count, uint64_t at, uint64_t *copied) {
+    uint8_t bytes[CELL], fault = file_fault(model, from);
+    uint64_t offset = (uint64_t)cell * STRIDE, size = entry_of(model, from)->size, rest = size > offset ? size - offset : 0;
+    *copied = 0;
+    if (fault) return fault;
+    if (count > rest) count = rest;
+    memcpy(bytes, entry_of(model, from)->cell[cell], CELL);
+    fault = model_write(model, to, target, bytes, count, at);
+    if (!fault) *copied = count;
+    return fault;
+}
+
 static uint8_t model_set_mtime(struct model *model, struct place it, uint64_t at) {
     uint8_t fault = path_fault(model, it);
     if (!fault) entry_of(model, it)->modified = at;

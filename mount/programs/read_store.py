@@ -10,7 +10,7 @@ from pathlib import Path
 
 HEADER_BODY, SALT, NUMBERS_OF_A_LOG = 96, 16, 1 << 40
 KINDS = {1: "mkdir", 2: "create", 3: "unlink", 4: "rmdir", 5: "rmtree", 6: "rename", 7: "truncate", 8: "write", 9: "hole",
-         10: "snapshot", 11: "drop", 12: "restore", 13: "mtime"}
+         10: "snapshot", 11: "drop", 12: "restore", 13: "mtime", 14: "copy"}
 FIRST_LINE = b"doorvervain checkpoint 2\n"
 
 
@@ -225,6 +225,10 @@ class Store:
         elif what == "hole":
             end = min(offset + count, len(self.tree[path]))
             self.tree[path][offset:end] = bytes(max(0, end - offset))
+        elif what == "copy":
+            data = bytes(self.tree[path][offset:offset + count])
+            if data:
+                self.do("write", number(other[:8]), 0, other[8:], data)
         elif what != "mtime":
             self.keep(what, path)
 

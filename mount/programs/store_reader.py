@@ -28,9 +28,19 @@ def punch(path: Path, works: random.Random) -> None:
     subprocess.run(["fallocate", "-p", "-o", str(works.randrange(9000)), "-l", str(works.randrange(1, 9000)), path], check=True)
 
 
+def copy(path: Path, other: Path, works: random.Random) -> None:
+    offset, target = (works.choice([4096 * works.randrange(8), works.randrange(30000)]) for _ in range(2))
+    source, new = os.open(path, os.O_RDONLY), os.open(other, os.O_RDWR)
+    try:
+        os.copy_file_range(source, new, works.randrange(1, 20000), offset, target)
+    finally:
+        os.close(source)
+        os.close(new)
+
+
 def change(works: random.Random, top: Path) -> None:
     path, other = (top / works.choice(NAMES) for _ in range(2))
-    what = works.choice(["write"] * 6 + ["mkdir", "unlink", "rmdir", "rename", "rename", "truncate", "punch", "chmod", "snap"])
+    what = works.choice(["write"] * 6 + ["mkdir", "unlink", "rmdir", "rename", "rename", "truncate", "punch", "copy", "chmod", "snap"])
     try:
         if what == "write":
             file = os.open(path, os.O_WRONLY | os.O_CREAT)
@@ -42,6 +52,7 @@ def change(works: random.Random, top: Path) -> None:
         else:
             {"mkdir": path.mkdir, "unlink": path.unlink, "rmdir": path.rmdir, "rename": lambda: path.rename(other),
              "truncate": lambda: os.truncate(path, works.randrange(40000)), "punch": lambda: punch(path, works),
+             "copy": lambda: copy(path, other, works),
              "chmod": lambda: path.chmod(0o600)}[what]()
     except (OSError, subprocess.CalledProcessError):
         pass

@@ -132,7 +132,7 @@ PyObject *answer(uint8_t number, PyObject *path) {
 }
 
 static Py_ssize_t place_of(const struct signature *it, PyObject *name) {
-    for (Py_ssize_t place = 0; place < 4 && it->names[place]; place++) {
+    for (Py_ssize_t place = 0; place < MOST_NAMES && it->names[place]; place++) {
         if (PyUnicode_CompareWithASCIIString(name, it->names[place]) == 0) return place;
     }
     return -1;
@@ -143,7 +143,8 @@ int words_of(const struct signature *it, PyObject *const *words, Py_ssize_t coun
         PyErr_Format(PyExc_TypeError, "%s() takes at most %zd arguments by position", it->call, it->by_position);
         return -1;
     }
-    for (Py_ssize_t place = 0; place < 4; place++) out[place] = place < count ? words[place] : NULL;
+    for (Py_ssize_t place = 0; place < MOST_NAMES && it->names[place]; place++)
+        out[place] = place < count ? words[place] : NULL;
     Py_ssize_t more = named ? PyTuple_Size(named) : 0;
     for (Py_ssize_t number = 0; number < more; number++) {
         PyObject *name = PyTuple_GetItem(named, number);

@@ -117,10 +117,12 @@ struct text {
 int text_of(PyObject *given, struct text *text);
 
 // The parameters of a call: how many are required, how many may be given by position, and the names of all.
+enum { MOST_NAMES = 6 };
+
 struct signature {
     const char *call;
     Py_ssize_t needed, by_position;
-    const char *names[4];
+    const char *names[MOST_NAMES];
 };
 
 // Sorts the arguments of a call by their parameters; one that is not given is null. -1 with a TypeError if they do not

@@ -187,6 +187,47 @@ static PyObject *volume_truncate(PyObject *self, PyObject *const *words, Py_ssiz
     return done;
 }
 
+// The arguments of a copy.
+struct copy {
+    struct text from, to;
+    uint64_t offset, target, count, timestamp;
+};
+
+static uint8_t copy_locked(Tree *tree, const struct copy *it, uint64_t *copied) {
+    uint8_t number;
+    Py_BEGIN_ALLOW_THREADS
+    number = doorvervain_copy_range(&tree->volume, it->from.at, it->from.length, it->offset, it->to.at, it->to.length,
+        it->target, it->count, it->timestamp, copied);
+    Py_END_ALLOW_THREADS
+    return number;
+}
+
+// Reads the numbers of a copy from its arguments. -1 with an exception.
+static int numbers_of_copy(const Tree *tree, PyObject *const *args, struct copy *it) {
+    if (place_of_bytes(args[1], args[0], &it->offset) || place_of_bytes(args[3], args[2], &it->target)) return -1;
+    if (place_of_bytes(args[4], args[0], &it->count)) return -1;
+    return timestamp_of(tree, args[5], &it->timestamp);
+}
+
+static const struct signature copy_range_signature = {
+    "copy_range", 5, 5, {"old", "offset", "new", "target", "count", "at"}};
+
+static PyObject *volume_copy_range(PyObject *self, PyObject *const *words, Py_ssize_t count, PyObject *named) {
+    Tree *tree = (Tree *)self;
+    PyObject *args[MOST_NAMES], *done = NULL;
+    struct copy it = {.from = {NULL, NULL, 0}, .to = {NULL, NULL, 0}};
+    if (words_of(&copy_range_signature, words, count, named, args) || numbers_of_copy(tree, args, &it)) return NULL;
+    if (!text_of(args[0], &it.from) && !text_of(args[2], &it.to) && !enter(tree)) {
+        uint64_t copied;
+        uint8_t number = copy_locked(tree, &it, &copied);
+        leave(tree);
+        done = number ? refuse(number, args[0], args[2]) : PyLong_FromUnsignedLongLong(copied);
+    }
+    Py_XDECREF(it.from.owner);
+    Py_XDECREF(it.to.owner);
+    return done;
+}
+
 // The bytes of an object that has a buffer.
 static PyObject *plain_bytes(PyObject *data) {
     if (PyBytes_Check(data)) {
@@ -530,6 +571,18 @@ static PyMethodDef volume_methods[] = {
         "write($self, /, path, data, offset=0, *, at=None)\n--\n\n"
         "Writes bytes to a file at the offset, and extends it if they reach past its end. The write is atomic. Returns how\n"
         "many bytes."},
+    {"copy_range", FAST(volume_copy_range),
+        "copy_range($self, /, old, offset, new, target, count, *, at=None)\n--\n\n"
+        "Copies `count` bytes of a file from `offset` on, as far as it has them, to the file `new` from `target` on, which exists\n"
+        "and may be the same one. The tree is the same as after a write of these bytes. If both offsets are multiples of 4,096,\n"
+        "whole blocks are shared. The copy is atomic. Returns how many bytes.\n\n"
+        ">>> volume = Volume()\n"
+        ">>> _ = volume.write_bytes(\"/a\", b\"some rain\")\n"
+        ">>> volume.create(\"/b\")\n"
+        ">>> volume.copy_range(\"/a\", 5, \"/b\", 0, 100)\n"
+        "4\n"
+        ">>> volume.read(\"/b\")\n"
+        "b'rain'"},
     {"write_bytes", FAST(volume_write_bytes),
         "write_bytes($self, /, path, data, *, at=None)\n--\n\n"
         "Replaces the content of a file, which is created if it does not exist."},

@@ -5,6 +5,7 @@ import gc
 import os
 import pathlib
 import pickle
+import random
 import re
 import signal
 import stat
@@ -58,6 +59,9 @@ class Refusals(unittest.TestCase):
             (OSError, errno.EFBIG, volume.truncate, "/d/f", (1 << 40) + 1),
             (FileNotFoundError, errno.ENOENT, volume.utime, "/x"),
             (NotADirectoryError, errno.ENOTDIR, volume.utime, "/d/f/x"),
+            (FileNotFoundError, errno.ENOENT, volume.copy_range, "/x", 0, "/d", 0, 1),
+            (IsADirectoryError, errno.EISDIR, volume.copy_range, "/d/f", 0, "/d", 0, 1),
+            (OSError, errno.EINVAL, volume.copy_range, "/d/f", -1, "/d/f", 0, 1),
             (OSError, errno.EBUSY, volume.rmdir, "/"),
             (OSError, errno.EBUSY, volume.rmtree, "/"),
             (FileNotFoundError, errno.ENOENT, volume.restore, "none"),
@@ -164,7 +168,7 @@ class Refusals(unittest.TestCase):
         for call, *words in [
             (volume.mkdir, "/e"), (volume.create, "/e"), (volume.unlink, "/d/f"), (volume.rmdir, "/d"),
             (volume.rmtree, "/d"), (volume.rename, "/d", "/e"), (volume.truncate, "/d/f", 1), (volume.utime, "/d"),
-            (volume.write, "/d/f", b"x"), (volume.write_bytes, "/d/f", b"x"), (volume.read, "/d/f"),
+            (volume.copy_range, "/d/f", 0, "/d/f", 0, 1), (volume.write, "/d/f", b"x"), (volume.write_bytes, "/d/f", b"x"), (volume.read, "/d/f"),
             (volume.stat, "/d"), (volume.listdir, "/"), (volume.snapshot, "t"), (volume.drop_snapshot, "s"),
             (volume.restore, "s"), (volume.restore, tree), (volume.freeze,), (volume.fork,), (volume.open_snapshot, "s"), (volume.image,),
             (volume.compact, 1),
@@ -249,6 +253,20 @@ class Files(unittest.TestCase):
         volume.utime("/d")
         self.assertEqual([volume.stat(path).modified for path in ["/d/f", "/d", "/"]], [0, 102, (1 << 64) - 1])
         self.assertEqual((volume.read("/d/f"), volume.listdir("/d")), before)
+
+    def test_a_copied_range_is_a_write_of_what_was_read(self):
+        volume, rng = self.volume, random.Random(7)
+        for name in "ab":
+            volume.write_bytes("/" + name, rng.randbytes(5 * 4096 + 100))
+        for step in range(200):
+            old, new = ("/" + rng.choice("ab") for _ in range(2))
+            offset, target = (rng.choice([4096 * rng.randrange(9), rng.randrange(30_000)]) for _ in range(2))
+            count = rng.choice([4096 * rng.randrange(6), rng.randrange(30_000), 1 << 63])
+            with volume.fork() as other:
+                data = other.read(old, count, offset)
+                other.write(new, data, target, at=step)
+                self.assertEqual(volume.copy_range(old, offset, new, target, count, at=step), len(data))
+                self.assertEqual(volume.image(), other.image())
 
     def test_a_long_listing(self):
         names = sorted(f"name-{i:05}" + "x" * (i % 90) for i in range(5_000))

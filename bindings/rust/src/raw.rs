@@ -50,6 +50,10 @@ extern "C" {
     ) -> u8;
     fn doorvervain_raw_truncate(fs: *mut RawHandle, path: *const u8, length: usize, size: u64, at: u64) -> u8;
     fn doorvervain_raw_set_mtime(fs: *mut RawHandle, path: *const u8, length: usize, at: u64) -> u8;
+    fn doorvervain_raw_copy_range(
+        fs: *mut RawHandle, from: *const u8, from_length: usize, offset: u64, to: *const u8, to_length: usize, target: u64,
+        count: u64, at: u64, copied: *mut u64,
+    ) -> u8;
     fn doorvervain_raw_write(
         fs: *mut RawHandle, path: *const u8, length: usize, offset: u64, bytes: *const u8, count: usize, at: u64,
     ) -> u8;
@@ -382,6 +386,34 @@ impl VolumeHandle {
 
     pub(crate) fn punch(&self, path: &[u8], offset: u64, count: u64, at: u64) -> Result<(), Errno> {
         self.change(|raw| done(unsafe { doorvervain_raw_punch(raw, path.as_ptr(), path.len(), offset, count, at) }))
+    }
+
+    pub(crate) fn copy_range(
+        &self,
+        (from, offset): (&[u8], u64),
+        (to, target): (&[u8], u64),
+        count: u64,
+        at: u64,
+    ) -> Result<u64, Errno> {
+        let (from_at, to_at) = (from.as_ptr(), to.as_ptr());
+        let mut copied = 0;
+        self.change(|raw| {
+            done(unsafe {
+                doorvervain_raw_copy_range(
+                    raw,
+                    from_at,
+                    from.len(),
+                    offset,
+                    to_at,
+                    to.len(),
+                    target,
+                    count,
+                    at,
+                    &mut copied,
+                )
+            })
+        })?;
+        Ok(copied)
     }
 
     pub(crate) fn snapshot_call(&self, call: SnapshotCall, name: &[u8]) -> Result<(), Errno> {

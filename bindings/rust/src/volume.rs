@@ -339,6 +339,26 @@ macro_rules! changing_calls {
                 self.volume().handle.punch(path, offset, count, self.timestamp())
             }
 
+            /// Copies `count` bytes of a file from `offset` on, as far as it has them, to the file `to` from `target` on, which exists and
+            /// may be the same one; the ranges may overlap. Returns how many bytes were copied. The tree is the same as after a write of
+            /// these bytes. If both offsets are multiples of 4,096, whole blocks are shared. The copy is atomic.
+            ///
+            /// # Errors
+            /// `ENOENT`, `ENOTDIR`: a path does not exist; `EISDIR`: it is a directory; `EFBIG`: past 2^40 bytes; `ENOMEM`.
+            pub fn copy_range<P: AsRef<Path>, Q: AsRef<Path>>(
+                &self,
+                from: P,
+                offset: u64,
+                to: Q,
+                target: u64,
+                count: u64,
+            ) -> Result<u64, Errno> {
+                let (from, to) = (bytes_of(from.as_ref()), bytes_of(to.as_ref()));
+                self.volume()
+                    .handle
+                    .copy_range((from, offset), (to, target), count, self.timestamp())
+            }
+
             fn path_call(&self, call: PathCall, path: &Path) -> Result<(), Errno> {
                 self.volume()
                     .handle

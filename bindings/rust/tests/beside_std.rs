@@ -391,6 +391,38 @@ fn a_hole() -> Result<(), Errno> {
 }
 
 #[test]
+fn a_copied_range() -> Result<(), Errno> {
+    let volume = Volume::default();
+    let bytes: Vec<u8> = (0..20_000u32).map(|it| (it % 251) as u8).collect();
+    volume.write("/f", &bytes)?;
+    volume.write("/g", "before")?;
+    for (offset, target, count) in [
+        (4096, 8192, 8192),
+        (3, 8190, 5000),
+        (12_288, 4096, u64::MAX),
+        (0, 1, 20_000),
+        (20_000, 0, 1),
+    ] {
+        let from = usize::try_from(offset).expect("small");
+        let most = usize::try_from(count).expect("64 bits");
+        let part = &bytes[from..bytes.len().min(from.saturating_add(most))];
+        let other = volume.fork()?;
+        other.at(5).write_at("/g", target, part)?;
+        assert_eq!(
+            volume.at(5).copy_range("/f", offset, "/g", target, count)?,
+            part.len() as u64
+        );
+        assert_eq!(volume.image()?, other.image()?);
+    }
+    assert_eq!(volume.copy_range("/f", 0, "/f", 1, u64::MAX)?, 20_000);
+    assert_eq!(volume.read("/f")?, [&bytes[..1], &bytes[..]].concat());
+    assert_eq!(volume.copy_range("/none", 0, "/", 0, 1), Err(Errno::ENOENT));
+    assert_eq!(volume.copy_range("/f", 0, "/", 0, 1), Err(Errno::EISDIR));
+    assert_eq!(volume.copy_range("/f", 0, "/g", 1 << 40, 1), Err(Errno::EFBIG));
+    Ok(())
+}
+
+#[test]
 fn forks_are_apart() -> Result<(), Errno> {
     let mut volume = Volume::default();
     volume.set_clock(|| 9);

@@ -36,7 +36,7 @@ pub record Zeroes (p : Path) (a b : ℕ) (d : Blocks) (ms : Messages) : Type 0 w
   pub gone : (i : ℕ) → i < most_blocks → a ≤ 4096 * i → 4096 * i + 4096 ≤ b → after ms d (block_key p i) ≡ None
 
 -- messages after messages
-joined : (ms ns : Messages) (d : Blocks) (k : Key) → after (ms ++ ns) d k ≡ after ns (after ms d) k
+pub joined : (ms ns : Messages) (d : Blocks) (k : Key) → after (ms ++ ns) d k ≡ after ns (after ms d) k
 joined ms ns d k = effects-append means ms ns k (d k)
 
 -- zeros, and more zeros after them
@@ -124,12 +124,12 @@ zeroes_patch p a b d is_path some short block fits =
 -- ---- whole blocks
 
 -- the keys of blocks f up to l
-abbrev between : Path → ℕ → ℕ → KeyRange
+abbrev pub between : Path → ℕ → ℕ → KeyRange
 between p f l = record { lo = block_key p f; hi = Some (block_key p l) }
 
 module _ (p : Path) (is_path : IsPath p) where
   -- the range contains the keys of those blocks, and of no others of the path
-  between_holds : (f l i : ℕ) → f < 2 ^ 32 → l < 2 ^ 32 → i < 2 ^ 32 → f ≤ i → i < l → is_in (between p f l) (block_key p i) ≡ true
+  pub between_holds : (f l i : ℕ) → f < 2 ^ 32 → l < 2 ^ 32 → i < 2 ^ 32 → f ≤ i → i < l → is_in (between p f l) (block_key p i) ≡ true
   between_holds f l i hf hl hi u v = and_from _ _ (block_reaches p f i hf hi u) (block_before p is_path i l hi hl v)
 
   between_lacks : (f l i : ℕ) → f < 2 ^ 32 → l < 2 ^ 32 → i < 2 ^ 32 → (i < f) ⊎ (l ≤ i) → is_in (between p f l) (block_key p i) ≡ false
@@ -137,7 +137,7 @@ module _ (p : Path) (is_path : IsPath p) where
   between_lacks f l i hf hl hi (inr u) = and_right _ _ (not_before_from_reaches (block_key p l) (block_key p i) (block_reaches p l i hl hi u))
 
   -- a key of the range is one of the blocks from the first on
-  between_from : (f l : ℕ) (k : Key) → l < 2 ^ 32 → is_in (between p f l) k ≡ true → is_in (blocks_from p f) k ≡ true
+  pub between_from : (f l : ℕ) (k : Key) → l < 2 ^ 32 → is_in (between p f l) k ≡ true → is_in (blocks_from p f) k ≡ true
   between_from f l k hl h =
       let parts : (reaches (block_key p f) k ≡ true) × (before k (block_key p l) ≡ true) = and_parts _ _ h in
       let top : is_below (block_key p l) (Some (enc p ++ 1 ∷ [])) ≡ true = block_below p l hl in

@@ -13,4 +13,8 @@ pub mod BlockOrder
 pub mod Zeroing
 pub mod HoleBlocks
 pub mod OnHoles
+pub mod BlockNumbers
+pub mod Sharing
+pub mod Copying
+pub mod OnCopies
 pub mod Mtimes

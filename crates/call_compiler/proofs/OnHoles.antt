@@ -59,7 +59,7 @@ module _ (p : Path) (is_path : IsPath p) (off : ℕ) (w : List ℕ) (some : 0 < 
       (one_patch_more p off w (off / 4096) i _ (patches_between p off w (off / 4096) i) _ (omega arith) refl refl refl)
       (write_goes_on p off w i (patches_between p off w (off / 4096) i) is_path (omega (arith, fits, short, some)) (omega arith) (omega (arith, fits, some)) was))
 
-  written : (d : Blocks) → (e : Blocks) × BlocksChange (patched off w) p d e
+  pub written : (d : Blocks) → (e : Blocks) × BlocksChange (patched off w) p d e
   written d =
       let n : ℕ = (off + length w - 1) / 4096 + 1 - off / 4096 in
       let end : off / 4096 + n ≡ (off + length w - 1) / 4096 + 1 = omega (arith, some) in
@@ -108,7 +108,7 @@ module _ (t u : Tree) (p : Path) (is_path : IsPath p) (b : List ℕ) (d d' e : B
   }
 
 -- the bytes of a file whose metadata are these
-file_there : (here : At) (n date : ℕ) → meta_of (sighted here) ≡ Some (FileMeta n date) → (b : List ℕ) × (seen here ≡ Some (Bytes b)) × (length b ≡ n)
+pub file_there : (here : At) (n date : ℕ) → meta_of (sighted here) ≡ Some (FileMeta n date) → (b : List ℕ) × (seen here ≡ Some (Bytes b)) × (length b ≡ n)
 file_there (Found (Dir other es)) n date e = absurd (cc)
 file_there (Found (File other b)) n date e = (b, refl, cc)
 file_there Missing n date e = absurd (cc)
@@ -120,7 +120,7 @@ some_bytes zero h = absurd (omega (arith, h))
 some_bytes (suc n) h = refl
 
 -- in the blocks of a tree, each key with a value in a range of p's is that of a block of p
-own_blocks : (t : Tree) (d : Blocks) (p : Path) → IsPath p → BlocksMean t d → (k : Key) (v : List ℕ) (a : ℕ) → a < 2 ^ 32 → d k ≡ Some v → is_in (blocks_from p a) k ≡ true → (i : ℕ) × (i < most_blocks) × (k ≡ block_key p i)
+pub own_blocks : (t : Tree) (d : Blocks) (p : Path) → IsPath p → BlocksMean t d → (k : Key) (v : List ℕ) (a : ℕ) → a < 2 ^ 32 → d k ≡ Some v → is_in (blocks_from p a) k ≡ true → (i : ℕ) × (i < most_blocks) × (k ≡ block_key p i)
 own_blocks t d p is_path means k v a ha e inside =
     let o : BlockOf t k = means.only_blocks k v e in
     let few : o.index < most_blocks = o.few in

@@ -2,6 +2,7 @@ pub mod Compiled
 pub mod Files
 pub mod Measured
 pub mod Punched
+pub mod Copied
 pub mod Mtimes
 pub mod Laws
 pub mod Moves

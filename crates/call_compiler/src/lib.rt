@@ -12,6 +12,7 @@ use pathkey::NoMemory;
 use std::alloc::Global;
 
 pub mod batch;
+pub mod copy_range;
 pub mod create;
 pub mod dir_mtime;
 pub mod file_length;

@@ -49,7 +49,7 @@ pub fn punch(
 }
 
 /// How many of `count` bytes from the offset on are within the file.
-fn reached(file: FoundFile, offset: u64, count: u64) -> u64
+pub(crate) fn reached(file: FoundFile, offset: u64, count: u64) -> u64
     ensures value { result ≡ reached_of file.len offset count }
     ensures within { (0 < result) → (offset + result ≤ file.len) }
 {
@@ -119,7 +119,7 @@ fn zeros(alloc: Global, count: usize) -> Result<Bytes, NoMemory>
 
 /// Appends the range-delete of the blocks of a path from index `first` up to but excluding `end`; none if there are no such
 /// blocks.
-fn push_range(
+pub(crate) fn push_range(
     alloc: Global,
     path: &Path,
     first: u32,

@@ -1,16 +1,18 @@
 //! Exports of the calls that change a volume, each with a timestamp. A call that fails leaves the volume unchanged.
+ghost use Rattle.std.specs.Prelude.{◌≡◌, IfErr};
 ghost use Rattle.pathkey.specs.SnapNames.{snap_parsed};
 ghost use Rattle.pathkey.specs.Texts.{parsed};
 ghost use Rattle.reference.specs.declared.call.Call.TheVariants as ask;
 ghost use Rattle.reference.specs.Worlds.{DropSnapshot, RestoreSnapshot, TakeSnapshot};
 ghost use Rattle.volume.specs.Changes.{Dropped, KeptAs, Restored};
+ghost use Rattle.ffi_calls.specs.Copies.{CopiesAt};
 ghost use Rattle.ffi_calls.specs.Mtimes.{SetsMtimeAt};
 ghost use Rattle.ffi_calls.specs.Snapshots.{SettlesNamed};
 ghost use Rattle.doorvervain.specs.Changes.{AsksAt, Moves};
-ghost use Rattle.doorvervain.specs.Numbers.{IsNumber, reported};
+ghost use Rattle.doorvervain.specs.Numbers.{IsNumber, reported, reported_by};
 
 use crate::handle::VolumeHandle;
-use crate::numbers::number;
+use crate::numbers::{counted, number};
 use std::alloc::Global;
 
 /// Creates an empty directory.
@@ -141,6 +143,28 @@ pub extern "C" fn doorvervain_raw_set_mtime(
     ensures number { IsNumber result }
 {
     number(ffi_calls::set_mtime(alloc, fs.volume(), path, at))
+}
+
+/// Copies `count` bytes of the file at `from` from `offset` on, as far as it has them, to the file at `to` from `target` on.
+/// Stores how many bytes these are in `copied`, and 0 on an error.
+#[unsafe(no_mangle)]
+pub extern "C" fn doorvervain_raw_copy_range(
+    alloc: Global,
+    fs: &mut VolumeHandle,
+    from: &[u8],
+    offset: u64,
+    to: &[u8],
+    target: u64,
+    count: u64,
+    at: u64,
+    copied: &mut u64,
+) -> u8
+    ensures call { CopiesAt (parsed from.now) offset (parsed to.now) target count at (reported_by result copied.new) fs.old.volume fs.new.volume }
+    ensures number { IsNumber result }
+    ensures refused { IfErr (reported_by result copied.new) (λ _. copied.new ≡ 0) }
+{
+    let outcome = ffi_calls::copy_range(alloc, fs.volume(), from, offset, to, target, count, at);
+    counted(outcome, copied)
 }
 
 /// Takes a snapshot of the live tree under a name.

@@ -3,7 +3,7 @@
 ghost use Rattle.std.specs.Prelude.{◌≡◌, ◌↔◌, IfErr, IfOk};
 ghost use Rattle.pathkey.specs.SnapNames.{snap_parsed};
 ghost use Rattle.pathkey.specs.Texts.{parsed};
-ghost use Rattle.wal.specs.Encode.{Encodes, asked, moved};
+ghost use Rattle.wal.specs.Encode.{Encodes, asked, copied, moved};
 ghost use Rattle.wal.specs.declared.wal_entry.WalEntry.TheVariants as change;
 ghost use Rattle.wal.specs.declared.wal_entry.SnapshotCall.TheVariants as keeping;
 ghost use Rattle.reference.specs.declared.path_call.PathCall.TheVariants as on;
@@ -16,8 +16,8 @@ use crate::handle::VolumeHandle;
 use crate::numbers::{number, sized};
 use std::alloc::Global;
 use wal::encode::{
-    encode_mtime, encode_path_call, encode_punch, encode_rename, encode_snapshot_call,
-    encode_truncate, encode_write,
+    encode_copy_range, encode_mtime, encode_path_call, encode_punch, encode_rename,
+    encode_snapshot_call, encode_truncate, encode_write,
 };
 use wal::{PathCall, ReplayError, SnapshotCall, replay_body, wal_dump_into};
 
@@ -214,6 +214,29 @@ pub extern "C" fn doorvervain_raw_wal_set_mtime(
     ensures refused { IfErr (sized_by result size.new) (λ _. size.new ≡ 0) }
 {
     let laid = encode_mtime(alloc, path, at, out);
+    sized(laid, out.len(), size)
+}
+
+/// Encodes the entry of a copy of `count` bytes from the first path and offset to the second. Stores its length in bytes in
+/// `size`, and writes it only if the buffer is large enough for all of it.
+#[unsafe(no_mangle)]
+pub extern "C" fn doorvervain_raw_wal_copy_range(
+    alloc: Global,
+    from: &[u8],
+    offset: u64,
+    to: &[u8],
+    target: u64,
+    count: u64,
+    at: u64,
+    out: &mut [u8],
+    size: &mut usize,
+) -> u8
+    ensures change { Encodes (copied offset target count at (parsed from.now) (parsed to.now)) (sized_by result size.new) out.old out.new }
+    ensures short { (result ≡ short) ↔ IsShort size.new out.old }
+    ensures number { IsSizeNumber result }
+    ensures refused { IfErr (sized_by result size.new) (λ _. size.new ≡ 0) }
+{
+    let laid = encode_copy_range(alloc, from, offset, to, target, count, at, out);
     sized(laid, out.len(), size)
 }
 

@@ -81,6 +81,24 @@ pub(crate) fn count(outcome: Result<usize, Errno>, got: &mut usize) -> u8
     }
 }
 
+/// The number of an outcome, and the count of bytes in a file, which is 0 on an error.
+pub(crate) fn counted(outcome: Result<u64, Errno>, bytes: &mut u64) -> u8
+    ensures reported { reported_by result bytes.new ≡ outcome }
+    ensures number { IsNumber result }
+    ensures refused { IfErr outcome (λ _. bytes.new ≡ 0) }
+{
+    match outcome {
+        Ok(n) => {
+            *bytes = n;
+            DONE
+        }
+        Err(fault) => {
+            *bytes = 0;
+            fault.number()
+        }
+    }
+}
+
 /// The number of an outcome with a size, and the size, which is 0 on an error. If the buffer is smaller than the size but not
 /// empty, the number is that of a short buffer.
 pub(crate) fn sized(outcome: Result<usize, Errno>, room: usize, size: &mut usize) -> u8

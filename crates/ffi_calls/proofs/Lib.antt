@@ -4,5 +4,6 @@ pub mod Fronts
 pub mod Laying
 pub mod OfFiles
 pub mod Punching
+pub mod CopyTexts
 pub mod MtimeTexts
 pub mod Differing

@@ -1,5 +1,6 @@
 -- What the calls of texts and bytes promise.
 pub mod Changes
+pub mod Copies
 pub mod Differences
 pub mod Filling
 pub mod Holes

@@ -2,8 +2,9 @@
 //! succeed.
 use crate::pieces::{Piece, built};
 use crate::requests::{USUAL, freeze, new_volume};
-use ffi_calls::{create, frozen_readdir, load, print, read, readdir, stat, write};
+use ffi_calls::{copy_range, create, frozen_readdir, load, print, read, readdir, stat, write};
 use images::LoadFault;
+use pathkey::Errno;
 use reference::Meta;
 use std::alloc::Global;
 use volume::{Frozen, Volume};
@@ -99,6 +100,133 @@ fn keeps_long(alloc: Global) -> bool {
 #[test]
 fn more_bytes_than_a_block_are_written_and_read(rt: HostRuntime) {
     assert!(rt; keeps_long(rt.alloc()));
+}
+
+/// A copy of the file to another one: the offset, the target, the count, how many bytes are copied, and from where on the other
+/// file has the bytes of the first behind its first two.
+type Copied = (u64, u64, u64, u64, u64);
+
+/// Whole blocks, and parts of blocks; to the start, and behind a hole.
+const COPIES: [Copied; 4] = [
+    (0, 0, u64::MAX, 10_002, 2),
+    (2, 0, 10_000, 10_000, 0),
+    (0, 4_096, 10_002, 10_002, 4_098),
+    (2, 5_000, 20_000, 10_000, 5_000),
+];
+
+/// Whether the other file is made.
+fn makes_other(alloc: Global, volume: &mut Volume) -> bool {
+    create(alloc, volume, b"/g", 1).is_ok()
+}
+
+/// How many bytes are copied, or why none are.
+fn copies(
+    alloc: Global,
+    volume: &mut Volume,
+    from: &[u8],
+    to: &[u8],
+    copy: &Copied,
+) -> Result<u64, Errno> {
+    copy_range(alloc, volume, from, copy.0, to, copy.1, copy.2, 4)
+}
+
+/// How many bytes of the other file are read from an offset into a buffer.
+fn count_read_other(alloc: Global, volume: &Volume, offset: u64, room: &mut [u8]) -> Option<usize> {
+    read(alloc, volume, b"/g", offset, room).ok()
+}
+
+/// Whether the other file has the bytes from an offset on to its end.
+fn other_has(alloc: Global, volume: &Volume, offset: u64, bytes: &[u8]) -> bool {
+    let mut room = [0u8; 12_000];
+    count_read_other(alloc, volume, offset, &mut room) == Some(bytes.len())
+        && room.starts_with(bytes)
+}
+
+/// Whether a copy is made in a volume that has the file.
+fn copies_in(alloc: Global, volume: &mut Volume, bytes: &[u8], copy: &Copied) -> bool {
+    makes_other(alloc, volume)
+        && copies(alloc, volume, b"/f", b"/g", copy) == Ok(copy.3)
+        && other_has(alloc, volume, copy.4, bytes)
+        && has(alloc, volume, bytes)
+}
+
+/// Whether a copy is made in a new volume.
+fn copies_so(alloc: Global, bytes: &[u8], copy: &Copied) -> bool {
+    match new_volume(alloc, USUAL) {
+        Ok(mut volume) => {
+            makes(alloc, &mut volume)
+                && writes(alloc, &mut volume, bytes)
+                && copies_in(alloc, &mut volume, bytes, copy)
+        }
+        Err(_) => false,
+    }
+}
+
+/// Whether each copy is made; the number of the first that is not.
+fn copies_each(alloc: Global, bytes: &[u8]) -> Result<(), usize> {
+    for (number, copy) in COPIES.iter().enumerate() {
+        if !copies_so(alloc, bytes, copy) {
+            return Err(number);
+        }
+    }
+    Ok(())
+}
+
+/// Whether each copy of long bytes is made.
+fn copies_long(alloc: Global) -> Result<(), usize> {
+    match long_bytes(alloc) {
+        Some(bytes) => copies_each(alloc, bytes.as_slice()),
+        None => Err(usize::MAX),
+    }
+}
+
+#[test]
+fn more_bytes_than_a_block_are_copied(rt: HostRuntime) -> Result<(), usize> {
+    copies_long(rt.alloc())
+}
+
+/// A copy of one byte.
+const BYTE: Copied = (0, 0, 1, 1, 0);
+
+/// Copies between texts, and why they fail where `/f` alone is a file.
+const REFUSED: [(&[u8], &[u8], Errno); 6] = [
+    (b"f", b"", Errno::EINVAL),
+    (b"/f", b"", Errno::ENOENT),
+    (b"/none", b"/", Errno::ENOENT),
+    (b"/", b"/none", Errno::EISDIR),
+    (b"/f", b"/f/x", Errno::ENOTDIR),
+    (b"/f", b"/", Errno::EISDIR),
+];
+
+/// Whether each fails so in a volume; the number of the first that does not.
+fn refuses_each(alloc: Global, volume: &mut Volume) -> Result<(), usize> {
+    for (number, (from, to, fault)) in REFUSED.iter().enumerate() {
+        if copies(alloc, volume, from, to, &BYTE) != Err(*fault) {
+            return Err(number);
+        }
+    }
+    Ok(())
+}
+
+/// Whether each fails so in a volume that gets the file.
+fn refuses_in(alloc: Global, volume: &mut Volume) -> Result<(), usize> {
+    if !makes(alloc, volume) {
+        return Err(usize::MAX);
+    }
+    refuses_each(alloc, volume)
+}
+
+/// Whether each fails so in a new volume with the file.
+fn refuses_in_new(alloc: Global) -> Result<(), usize> {
+    match new_volume(alloc, USUAL) {
+        Ok(mut volume) => refuses_in(alloc, &mut volume),
+        Err(_) => Err(usize::MAX),
+    }
+}
+
+#[test]
+fn copies_between_what_are_no_files_fail(rt: HostRuntime) -> Result<(), usize> {
+    refuses_in_new(rt.alloc())
 }
 
 /// An image with 1,000 directories, of more than two blocks.

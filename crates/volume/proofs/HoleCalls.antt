@@ -29,7 +29,7 @@ use Rattle.volume.proofs.Trees.{Appends, nothing_appended, receives}
 use Rattle.volume.proofs.Typing.{of_kind}
 
 -- a write does not change the mtime of the root
-root_stays : (r : Reply) (at modified : ℕ) → after_call false r at modified ≡ modified
+pub root_stays : (r : Reply) (at modified : ℕ) → after_call false r at modified ≡ modified
 root_stays r at modified = never (is_done r)
   where
     never : (b : Bool) → cond (b && false) at modified ≡ modified

@@ -12,6 +12,7 @@ ghost use Rattle.reference.specs.Worlds.{World, TakeSnapshot, DropSnapshot, Rest
 ghost use Rattle.volume.specs.Changes.{Called, Settles, KeptAs, Dropped, Restored, Stepped};
 ghost use Rattle.volume.specs.Forks.{IsForkOf, RestoresTree};
 ghost use Rattle.volume.specs.Plants.{Plants};
+ghost use Rattle.volume.specs.Copies.{Compiles as CopyCompiles, Copies};
 ghost use Rattle.volume.specs.Holes.{Compiles as HoleCompiles, Punches};
 ghost use Rattle.volume.specs.Mtimes.{Asks as AsksMtime, SetsMtime};
 ghost use Rattle.volume.specs.FsRoot.{reply_to};
@@ -149,6 +150,24 @@ impl Volume {
         let punched = self.live.append(alloc, batch);
         self.live.assert_invariant();
         reply_to(punched, reply)
+    }
+
+    /// Copies bytes from file to file, as compiled.
+    pub(crate) fn send_copied(
+        &mut self,
+        alloc: Global,
+        compiled: Result<(Reply, Batch), NoMemory>,
+    ) -> Reply
+        requires { (p : Names) × (off : ℕ) × (q : Names) × (target : ℕ) × (n : ℕ) × (at : ℕ) × CopyCompiles self.old.live.indexes p off q target n at compiled }
+        ensures copies { (p : Names) (off : ℕ) (q : Names) (target n at : ℕ) → CopyCompiles self.old.live.indexes p off q target n at compiled → Copies p off q target n at result self.old self.new }
+        ensures count { (p : Names) (off : ℕ) (q : Names) (target n at : ℕ) → CopyCompiles self.old.live.indexes p off q target n at compiled → IsCount result }
+    {
+        let Ok((reply, batch)) = compiled else {
+            return Reply::Fault(Errno::ENOMEM);
+        };
+        let copied = self.live.append(alloc, batch);
+        self.live.assert_invariant();
+        reply_to(copied, reply)
     }
 
     /// Sets an mtime, as compiled; it is also the root's if the path is the root.

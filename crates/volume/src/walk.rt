@@ -3,10 +3,10 @@
 //!
 //! Each request is one walk of an index from its root, without a search for each entry. A `BlockWalk` continues from one request
 //! to the next: the pairs that it read ahead follow its position without a gap.
-ghost use Rattle.std.specs.Prelude.{◌≡◌, ◌≢◌, ◌<◌, ◌≤◌, ◌^◌, ◌↔◌, ◌++◌, [], ◌∷◌, ℕ, List, All, IfOk, IfSome, true};
+ghost use Rattle.std.specs.Prelude.{◌≡◌, ◌≢◌, ◌<◌, ◌≤◌, ◌↔◌, ◌++◌, [], ◌∷◌, ℕ, List, All, IfOk, IfSome, true};
 ghost use Rattle.std.specs.Option.{option_to_list};
 ghost use Rattle.block_index.specs.Means.{blocks};
-ghost use Rattle.pathkey.specs.Keys.{block_key, enc};
+ghost use Rattle.pathkey.specs.Keys.{enc};
 ghost use Rattle.reference.specs.Indexes.{PathOf, most_blocks};
 ghost use Rattle.reference.specs.Tree.{Tree, entry_at};
 ghost use Rattle.volume.specs.Extents.{IsNextStored};
@@ -16,6 +16,7 @@ ghost use Rattle.volume.specs.Walks.{AreBlocksAt, AreEntries, IsOwn, ReadsNumber
 use crate::cursor::Cursor;
 use crate::frozen::Frozen;
 use block_index::{Block, BlockUpdate};
+use call_compiler::copy_range::block_number;
 use pathkey::{Key, KeyRange, NoMemory, Path, block_key, blocks_from, dec};
 use reference::Meta;
 use scan::scan;
@@ -184,15 +185,4 @@ fn with_numbers(alloc: Global, pairs: Vec<(Key, Block)>) -> Result<Vec<(u32, Blo
         blocks.push((number, block))?;
     }
     Ok(blocks)
-}
-
-/// The number of the block that has the key.
-pub fn block_number(key: &Key) -> u32
-    ensures { (p : List (List ℕ)) (i : ℕ) → i < 2 ^ 32 → key.now ≡ block_key p i → result ≡ i }
-{
-    match key.as_bytes() {
-        [.., a, b, c, d] => u32::from_be_bytes([*a, *b, *c, *d]),
-        // Unreachable for a block's key, which ends with the four bytes of its number.
-        _ => 0,
-    }
 }

@@ -16,6 +16,8 @@ mod compiled;
 #[cfg(test)]
 mod condensed;
 #[cfg(test)]
+mod copied;
+#[cfg(test)]
 mod counts;
 #[cfg(test)]
 mod embedding;

@@ -8,7 +8,7 @@ use Rattle.pathkey.proofs.TextFacts.{read_back}
 use Rattle.pathkey.specs.declared.errno.Errno.{Errno}
 use Rattle.pathkey.specs.declared.errno.Errno.TheVariants.{EINVAL, ENOMEM}
 use Rattle.wal.specs.declared.wal_entry.WalEntry.{WalEntry}
-use Rattle.wal.specs.declared.wal_entry.WalEntry.TheVariants.{OnPath, Rename, Truncate, Write, Punch, SetMtime, Keep}
+use Rattle.wal.specs.declared.wal_entry.WalEntry.TheVariants.{OnPath, Rename, Truncate, Write, Punch, SetMtime, CopyRange, Keep}
 use Rattle.wal.specs.declared.wal_entry.SnapshotCall.{SnapshotCall}
 use Rattle.wal.specs.declared.wal_entry.SnapshotCall.TheVariants.{Snapshot, Remove, Restore}
 use Rattle.reference.specs.declared.path_call.PathCall.{PathCall}
@@ -16,7 +16,7 @@ use Rattle.reference.specs.declared.path_call.PathCall.TheVariants.{Mkdir, Creat
 use Rattle.wal.specs.declared.entry.EntryHeader.{EntryHeader}
 use Rattle.wal.specs.Entries.{IsChange, IsEntryOf, IsHead, IsNoBody, IsNoEntry, IsWord, LacksEntry, Refuses, body_of, entry, first_of, head_of, keeping_kind, path_kind, printed, second_of}
 use Rattle.wal.proofs.Changes.{fit}
-use Rattle.wal.proofs.Cuts.{entry_once, shorter_behind}
+use Rattle.wal.proofs.Cuts.{entry_once, shorter_behind, word_once}
 
 -- ---- changes that were decoded so far
 
@@ -153,6 +153,7 @@ same_change (OnPath a p at) (Truncate q m t) hc hd eh ef es = absurd (omega (ari
 same_change (OnPath a p at) (Write q g x t) hc hd eh ef es = absurd (omega (arith, ap (λ (h : EntryHeader). h.kind) eh, few_kinds a))
 same_change (OnPath a p at) (Punch q g m t) hc hd eh ef es = absurd (omega (arith, ap (λ (h : EntryHeader). h.kind) eh, few_kinds a))
 same_change (OnPath a p at) (SetMtime q t) hc hd eh ef es = absurd (omega (arith, ap (λ (h : EntryHeader). h.kind) eh, few_kinds a))
+same_change (OnPath a p at) (CopyRange q g v m k t) hc hd eh ef es = absurd (omega (arith, ap (λ (h : EntryHeader). h.kind) eh, few_kinds a))
 same_change (OnPath a p at) (Keep b r) hc hd eh ef es = absurd (omega (arith, ap (λ (h : EntryHeader). h.kind) eh, few_kinds a, late_kinds b))
 same_change (Rename o n at) (OnPath b q t) hc hd eh ef es = absurd (omega (arith, ap (λ (h : EntryHeader). h.kind) eh, few_kinds b))
 same_change (Rename o n at) (Rename u v t) hc hd eh ef es = let et = ap (λ (h : EntryHeader). h.at) eh in let eo = text_once o u hc.0 hd.0 ef in let en = text_once n v hc.1 hd.1 es in cc
@@ -160,6 +161,7 @@ same_change (Rename o n at) (Truncate q m t) hc hd eh ef es = absurd (omega (ari
 same_change (Rename o n at) (Write q g x t) hc hd eh ef es = absurd (omega (arith, ap (λ (h : EntryHeader). h.kind) eh))
 same_change (Rename o n at) (Punch q g m t) hc hd eh ef es = absurd (omega (arith, ap (λ (h : EntryHeader). h.kind) eh))
 same_change (Rename o n at) (SetMtime q t) hc hd eh ef es = absurd (omega (arith, ap (λ (h : EntryHeader). h.kind) eh))
+same_change (Rename o n at) (CopyRange q g v m k t) hc hd eh ef es = absurd (omega (arith, ap (λ (h : EntryHeader). h.kind) eh))
 same_change (Rename o n at) (Keep b r) hc hd eh ef es = absurd (omega (arith, ap (λ (h : EntryHeader). h.kind) eh, late_kinds b))
 same_change (Truncate p len at) (OnPath b q t) hc hd eh ef es = absurd (omega (arith, ap (λ (h : EntryHeader). h.kind) eh, few_kinds b))
 same_change (Truncate p len at) (Rename u v t) hc hd eh ef es = absurd (omega (arith, ap (λ (h : EntryHeader). h.kind) eh))
@@ -167,6 +169,7 @@ same_change (Truncate p len at) (Truncate q m t) hc hd eh ef es = let et = ap (�
 same_change (Truncate p len at) (Write q g x t) hc hd eh ef es = absurd (omega (arith, ap (λ (h : EntryHeader). h.kind) eh))
 same_change (Truncate p len at) (Punch q g m t) hc hd eh ef es = absurd (omega (arith, ap (λ (h : EntryHeader). h.kind) eh))
 same_change (Truncate p len at) (SetMtime q t) hc hd eh ef es = absurd (omega (arith, ap (λ (h : EntryHeader). h.kind) eh))
+same_change (Truncate p len at) (CopyRange q g v m k t) hc hd eh ef es = absurd (omega (arith, ap (λ (h : EntryHeader). h.kind) eh))
 same_change (Truncate p len at) (Keep b r) hc hd eh ef es = absurd (omega (arith, ap (λ (h : EntryHeader). h.kind) eh, late_kinds b))
 same_change (Write p off w at) (OnPath b q t) hc hd eh ef es = absurd (omega (arith, ap (λ (h : EntryHeader). h.kind) eh, few_kinds b))
 same_change (Write p off w at) (Rename u v t) hc hd eh ef es = absurd (omega (arith, ap (λ (h : EntryHeader). h.kind) eh))
@@ -174,6 +177,7 @@ same_change (Write p off w at) (Truncate q m t) hc hd eh ef es = absurd (omega (
 same_change (Write p off w at) (Write q g x t) hc hd eh ef es = let et = ap (λ (h : EntryHeader). h.at) eh in let eo = ap (λ (h : EntryHeader). h.offset) eh in let ep = text_once p q hc.0 hd.0 ef in cc
 same_change (Write p off w at) (Punch q g m t) hc hd eh ef es = absurd (omega (arith, ap (λ (h : EntryHeader). h.kind) eh))
 same_change (Write p off w at) (SetMtime q t) hc hd eh ef es = absurd (omega (arith, ap (λ (h : EntryHeader). h.kind) eh))
+same_change (Write p off w at) (CopyRange q g v m k t) hc hd eh ef es = absurd (omega (arith, ap (λ (h : EntryHeader). h.kind) eh))
 same_change (Write p off w at) (Keep b r) hc hd eh ef es = absurd (omega (arith, ap (λ (h : EntryHeader). h.kind) eh, late_kinds b))
 same_change (Punch p off n at) (OnPath b q t) hc hd eh ef es = absurd (omega (arith, ap (λ (h : EntryHeader). h.kind) eh, few_kinds b))
 same_change (Punch p off n at) (Rename u v t) hc hd eh ef es = absurd (omega (arith, ap (λ (h : EntryHeader). h.kind) eh))
@@ -181,6 +185,7 @@ same_change (Punch p off n at) (Truncate q m t) hc hd eh ef es = absurd (omega (
 same_change (Punch p off n at) (Write q g x t) hc hd eh ef es = absurd (omega (arith, ap (λ (h : EntryHeader). h.kind) eh))
 same_change (Punch p off n at) (Punch q g m t) hc hd eh ef es = let et = ap (λ (h : EntryHeader). h.at) eh in let eo = ap (λ (h : EntryHeader). h.offset) eh in let en = ap (λ (h : EntryHeader). h.count) eh in let ep = text_once p q hc.0 hd.0 ef in cc
 same_change (Punch p off n at) (SetMtime q t) hc hd eh ef es = absurd (omega (arith, ap (λ (h : EntryHeader). h.kind) eh))
+same_change (Punch p off n at) (CopyRange q g v m k t) hc hd eh ef es = absurd (omega (arith, ap (λ (h : EntryHeader). h.kind) eh))
 same_change (Punch p off n at) (Keep b r) hc hd eh ef es = absurd (omega (arith, ap (λ (h : EntryHeader). h.kind) eh, late_kinds b))
 same_change (SetMtime p at) (OnPath b q u) hc hd eh ef es = absurd (omega (arith, ap (λ (h : EntryHeader). h.kind) eh, few_kinds b))
 same_change (SetMtime p at) (Rename u v t) hc hd eh ef es = absurd (omega (arith, ap (λ (h : EntryHeader). h.kind) eh))
@@ -188,13 +193,31 @@ same_change (SetMtime p at) (Truncate q m t) hc hd eh ef es = absurd (omega (ari
 same_change (SetMtime p at) (Write q g x t) hc hd eh ef es = absurd (omega (arith, ap (λ (h : EntryHeader). h.kind) eh))
 same_change (SetMtime p at) (Punch q g m t) hc hd eh ef es = absurd (omega (arith, ap (λ (h : EntryHeader). h.kind) eh))
 same_change (SetMtime p at) (SetMtime q t) hc hd eh ef es = let et = ap (λ (h : EntryHeader). h.at) eh in let ep = text_once p q hc.0 hd.0 ef in cc
+same_change (SetMtime p at) (CopyRange q g v m k t) hc hd eh ef es = absurd (omega (arith, ap (λ (h : EntryHeader). h.kind) eh))
 same_change (SetMtime p at) (Keep b r) hc hd eh ef es = absurd (omega (arith, ap (λ (h : EntryHeader). h.kind) eh, last_kinds b))
+same_change (CopyRange p off q to n at) (OnPath b r t) hc hd eh ef es = absurd (omega (arith, ap (λ (h : EntryHeader). h.kind) eh, few_kinds b))
+same_change (CopyRange p off q to n at) (Rename u v t) hc hd eh ef es = absurd (omega (arith, ap (λ (h : EntryHeader). h.kind) eh))
+same_change (CopyRange p off q to n at) (Truncate r m t) hc hd eh ef es = absurd (omega (arith, ap (λ (h : EntryHeader). h.kind) eh))
+same_change (CopyRange p off q to n at) (Write r g x t) hc hd eh ef es = absurd (omega (arith, ap (λ (h : EntryHeader). h.kind) eh))
+same_change (CopyRange p off q to n at) (Punch r g m t) hc hd eh ef es = absurd (omega (arith, ap (λ (h : EntryHeader). h.kind) eh))
+same_change (CopyRange p off q to n at) (SetMtime r t) hc hd eh ef es = absurd (omega (arith, ap (λ (h : EntryHeader). h.kind) eh))
+same_change (CopyRange p off q to n at) (CopyRange r g v m k t) hc hd eh ef es =
+    let et = ap (λ (h : EntryHeader). h.at) eh in
+    let eo = ap (λ (h : EntryHeader). h.offset) eh in
+    let en = ap (λ (h : EntryHeader). h.count) eh in
+    let ep = text_once p r hc.0 hd.0 ef in
+    let parts = word_once to m (text_of q) (text_of v) hc.3 hd.3 es in
+    let em = parts.0 in
+    let eq = text_once q v hc.2 hd.2 parts.1 in
+    cc
+same_change (CopyRange p off q to n at) (Keep b r) hc hd eh ef es = absurd (omega (arith, ap (λ (h : EntryHeader). h.kind) eh, last_kinds b))
 same_change (Keep a s) (OnPath b q t) hc hd eh ef es = absurd (omega (arith, ap (λ (h : EntryHeader). h.kind) eh, late_kinds a, few_kinds b))
 same_change (Keep a s) (Rename u v t) hc hd eh ef es = absurd (omega (arith, ap (λ (h : EntryHeader). h.kind) eh, late_kinds a))
 same_change (Keep a s) (Truncate q m t) hc hd eh ef es = absurd (omega (arith, ap (λ (h : EntryHeader). h.kind) eh, late_kinds a))
 same_change (Keep a s) (Write q g x t) hc hd eh ef es = absurd (omega (arith, ap (λ (h : EntryHeader). h.kind) eh, late_kinds a))
 same_change (Keep a s) (Punch q g m t) hc hd eh ef es = absurd (omega (arith, ap (λ (h : EntryHeader). h.kind) eh, late_kinds a))
 same_change (Keep a s) (SetMtime q t) hc hd eh ef es = absurd (omega (arith, ap (λ (h : EntryHeader). h.kind) eh, last_kinds a))
+same_change (Keep a s) (CopyRange q g v m k t) hc hd eh ef es = absurd (omega (arith, ap (λ (h : EntryHeader). h.kind) eh, last_kinds a))
 same_change (Keep a s) (Keep b r) hc hd eh ef es = let ek = keeping_kind_once a b (ap (λ (h : EntryHeader). h.kind) eh) in cc
 
 pub one_body : (cs ds : List WalEntry) → AllByRecursion IsChange cs → AllByRecursion IsChange ds → body_of cs ≡ body_of ds → cs ≡ ds

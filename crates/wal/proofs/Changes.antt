@@ -1,5 +1,5 @@
 -- Texts of paths, and the sizes of the parts of a change.
-use Rattle.std.proofs.Common.{◌≡◌, ◌≢◌, ⊎_elim, ℕ, ◌<◌, ◌≤◌, List, [], ◌∷◌, length, get_or, nat_le, true, Fits, w8, refl, ap, sym, ◌∙◌, arith, Ok, Err, IsOk, length-append}
+use Rattle.std.proofs.Common.{◌≡◌, ◌≢◌, ⊎_elim, ℕ, ◌<◌, ◌≤◌, List, [], ◌∷◌, ◌++◌, length, get_or, nat_le, true, Fits, w8, refl, ap, sym, ◌∙◌, arith, Ok, Err, IsOk, length-append}
 use Rattle.std.specs.List.{list_all}
 use Rattle.std.proofs.lemmas.Bool.{and_parts}
 use Rattle.std.proofs.lemmas.Bool.Decides.{nat_tests}
@@ -13,10 +13,11 @@ use Rattle.pathkey.specs.declared.errno.Errno.{Errno}
 use Rattle.pathkey.specs.declared.errno.Errno.TheVariants.{ENOMEM}
 use Rattle.pathkey.proofs.TextFacts.{only_texts, read_back}
 use Rattle.wal.specs.declared.wal_entry.WalEntry.{WalEntry}
-use Rattle.wal.specs.declared.wal_entry.WalEntry.TheVariants.{OnPath, Rename, Truncate, Write, Punch, SetMtime, Keep}
+use Rattle.wal.specs.declared.wal_entry.WalEntry.TheVariants.{OnPath, Rename, Truncate, Write, Punch, SetMtime, CopyRange, Keep}
 use Rattle.wal.specs.declared.wal_entry.SnapshotCall.TheVariants.{Snapshot, Remove, Restore}
 use Rattle.reference.specs.declared.path_call.PathCall.TheVariants.{Mkdir, Create, Unlink, Rmdir, Rmtree}
-use Rattle.wal.specs.Entries.{IsChange, IsHead, IsNoText, IsWord, first_of, head_of, second_of}
+use Rattle.wal.specs.Entries.{IsChange, IsHead, IsNoTarget, IsNoText, IsWord, first_of, head_of, second_of, word}
+use Rattle.wal.proofs.Cuts.{after_word, word_once}
 
 -- ---- texts of paths
 
@@ -46,9 +47,23 @@ len_slashed : (p : Path) → length (slashed p) ≡ text_len p
 len_slashed [] = refl
 len_slashed (n ∷ p) = omega (arith, length-append n (slashed p), len_slashed p)
 
+few_bytes : (p : Path) → IsPath p → length (text_of p) ≤ 1023
+few_bytes [] h = omega arith
+few_bytes (n ∷ p) h = let size = len_slashed (n ∷ p) in let few = h.fits in omega arith
+
 short_text : (p : Path) → IsPath p → IsWord (length (text_of p))
-short_text [] h = omega arith
-short_text (n ∷ p) h = let size = len_slashed (n ∷ p) in let few = h.fits in omega arith
+short_text p h = let few = few_bytes p h in omega arith
+
+short_target : (n : ℕ) (p : Path) → IsPath p → IsWord (length (word n ++ text_of p))
+short_target n p h = let few = few_bytes p h in let size = after_word n (word n ++ text_of p) (text_of p) refl in omega arith
+
+-- ---- offsets before texts of paths
+
+pub no_offset : (text : List ℕ) → length text < 8 → IsNoTarget text
+no_offset text few = λ n p fits is same. let size = after_word n text (text_of p) (sym same) in omega (arith, size, few)
+
+pub no_target : (text rest : List ℕ) (m : ℕ) → text ≡ word m ++ rest → IsWord m → IsNoText rest → IsNoTarget text
+no_target text rest m split small none = λ n p fits is same. let parts = word_once n m (text_of p) rest fits small (same ∙ split) in none p is parts.1
 
 -- ---- sizes
 
@@ -76,6 +91,7 @@ fit (Truncate p len at) h = record { head = record { kind = omega arith; at = h.
 fit (Write p off w at) h = record { head = record { kind = omega arith; at = h.3; offset = h.1; count = omega arith }; first_fits = short_text p h.0; second_fits = h.2 }
 fit (Punch p off n at) h = record { head = record { kind = omega arith; at = h.3; offset = h.1; count = h.2 }; first_fits = short_text p h.0; second_fits = omega arith }
 fit (SetMtime p at) h = record { head = record { kind = omega arith; at = h.1; offset = omega arith; count = omega arith }; first_fits = short_text p h.0; second_fits = omega arith }
+fit (CopyRange p off q to n at) h = record { head = record { kind = omega arith; at = h.5; offset = h.1; count = h.4 }; first_fits = short_text p h.0; second_fits = short_target to q h.2 }
 fit (Keep Snapshot s) h = record { head = record { kind = omega arith; at = omega arith; offset = omega arith; count = omega arith }; first_fits = short_name s h; second_fits = omega arith }
 fit (Keep Remove s) h = record { head = record { kind = omega arith; at = omega arith; offset = omega arith; count = omega arith }; first_fits = short_name s h; second_fits = omega arith }
 fit (Keep Restore s) h = record { head = record { kind = omega arith; at = omega arith; offset = omega arith; count = omega arith }; first_fits = short_name s h; second_fits = omega arith }

@@ -16,7 +16,7 @@ use Rattle.textio.specs.Values.{number_of, path_of}
 use Rattle.textio.proofs.WordFacts.{more_words, one_word}
 use Rattle.textio.proofs.Written.{all_visible, bytes_reported, hex_text_visible, number_reported, path_read, root_read}
 use Rattle.wal.specs.Entries.{IsWord}
-use Rattle.wal.specs.declared.wal_entry.WalEntry.TheVariants.{OnPath, Rename, Truncate, Write, Punch, SetMtime, Keep}
+use Rattle.wal.specs.declared.wal_entry.WalEntry.TheVariants.{OnPath, Rename, Truncate, Write, Punch, SetMtime, CopyRange, Keep}
 use Rattle.wal.specs.declared.wal_entry.SnapshotCall.{SnapshotCall}
 use Rattle.wal.specs.declared.wal_entry.SnapshotCall.TheVariants.{Snapshot, Remove, Restore}
 use Rattle.reference.specs.declared.path_call.PathCall.{PathCall}
@@ -99,6 +99,10 @@ three_words x y z u v w = more_words (x ++ 32 ∷ (y ++ 32 ∷ z)) x (y ++ 32 �
 four_words : (w x y z : Text) → Visible w → Visible x → Visible y → Visible z → words_of (w ++ 32 ∷ (x ++ 32 ∷ (y ++ 32 ∷ z))) ≡ w ∷ x ∷ y ∷ z ∷ []
 four_words w x y z t u v s = more_words (w ++ 32 ∷ (x ++ 32 ∷ (y ++ 32 ∷ z))) w (x ++ 32 ∷ (y ++ 32 ∷ z)) refl (no_space w t) ∙ ap (λ ws. w ∷ ws) (three_words x y z u v s)
 
+-- a word more before others
+word_before : (x rest : Text) (ws : List Text) → Visible x → words_of rest ≡ ws → words_of (x ++ 32 ∷ rest) ≡ x ∷ ws
+word_before x rest ws v e = more_words (x ++ 32 ∷ rest) x rest refl (no_space x v) ∙ ap (λ ys. x ∷ ys) e
+
 path_word_read : (p : Path) → IsPath p → path_of (path_word p) ≡ Ok p
 path_word_read [] is = root_read
 path_word_read (n ∷ p) is = path_read (n ∷ p) is (λ e. cc)
@@ -141,6 +145,22 @@ is_read (Makes (SetMtime p at)) h = (
       ∙ ap (λ ws. codes "#" ∷ ws) (three_words (codes "mtime") (path_word p) (decimal at) (seen (codes "mtime") refl) (path_word_visible p) (decimal_visible at h.1)),
   path_word_read p h.0,
   number_read at h.1,
+)
+is_read (Makes (CopyRange p off q to n at)) h = (
+  path_word p,
+  decimal off,
+  path_word q,
+  decimal to,
+  decimal n,
+  word_before (codes "#") _ _ (seen (codes "#") refl)
+      (word_before (codes "copy") _ _ (seen (codes "copy") refl)
+      (word_before (path_word p) _ _ (path_word_visible p)
+      (four_words (decimal off) (path_word q) (decimal to) (decimal n) (decimal_visible off h.1) (path_word_visible q) (decimal_visible to h.3) (decimal_visible n h.4)))),
+  path_word_read p h.0,
+  number_read off h.1,
+  path_word_read q h.2,
+  number_read to h.3,
+  number_read n h.4,
 )
 is_read (Makes (Keep what s)) h = two_words (keeping_word what) s (keeping_visible what) (snap_visible s (and_parts _ _ h).1)
 
@@ -200,6 +220,17 @@ is_short (Makes (SetMtime p at)) h =
     let a = path_word_short p h.0 in
     let d = decimal_short at h.1 in
     omega (arith, l, a, d)
+is_short (Makes (CopyRange p off q to n at)) h =
+    let l = spaced_length (path_word p) (decimal off ++ 32 ∷ (path_word q ++ 32 ∷ (decimal to ++ 32 ∷ decimal n))) in
+    let k = spaced_length (decimal off) (path_word q ++ 32 ∷ (decimal to ++ 32 ∷ decimal n)) in
+    let j = spaced_length (path_word q) (decimal to ++ 32 ∷ decimal n) in
+    let i = spaced_length (decimal to) (decimal n) in
+    let a = path_word_short p h.0 in
+    let b = path_word_short q h.2 in
+    let d = decimal_short off h.1 in
+    let e = decimal_short to h.3 in
+    let f = decimal_short n h.4 in
+    omega (arith, l, k, j, i, a, b, d, e, f)
 is_short (Makes (Keep what s)) h =
     let l = spaced_length (keeping_word what) s in
     let w = keeping_short what in
@@ -242,6 +273,13 @@ all_unbroken (Makes (SetMtime p at)) h =
     spaced (codes "#") (codes "mtime " ++ (path_word p ++ 32 ∷ decimal at)) (unbroken (codes "#") (seen (codes "#") refl))
     (spaced (codes "mtime") (path_word p ++ 32 ∷ decimal at) (unbroken (codes "mtime") (seen (codes "mtime") refl))
     (spaced (path_word p) (decimal at) (path_unbroken p) (decimal_unbroken at h.1)))
+all_unbroken (Makes (CopyRange p off q to n at)) h =
+    let numbers = spaced (decimal to) (decimal n) (decimal_unbroken to h.3) (decimal_unbroken n h.4) in
+    let target = spaced (path_word q) (decimal to ++ 32 ∷ decimal n) (path_unbroken q) numbers in
+    let behind = spaced (decimal off) (path_word q ++ 32 ∷ (decimal to ++ 32 ∷ decimal n)) (decimal_unbroken off h.1) target in
+    let places = spaced (path_word p) (decimal off ++ 32 ∷ (path_word q ++ 32 ∷ (decimal to ++ 32 ∷ decimal n))) (path_unbroken p) behind in
+    let words = spaced (codes "copy") (path_word p ++ 32 ∷ (decimal off ++ 32 ∷ (path_word q ++ 32 ∷ (decimal to ++ 32 ∷ decimal n)))) (unbroken (codes "copy") (seen (codes "copy") refl)) places in
+    spaced (codes "#") (codes "copy " ++ (path_word p ++ 32 ∷ (decimal off ++ 32 ∷ (path_word q ++ 32 ∷ (decimal to ++ 32 ∷ decimal n))))) (unbroken (codes "#") (seen (codes "#") refl)) words
 all_unbroken (Makes (Keep what s)) h = spaced (keeping_word what) s (unbroken (keeping_word what) (keeping_visible what)) (unbroken s (snap_visible s (and_parts _ _ h).1))
 
 pub is_one : (t : DumpLine) → Fits t → All (λ b. b ≢ 10) (spelled t)

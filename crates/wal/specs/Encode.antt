@@ -6,7 +6,7 @@ use Rattle.pathkey.specs.declared.errno.Errno.{Errno}
 use Rattle.pathkey.specs.declared.errno.Errno.TheVariants.{ENOMEM}
 use Rattle.wal.specs.Entries.{printed}
 use Rattle.wal.specs.declared.wal_entry.WalEntry.{WalEntry}
-use Rattle.wal.specs.declared.wal_entry.WalEntry.TheVariants.{Rename}
+use Rattle.wal.specs.declared.wal_entry.WalEntry.TheVariants.{CopyRange, Rename}
 
 -- the buffer with the bytes at its front if they fit, and otherwise unchanged
 abbrev pub encoded : List ℕ → List ℕ → List ℕ
@@ -21,6 +21,11 @@ asked change (Err e) = Err e
 abbrev pub moved : ℕ → Result Path Errno → Result Path Errno → Result WalEntry Errno
 moved at (Ok o) n = asked (λ p. Rename o p at) n
 moved at (Err e) n = Err e
+
+-- the copy between two paths that were read, or why there is none, in the same order
+abbrev pub copied : ℕ → ℕ → ℕ → ℕ → Result Path Errno → Result Path Errno → Result WalEntry Errno
+copied off to n at (Ok p) q = asked (λ x. CopyRange p off x to n at) q
+copied off to n at (Err e) q = Err e
 
 -- the buffer has the bytes if they fit, and the result is their length; or it failed, and nothing changed
 abbrev pub EncodesBytes : {E : Type 0} → List ℕ → Result ℕ E → List ℕ → List ℕ → Type 0

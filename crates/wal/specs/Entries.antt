@@ -8,7 +8,7 @@ use Rattle.pathkey.specs.Texts.{text_of}
 use Rattle.pathkey.specs.declared.errno.Errno.{Errno}
 use Rattle.pathkey.specs.declared.errno.Errno.TheVariants.{EINVAL, ENOMEM}
 use Rattle.wal.specs.declared.wal_entry.WalEntry.{WalEntry}
-use Rattle.wal.specs.declared.wal_entry.WalEntry.TheVariants.{OnPath, Rename, Truncate, Write, Punch, SetMtime, Keep}
+use Rattle.wal.specs.declared.wal_entry.WalEntry.TheVariants.{OnPath, Rename, Truncate, Write, Punch, SetMtime, CopyRange, Keep}
 use Rattle.wal.specs.declared.wal_entry.SnapshotCall.{SnapshotCall}
 use Rattle.wal.specs.declared.wal_entry.SnapshotCall.TheVariants.{Snapshot, Remove, Restore}
 use Rattle.reference.specs.declared.path_call.PathCall.{PathCall}
@@ -53,6 +53,7 @@ head_of (Truncate p len at) = record { kind = 7; at = at; offset = len; count = 
 head_of (Write p off w at) = record { kind = 8; at = at; offset = off; count = 0 }
 head_of (Punch p off n at) = record { kind = 9; at = at; offset = off; count = n }
 head_of (SetMtime p at) = record { kind = 13; at = at; offset = 0; count = 0 }
+head_of (CopyRange p off q to n at) = record { kind = 14; at = at; offset = off; count = n }
 head_of (Keep what s) = record { kind = keeping_kind what; at = 0; offset = 0; count = 0 }
 
 -- the first text: the change's path, or the name of the snapshot
@@ -63,12 +64,14 @@ first_of (Truncate p len at) = text_of p
 first_of (Write p off w at) = text_of p
 first_of (Punch p off n at) = text_of p
 first_of (SetMtime p at) = text_of p
+first_of (CopyRange p off q to n at) = text_of p
 first_of (Keep what s) = s
 
--- the second text: the new path of a rename, or the bytes of a write
+-- the second text: the new path of a rename, the bytes of a write, or the offset and path to which a copy goes
 abbrev pub second_of : WalEntry → List ℕ
 second_of (Rename o n at) = text_of n
 second_of (Write p off w at) = w
+second_of (CopyRange p off q to n at) = word to ++ text_of q
 second_of _ = []
 
 abbrev pub printed : WalEntry → List ℕ
@@ -97,6 +100,7 @@ IsChange (Truncate p len at) = IsPath p × IsWord len × IsWord at
 IsChange (Write p off w at) = IsPath p × IsWord off × IsWord (length w) × IsWord at
 IsChange (Punch p off n at) = IsPath p × IsWord off × IsWord n × IsWord at
 IsChange (SetMtime p at) = IsPath p × IsWord at
+IsChange (CopyRange p off q to n at) = IsPath p × IsWord off × IsPath q × IsWord to × IsWord n × IsWord at
 IsChange (Keep what s) = is_snap_name s ≡ true
 
 -- ---- how bytes are decoded
@@ -111,6 +115,10 @@ Refuses IsNone e = ((e ≡ EINVAL) × IsNone) ⊎ (e ≡ ENOMEM)
 
 abbrev pub IsNoText : List ℕ → Type 0
 IsNoText text = (p : Path) → IsPath p → text_of p ≢ text
+
+-- no offset stands at its front with the text of a path behind
+abbrev pub IsNoTarget : List ℕ → Type 0
+IsNoTarget text = (n : ℕ) (p : Path) → IsWord n → IsPath p → word n ++ text_of p ≢ text
 
 abbrev pub IsNoName : List ℕ → Type 0
 IsNoName text = is_snap_name text ≢ true

@@ -4,7 +4,7 @@ use Rattle.pathkey.specs.Names.{Path}
 use Rattle.reference.specs.Image.{Text, path_text}
 use Rattle.textio.specs.Texts.{hex_text}
 use Rattle.wal.specs.declared.wal_entry.WalEntry.{WalEntry}
-use Rattle.wal.specs.declared.wal_entry.WalEntry.TheVariants.{OnPath, Rename, Truncate, Write, Punch, SetMtime, Keep}
+use Rattle.wal.specs.declared.wal_entry.WalEntry.TheVariants.{OnPath, Rename, Truncate, Write, Punch, SetMtime, CopyRange, Keep}
 use Rattle.wal.specs.declared.wal_entry.SnapshotCall.{SnapshotCall}
 use Rattle.wal.specs.declared.wal_entry.SnapshotCall.TheVariants.{Snapshot, Remove, Restore}
 use Rattle.reference.specs.declared.path_call.PathCall.{PathCall}
@@ -42,6 +42,7 @@ spelled (Makes (Truncate p len at)) = codes "truncate " ++ (path_word p ++ 32 �
 spelled (Makes (Write p off w at)) = codes "write " ++ (path_word p ++ 32 ∷ (decimal off ++ 32 ∷ hex_text w))
 spelled (Makes (Punch p off n at)) = codes "# punch " ++ (path_word p ++ 32 ∷ (decimal off ++ 32 ∷ decimal n))
 spelled (Makes (SetMtime p at)) = codes "# mtime " ++ (path_word p ++ 32 ∷ decimal at)
+spelled (Makes (CopyRange p off q to n at)) = codes "# copy " ++ (path_word p ++ 32 ∷ (decimal off ++ 32 ∷ (path_word q ++ 32 ∷ (decimal to ++ 32 ∷ decimal n))))
 spelled (Makes (Keep what s)) = keeping_word what ++ 32 ∷ s
 
 abbrev pub line : DumpLine → Text

@@ -10,8 +10,9 @@ use Rattle.reference.specs.declared.call.Call.TheVariants as ask
 use Rattle.reference.specs.declared.reply.Reply.TheVariants.{Fault}
 use Rattle.wal.specs.Entries.{RefusesBody, body_of}
 use Rattle.wal.specs.declared.wal_entry.WalEntry.{WalEntry}
-use Rattle.wal.specs.declared.wal_entry.WalEntry.TheVariants.{OnPath, Rename, Truncate, Write, Punch, SetMtime, Keep}
+use Rattle.wal.specs.declared.wal_entry.WalEntry.TheVariants.{OnPath, Rename, Truncate, Write, Punch, SetMtime, CopyRange, Keep}
 use Rattle.wal.specs.declared.wal_entry.SnapshotCall.TheVariants.{Snapshot, Remove, Restore}
+use Rattle.volume.specs.Copies.{copy_in}
 use Rattle.volume.specs.Holes.{hole_in}
 use Rattle.volume.specs.Mtimes.{with_mtime}
 use Rattle.volume.specs.Volumes.{PVolume, Means}
@@ -29,6 +30,7 @@ effect_in w (Truncate p len at) = Happens (Ask (ask.Truncate p len) at)
 effect_in w (Write p off bytes at) = Happens (Ask (ask.Write p off bytes) at)
 effect_in w (Punch p off n at) = Happens (hole_in p off n at w)
 effect_in w (SetMtime p at) = HasMtime p at
+effect_in w (CopyRange p off q to n at) = Happens (copy_in p off q to n at w)
 effect_in w (Keep Snapshot s) = Happens (TakeSnapshot s)
 effect_in w (Keep Remove s) = Happens (DropSnapshot s)
 effect_in w (Keep Restore s) = Happens (RestoreSnapshot s)

@@ -29,6 +29,9 @@ pub(crate) fn apply_entry(
             settled(volume.punch(alloc, path, *offset, *count, *at))
         }
         WalEntry::SetMtime(path, at) => volume.set_mtime(alloc, path, *at),
+        WalEntry::CopyRange(from, offset, to, target, count, at) => {
+            settled(volume.copy_range(alloc, from, *offset, to, *target, *count, *at))
+        }
         WalEntry::Keep(what, name) => keep(alloc, volume, *what, name),
     }
 }

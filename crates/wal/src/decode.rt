@@ -4,10 +4,11 @@
 //! and nothing is skipped.
 ghost use Rattle.std.specs.Prelude.{◌≡◌, ◌≢◌, ◌⊎◌, ◌++◌, ◌∷◌, MatchResult, OnOk, []};
 ghost use Rattle.pathkey.specs.declared.errno.Errno.TheVariants.{EINVAL, ENOMEM};
-ghost use Rattle.wal.specs.Entries.{IsNoName, IsNoText, ReadsEntry, RefusesBody, Refuses, body_of, has_no_numbers, keeping_kind, path_kind};
+ghost use Rattle.wal.specs.Entries.{IsNoName, IsNoTarget, IsNoText, ReadsEntry, RefusesBody, Refuses, body_of, has_no_numbers, keeping_kind, path_kind, word};
 ghost use Rattle.pathkey.specs.Texts.{text_of};
 
 use crate::entry::{EntryHeader, split_entry};
+use crate::u64_le::split_u64;
 use crate::wal_entry::{SnapshotCall, WalEntry};
 use bytes::Bytes;
 use pathkey::{Errno, NoMemory, Path, SnapName};
@@ -65,6 +66,7 @@ fn read_entry(
         11 => decode_snapshot_call(alloc, SnapshotCall::Remove, head, first, second),
         12 => decode_snapshot_call(alloc, SnapshotCall::Restore, head, first, second),
         13 => read_mtime(alloc, head, first, second),
+        14 => read_copy_range(alloc, head, first, second),
         _ => Err(Errno::EINVAL),
     }
 }
@@ -183,6 +185,21 @@ fn read_mtime(
     Ok(WalEntry::SetMtime(path, head.at))
 }
 
+// Decodes a copied range.
+fn read_copy_range(
+    alloc: Global,
+    head: EntryHeader,
+    first: &[u8],
+    second: &[u8],
+) -> Result<WalEntry, Errno>
+    requires { 14 ≡ head.kind }
+    ensures { ReadsEntry head first.now second.now result }
+{
+    let from = read_path(alloc, first)?;
+    let (target, to) = read_target(alloc, second)?;
+    Ok(WalEntry::CopyRange(from, head.offset, to, target, head.count, head.at))
+}
+
 // Decodes a snapshot call.
 fn decode_snapshot_call(
     alloc: Global,
@@ -209,6 +226,17 @@ fn read_path(alloc: Global, text: &[u8]) -> Result<Path, Errno>
         Ok(path) => Ok(path),
         Err(fault) => Err(refusal(fault)),
     }
+}
+
+// Parses the second text of a copied range: the offset in the target, and the target's path. Fails with EINVAL if it is none.
+fn read_target(alloc: Global, text: &[u8]) -> Result<(u64, Path), Errno>
+    ensures { MatchResult result (λ target. word target.0 ++ text_of target.1 ≡ text.now) (Refuses (IsNoTarget text.now)) }
+{
+    let Some((offset, rest)) = split_u64(text) else {
+        return Err(Errno::EINVAL);
+    };
+    let path = read_path(alloc, rest)?;
+    Ok((offset, path))
 }
 
 // The error for a text that is not a path: ENOMEM stays, and each other error becomes EINVAL.

@@ -6,9 +6,9 @@ ghost use Rattle.std.specs.Prelude.{◌≡◌, ◌++◌, IfErr, IfOk, OnOk, leng
 ghost use Rattle.pathkey.specs.SnapNames.{snap_parsed};
 ghost use Rattle.pathkey.specs.Texts.{parsed};
 ghost use Rattle.pathkey.specs.declared.errno.Errno.TheVariants.{ENOMEM};
-ghost use Rattle.wal.specs.Entries.{entry, entry_front, keeping_kind, numbers, path_kind};
+ghost use Rattle.wal.specs.Entries.{entry, entry_front, keeping_kind, numbers, path_kind, word};
 ghost use Rattle.wal.specs.Records.{digest, front};
-ghost use Rattle.wal.specs.Encode.{Checks, Encodes, EncodesBytes, asked, encoded, moved};
+ghost use Rattle.wal.specs.Encode.{Checks, Encodes, EncodesBytes, asked, copied, encoded, moved};
 
 use crate::entry::EntryHeader;
 use crate::record::record_frame;
@@ -136,6 +136,32 @@ pub fn encode_mtime(alloc: Global, path: &[u8], at: u64, out: &mut [u8]) -> Resu
     encode(alloc, head, path, &[], out)
 }
 
+/// Encodes a copy of `count` bytes from the first path and offset to the second. Fails with the error of a path's text, or
+/// with ENOMEM.
+pub fn encode_copy_range(
+    alloc: Global,
+    from: &[u8],
+    offset: u64,
+    to: &[u8],
+    target: u64,
+    count: u64,
+    at: u64,
+    out: &mut [u8],
+) -> Result<usize, Errno>
+    ensures { Encodes (copied offset target count at (parsed from.now) (parsed to.now)) result out.old out.new }
+{
+    check_path(alloc, from)?;
+    check_path(alloc, to)?;
+    let head = EntryHeader {
+        kind: 14,
+        at,
+        offset,
+        count,
+    };
+    let second = target_text(alloc, target, to)?;
+    encode(alloc, head, from, second.as_slice(), out)
+}
+
 /// Encodes a snapshot call: take, remove or restore. Fails with the error of the name's text, or with ENOMEM.
 pub fn encode_snapshot_call(
     alloc: Global,
@@ -177,6 +203,16 @@ fn check_path(alloc: Global, text: &[u8]) -> Result<(), Errno>
 {
     let _path = Path::parse(alloc, text)?;
     Ok(())
+}
+
+// The second text of a copied range: the offset in the target, and the target's path.
+fn target_text(alloc: Global, target: u64, to: &[u8]) -> Result<Vec<u8>, NoMemory>
+    ensures { IfOk result (λ text. text.items ≡ word target ++ to.now) }
+{
+    let mut text = Vec::with_capacity(alloc, 128)?;
+    push_u64(&mut text, target)?;
+    text.extend_from_slice(to)?;
+    Ok(text)
 }
 
 // The kind of the entry of a path call.

@@ -2,9 +2,9 @@
 //!
 //! The words of a line are parsed, in the terms of `textio`, as the change that was printed. No line is longer than a
 //! script allows.
-ghost use Rattle.std.specs.Prelude.{◌≡◌, ◌≤◌, ◌++◌, ℕ, OnOk, length};
+ghost use Rattle.std.specs.Prelude.{◌≡◌, ◌≤◌, ◌∷◌, ◌++◌, ℕ, OnOk, decimal, length};
 ghost use Rattle.wal.specs.declared.wal_entry.WalEntry.{WalEntry};
-ghost use Rattle.wal.specs.declared.wal_entry.WalEntry.TheVariants.{OnPath, Rename, Truncate, Write, Punch, SetMtime, Keep};
+ghost use Rattle.wal.specs.declared.wal_entry.WalEntry.TheVariants.{OnPath, Rename, Truncate, Write, Punch, SetMtime, CopyRange, Keep};
 ghost use Rattle.wal.specs.Added.{AddsLine};
 ghost use Rattle.wal.specs.Lines.{At, Makes, call_word, keeping_word, path_word};
 ghost use Rattle.pathkey.specs.Names.{IsPath};
@@ -104,6 +104,36 @@ pub(crate) fn put_mtime(text: &mut Vec<u8>, path: &Path, at: u64) -> Result<(), 
     put(text, b" ")?;
     put_number(text, at)?;
     put(text, b"\n")
+}
+
+// Appends the note of a copied range.
+pub(crate) fn put_copy_range(
+    text: &mut Vec<u8>,
+    from: &Path,
+    offset: u64,
+    to: &Path,
+    target: u64,
+    count: u64,
+) -> Result<(), WriteFailed>
+    ensures { OnOk result ((at : ℕ) → AddsLine (Makes (CopyRange from.now offset to.now target count at)) text.old.items text.new.items) }
+{
+    put(text, b"# copy ")?;
+    put_place(text, from, offset)?;
+    put(text, b" ")?;
+    put_place(text, to, target)?;
+    put(text, b" ")?;
+    put_number(text, count)?;
+    put(text, b"\n")
+}
+
+// Appends the text of a path and an offset in its file.
+fn put_place(text: &mut Vec<u8>, path: &Path, offset: u64) -> Result<(), WriteFailed>
+    ensures valid { IsPath path.now }
+    ensures word { OnOk result (text.new.items ≡ text.old.items ++ (path_word path.now ++ 32 ∷ decimal offset)) }
+{
+    put_path_word(text, path)?;
+    put(text, b" ")?;
+    put_number(text, offset)
 }
 
 // Appends the line of a snapshot call.

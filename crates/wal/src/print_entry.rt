@@ -4,7 +4,8 @@ ghost use Rattle.wal.specs.Added.{Adds, AddsParts};
 ghost use Rattle.wal.specs.Dump.{exceeds_range};
 
 use crate::print::{
-    put_hole, put_keep, put_moment, put_mtime, put_on_path, put_rename, put_truncate, put_write,
+    put_copy_range, put_hole, put_keep, put_moment, put_mtime, put_on_path, put_rename,
+    put_truncate, put_write,
 };
 use crate::wal_entry::WalEntry;
 use pathkey::Path;
@@ -47,6 +48,9 @@ pub(crate) fn put_change(text: &mut Vec<u8>, change: &WalEntry) -> Result<(), Wr
         }
         WalEntry::Punch(path, offset, count, _) => put_hole(text, path, *offset, *count),
         WalEntry::SetMtime(path, at) => put_mtime(text, path, *at),
+        WalEntry::CopyRange(from, offset, to, target, count, _) => {
+            put_copy_range(text, from, *offset, to, *target, *count)
+        }
         WalEntry::Keep(what, name) => put_keep(text, *what, name),
     }
 }

@@ -30,6 +30,9 @@ pub enum WalEntry {
     Punch(Path, u64, u64, u64),
     /// Sets the mtime of the entry at a path.
     SetMtime(Path, u64),
+    /// Copies bytes from the first path and offset to the second path and offset: the given number, as far as the first file
+    /// reaches.
+    CopyRange(Path, u64, Path, u64, u64, u64),
     /// Takes, removes or restores the snapshot of a name.
     Keep(SnapshotCall, SnapName),
 }

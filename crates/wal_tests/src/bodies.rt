@@ -1,11 +1,11 @@
 //! Tests of encoding changes and decoding them again, against bytes that were written by hand.
-use crate::log_by_hand::{FIRST_BODY, SECOND_BODY, THIRD_BODY};
+use crate::log_by_hand::{COPY_BODY, FIRST_BODY, SECOND_BODY, THIRD_BODY};
 use pathkey::Errno;
 use std::alloc::Global;
 use std::test::Fail;
 use wal::encode::{
-    encode_mtime, encode_path_call, encode_punch, encode_rename, encode_snapshot_call,
-    encode_truncate, encode_write,
+    encode_copy_range, encode_mtime, encode_path_call, encode_punch, encode_rename,
+    encode_snapshot_call, encode_truncate, encode_write,
 };
 use wal::{PathCall, SnapshotCall, WalEntry, decode_entries};
 
@@ -28,6 +28,8 @@ fn encoded_as_by_hand(rt: HostRuntime) -> Result<(), Fail> {
     assert!(rt; are_encoded(encoded, &room, &SECOND_BODY[52..]));
     let encoded = encode_snapshot_call(rt.alloc(), SnapshotCall::Snapshot, b"s", &mut room);
     assert!(rt; are_encoded(encoded, &room, THIRD_BODY));
+    let encoded = encode_copy_range(rt.alloc(), b"/a", 4096, b"/bc", 8193, 3, 9, &mut room);
+    assert!(rt; are_encoded(encoded, &room, COPY_BODY));
     Ok(())
 }
 
@@ -77,6 +79,7 @@ fn reported_of_one(change: &WalEntry) -> u64 {
         WalEntry::Truncate(_, 12, at) => numbered(500, *at),
         WalEntry::Punch(_, 4096, 8192, at) => numbered(600, *at),
         WalEntry::SetMtime(_, at) => numbered(900, *at),
+        WalEntry::CopyRange(_, 4096, _, 8192, 5, at) => numbered(1000, *at),
         WalEntry::Keep(keeping, _) => reported_of_keeping(*keeping),
         _ => 1,
     }
@@ -107,6 +110,8 @@ fn decoded_as_they_were_encoded(rt: HostRuntime) -> Result<(), Fail> {
     assert_eq!(rt; reported(rt.alloc(), encoded, &room), 606);
     let encoded = encode_mtime(rt.alloc(), b"/a", 7, &mut room);
     assert_eq!(rt; reported(rt.alloc(), encoded, &room), 907);
+    let encoded = encode_copy_range(rt.alloc(), b"/a", 4096, b"/b", 8192, 5, 8, &mut room);
+    assert_eq!(rt; reported(rt.alloc(), encoded, &room), 1008);
     let encoded = encode_snapshot_call(rt.alloc(), SnapshotCall::Remove, b"s", &mut room);
     assert_eq!(rt; reported(rt.alloc(), encoded, &room), 700);
     let encoded = encode_snapshot_call(rt.alloc(), SnapshotCall::Restore, b"s", &mut room);
@@ -129,6 +134,10 @@ fn refused_texts(rt: HostRuntime) -> Result<(), Fail> {
     assert!(rt; ends_so(encoded, Err(Errno::EINVAL)));
     let encoded = encode_rename(rt.alloc(), b"/a", b"b", 1, &mut room);
     assert!(rt; ends_so(encoded, Err(Errno::EINVAL)));
+    let encoded = encode_copy_range(rt.alloc(), b"", 0, b"b", 0, 1, 1, &mut room);
+    assert!(rt; ends_so(encoded, Err(Errno::ENOENT)));
+    let encoded = encode_copy_range(rt.alloc(), b"/a", 0, b"b", 0, 1, 1, &mut room);
+    assert!(rt; ends_so(encoded, Err(Errno::EINVAL)));
     let encoded = encode_snapshot_call(rt.alloc(), SnapshotCall::Snapshot, b"", &mut room);
     assert!(rt; ends_so(encoded, Err(Errno::EINVAL)));
     // An empty buffer: only the size is returned.
@@ -150,12 +159,21 @@ fn count(alloc: Global, body: &[u8]) -> Result<usize, Errno> {
 /// its error.
 type Row = (&'static [u8], usize, usize, u8, Result<usize, Errno>);
 
-const ROWS: [Row; 13] = [
+const ROWS: [Row; 20] = [
     (b"", 0, 0, 0, Ok(0)),
     (SECOND_BODY, SECOND_BODY.len(), 999, 0, Ok(2)),
-    // The kinds are 1 to 13.
+    // The kinds are 1 to 14.
     (FIRST_BODY, FIRST_BODY.len(), 0, 0, Err(Errno::EINVAL)),
+    (FIRST_BODY, FIRST_BODY.len(), 0, 15, Err(Errno::EINVAL)),
+    // A copy to no offset, and with any numbers.
     (FIRST_BODY, FIRST_BODY.len(), 0, 14, Err(Errno::EINVAL)),
+    (COPY_BODY, COPY_BODY.len(), 24, 255, Ok(1)),
+    (COPY_BODY, COPY_BODY.len(), 57, 255, Ok(1)),
+    // To an offset alone, to no path, and cut off.
+    (COPY_BODY, 58, 40, 8, Err(Errno::EINVAL)),
+    (COPY_BODY, 57, 40, 7, Err(Errno::EINVAL)),
+    (COPY_BODY, COPY_BODY.len(), 58, b'b', Err(Errno::EINVAL)),
+    (COPY_BODY, 60, 999, 0, Err(Errno::EINVAL)),
     (FIRST_BODY, FIRST_BODY.len(), 0, 5, Ok(1)),
     // A number that the change does not have.
     (FIRST_BODY, FIRST_BODY.len(), 16, 1, Err(Errno::EINVAL)),

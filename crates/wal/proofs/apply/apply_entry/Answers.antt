@@ -1,10 +1,11 @@
 use Rattle.std.proofs.Common.{refl, sym, subst}
 use Rattle.wal.specs.declared.wal_entry.WalEntry.{WalEntry}
-use Rattle.wal.specs.declared.wal_entry.WalEntry.TheVariants.{OnPath, Rename, Truncate, Write, Punch, SetMtime}
+use Rattle.wal.specs.declared.wal_entry.WalEntry.TheVariants.{OnPath, Rename, Truncate, Write, Punch, SetMtime, CopyRange}
 use Rattle.reference.specs.PathCalls.{call_at}
 use Rattle.reference.specs.Worlds.{Ask, Replied}
 use Rattle.reference.specs.declared.call.Call.TheVariants as ask
 use Rattle.reference.specs.declared.reply.Reply.TheVariants.{Count, Done}
+use Rattle.volume.specs.Copies.{copy_in}
 use Rattle.volume.specs.Holes.{hole_in}
 use Rattle.volume.specs.Typed.{replied}
 use Rattle.wal.specs.Runs.{Makes}
@@ -50,3 +51,10 @@ pub returns-in-SetMtime : goal.returns-in-SetMtime
 returns-in-SetMtime c =
     subst (λ (x : WalEntry). Makes x c.set_mtime.result c.args.volume.now c.set_mtime.new.self) (sym c.in-SetMtime.is)
     (mtime_makes c.in-SetMtime.path c.in-SetMtime.at c.set_mtime.result c.args.volume.now c.set_mtime.new.self c.set_mtime.ensures)
+
+pub returns-in-CopyRange : goal.returns-in-CopyRange
+returns-in-CopyRange c =
+    let this : WalEntry = CopyRange c.in-CopyRange.from c.in-CopyRange.offset c.in-CopyRange.to c.in-CopyRange.target c.in-CopyRange.count c.in-CopyRange.at in
+    subst (λ (x : WalEntry). Makes x c.settled-in-CopyRange.result c.args.volume.now c.copy_range.new.self) (sym c.in-CopyRange.is)
+    (counted_makes this c.copy_range.result c.settled-in-CopyRange.result c.args.volume.now c.copy_range.new.self c.settled-in-CopyRange.ensures
+    (answers_from this (λ w. copy_in c.in-CopyRange.from c.in-CopyRange.offset c.in-CopyRange.to c.in-CopyRange.target c.in-CopyRange.count c.in-CopyRange.at w) (Replied (replied (λ n. Count n) c.copy_range.result)) c.args.volume.now c.copy_range.new.self (λ w. refl) c.copy_range.ensures.leads) c.copy_range.ensures.refused)

@@ -1,7 +1,7 @@
 use Rattle.std.proofs.Common.{ℕ, List, refl, sym, subst, OnOk}
 use Rattle.std.proofs.lemmas.Result.{on_ok_weaker}
 use Rattle.wal.specs.declared.wal_entry.WalEntry.{WalEntry}
-use Rattle.wal.specs.declared.wal_entry.WalEntry.TheVariants.{OnPath, Rename, Truncate, Punch, SetMtime, Keep}
+use Rattle.wal.specs.declared.wal_entry.WalEntry.TheVariants.{OnPath, Rename, Truncate, Punch, SetMtime, CopyRange, Keep}
 use Rattle.wal.specs.Added.{Adds, AddsParts}
 use Rattle.wal.proofs.Adding.{adds_one, adds_two, adds_write}
 use Rattle.wal.proofs.print_entry.put_change.Goals as goal
@@ -50,6 +50,13 @@ pub returns-in-SetMtime : goal.returns-in-SetMtime
 returns-in-SetMtime c =
     subst (λ (x : WalEntry). OnOk c.put_mtime.result (Adds x c.args.text.now.items c.put_mtime.new.text.items)) (sym c.in-SetMtime.is)
     (on_ok_weaker c.put_mtime.result (λ h. adds_one (SetMtime c.in-SetMtime.path c.in-SetMtime.at) c.args.text.now.items c.put_mtime.new.text.items refl h) c.put_mtime.ensures)
+
+pub returns-in-CopyRange : goal.returns-in-CopyRange
+returns-in-CopyRange c =
+    let at : ℕ = c.in-CopyRange.field-5 in
+    let this : WalEntry = CopyRange c.in-CopyRange.from c.in-CopyRange.offset c.in-CopyRange.to c.in-CopyRange.target c.in-CopyRange.count at in
+    subst (λ (x : WalEntry). OnOk c.put_copy_range.result (Adds x c.args.text.now.items c.put_copy_range.new.text.items)) (sym c.in-CopyRange.is)
+    (on_ok_weaker c.put_copy_range.result (λ h. adds_one this c.args.text.now.items c.put_copy_range.new.text.items refl (h at)) c.put_copy_range.ensures)
 
 pub returns-in-Keep : goal.returns-in-Keep
 returns-in-Keep c =

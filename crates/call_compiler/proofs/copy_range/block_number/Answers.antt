@@ -1,6 +1,9 @@
+use Rattle.call_compiler.proofs.Sharing.{share_starts}
+use Rattle.call_compiler.proofs.OnCopies.{copy_is_done}
+use Rattle.call_compiler.proofs.Copying.{copy_overwrites}
 use Rattle.std.proofs.Common.{◌∙◌}
-use Rattle.volume.proofs.BlockNumbers.{number_read, short_key}
-use Rattle.volume.proofs.walk.block_number.Goals as goal
+use Rattle.call_compiler.proofs.BlockNumbers.{number_read, short_key}
+use Rattle.call_compiler.proofs.copy_range.block_number.Goals as goal
 
 pub returns-in_default : goal.returns-in_default
 returns-in_default c = λ p i fits is. absurd (short_key _ p i (c.as_bytes.ensures ∙ is) c.in_default.len_below)
