@@ -70,7 +70,6 @@ fn reported_as_by_hand(rt: HostRuntime) -> Result<(), Fail> {
 #[test]
 fn each_change_reported(rt: HostRuntime) -> Result<(), Fail> {
     let mut room = [0u8; 64];
-<<<<<<< ours
     let encoded = encode_path_call(rt.alloc(), PathCall::Unlink, b"/", 1, &mut room);
     assert!(rt; is_encoded_reported(rt.alloc(), encoded, &room, b"at 1\nunlink /\n"));
     let encoded = encode_rename(rt.alloc(), b"/a b", b"/%", 4, &mut room);
@@ -88,51 +87,12 @@ fn each_change_reported(rt: HostRuntime) -> Result<(), Fail> {
     assert!(rt; is_encoded_reported(rt.alloc(), encoded, &room, b"# punch /a 4096 8192\n"));
     let encoded = encode_mtime(rt.alloc(), b"/a b", 6, &mut room);
     assert!(rt; is_encoded_reported(rt.alloc(), encoded, &room, b"# mtime /a%20b 6\n"));
+    let encoded = encode_copy_range(rt.alloc(), b"/a b", 4096, b"/%", 8192, 5, 6, &mut room);
+    assert!(rt; is_encoded_reported(rt.alloc(), encoded, &room, b"# copy /a%20b 4096 /%25 8192 5\n"));
     let encoded = encode_snapshot_call(rt.alloc(), SnapshotCall::Remove, b"s", &mut room);
     assert!(rt; is_encoded_reported(rt.alloc(), encoded, &room, b"drop s\n"));
     let encoded = encode_snapshot_call(rt.alloc(), SnapshotCall::Restore, b"s", &mut room);
     assert!(rt; is_encoded_reported(rt.alloc(), encoded, &room, b"restore s\n"));
-||||||| base
-    let laid = encode_path_call(rt.alloc(), PathCall::Unlink, b"/", 1, &mut room);
-    assert!(rt; is_laid_reported(rt.alloc(), laid, &room, b"at 1\nunlink /\n"));
-    let laid = encode_rename(rt.alloc(), b"/a b", b"/%", 4, &mut room);
-    assert!(rt; is_laid_reported(rt.alloc(), laid, &room, b"at 4\nrename /a%20b /%25\n"));
-    let laid = encode_truncate(rt.alloc(), b"/a", 12, 5, &mut room);
-    assert!(rt; is_laid_reported(rt.alloc(), laid, &room, b"at 5\ntruncate /a 12\n"));
-    let laid = encode_write(rt.alloc(), b"/a", 7, b"", 6, &mut room);
-    assert!(rt; is_laid_reported(rt.alloc(), laid, &room, b"at 6\nwrite /a 7 -\n"));
-    let laid = encode_write(rt.alloc(), b"/a", u64::MAX, b"x", 6, &mut room);
-    assert_eq!(rt; fault_of_laid(rt.alloc(), laid, &room), Some(Errno::EFBIG));
-    let laid = encode_punch(rt.alloc(), b"/a", 4096, 8192, 6, &mut room);
-    assert!(rt; is_laid_reported(rt.alloc(), laid, &room, b"# punch /a 4096 8192\n"));
-    let laid = encode_mtime(rt.alloc(), b"/a b", 6, &mut room);
-    assert!(rt; is_laid_reported(rt.alloc(), laid, &room, b"# mtime /a%20b 6\n"));
-    let laid = encode_snapshot_call(rt.alloc(), SnapshotCall::Remove, b"s", &mut room);
-    assert!(rt; is_laid_reported(rt.alloc(), laid, &room, b"drop s\n"));
-    let laid = encode_snapshot_call(rt.alloc(), SnapshotCall::Restore, b"s", &mut room);
-    assert!(rt; is_laid_reported(rt.alloc(), laid, &room, b"restore s\n"));
-=======
-    let laid = encode_path_call(rt.alloc(), PathCall::Unlink, b"/", 1, &mut room);
-    assert!(rt; is_laid_reported(rt.alloc(), laid, &room, b"at 1\nunlink /\n"));
-    let laid = encode_rename(rt.alloc(), b"/a b", b"/%", 4, &mut room);
-    assert!(rt; is_laid_reported(rt.alloc(), laid, &room, b"at 4\nrename /a%20b /%25\n"));
-    let laid = encode_truncate(rt.alloc(), b"/a", 12, 5, &mut room);
-    assert!(rt; is_laid_reported(rt.alloc(), laid, &room, b"at 5\ntruncate /a 12\n"));
-    let laid = encode_write(rt.alloc(), b"/a", 7, b"", 6, &mut room);
-    assert!(rt; is_laid_reported(rt.alloc(), laid, &room, b"at 6\nwrite /a 7 -\n"));
-    let laid = encode_write(rt.alloc(), b"/a", u64::MAX, b"x", 6, &mut room);
-    assert_eq!(rt; fault_of_laid(rt.alloc(), laid, &room), Some(Errno::EFBIG));
-    let laid = encode_punch(rt.alloc(), b"/a", 4096, 8192, 6, &mut room);
-    assert!(rt; is_laid_reported(rt.alloc(), laid, &room, b"# punch /a 4096 8192\n"));
-    let laid = encode_mtime(rt.alloc(), b"/a b", 6, &mut room);
-    assert!(rt; is_laid_reported(rt.alloc(), laid, &room, b"# mtime /a%20b 6\n"));
-    let laid = encode_copy_range(rt.alloc(), b"/a b", 4096, b"/%", 8192, 5, 6, &mut room);
-    assert!(rt; is_laid_reported(rt.alloc(), laid, &room, b"# copy /a%20b 4096 /%25 8192 5\n"));
-    let laid = encode_snapshot_call(rt.alloc(), SnapshotCall::Remove, b"s", &mut room);
-    assert!(rt; is_laid_reported(rt.alloc(), laid, &room, b"drop s\n"));
-    let laid = encode_snapshot_call(rt.alloc(), SnapshotCall::Restore, b"s", &mut room);
-    assert!(rt; is_laid_reported(rt.alloc(), laid, &room, b"restore s\n"));
->>>>>>> theirs
     Ok(())
 }
 
