@@ -1,5 +1,5 @@
 //! Copies between files: a volume, with steps and snapshots between the calls, against the plain program, which reads and writes.
-use crate::asked::{SMALL, Snap, new_volume, snap_name};
+use crate::requests::{SMALL, Snap, new_volume, snap_name};
 use crate::look_alike::{is_reply, look_alike};
 use bytes::Bytes;
 use node::StepReply;
