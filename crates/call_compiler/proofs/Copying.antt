@@ -97,6 +97,11 @@ overwrites_nothing d q off = record {
   };
 }
 
+-- none are taken
+pub taken_none : (d : Blocks) (q : Path) (target off n : ℕ) (b : List ℕ) → n ≡ 0 → (ms : Messages) → ms ≡ [] → Overwrites d q target (take n (drop off b)) ms
+taken_none d q target off n b none ms is =
+    subst (λ (m : ℕ). Overwrites d q target (take m (drop off b)) ms) (sym none) (subst (Overwrites d q target []) (sym is) (overwrites_nothing d q target))
+
 -- ---- bytes that are written
 
 pub overwrites_patches : (q : Path) (off : ℕ) (w : List ℕ) (ms : Messages) → Changes (patched off w) q ms → (d : Blocks) → Overwrites d q off w ms

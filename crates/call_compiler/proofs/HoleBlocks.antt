@@ -252,7 +252,7 @@ one_applies : (d : Blocks) (p : Path) (a b : ℕ) (ms : Messages) → AppliesZer
 one_applies d p a b ms (inl (none, what)) = let l : length ms ≡ 0 = ap length none in omega (arith, l)
 one_applies d p a b ms (inr (less, is)) = let l : length ms ≡ 1 = ap length is in omega (arith, l)
 
-one_takes : (p : Path) (f l : ℕ) (ms : Messages) → TakesOut p f l ms → length ms ≤ 1
+pub one_takes : (p : Path) (f l : ℕ) (ms : Messages) → TakesOut p f l ms → length ms ≤ 1
 one_takes p f l ms (inl (less, none)) = let l : length ms ≡ 0 = ap length none in omega (arith, l)
 one_takes p f l ms (inr (less, is)) = let l : length ms ≡ 1 = ap length is in omega (arith, l)
 

@@ -197,8 +197,11 @@ module _ (i : Indexes) (p : Path) (off : ℕ) (q : Path) (target n at : ℕ) (re
               tree = λ t means. subst (λ (c : Call). After i msgs (does at t c).0) (sym (taken t means)) (subst (λ (x : Messages). After i x (does at t (Write q target (w t means))).0) (sym is_sent) (makes t means));
               fault = λ e h. absurd (let both : Count m ≡ Fault e = sym r ∙ h in cc);
               nothing = λ h. absurd (let both : Count m ≡ Count 0 = sym r ∙ h in let zero_is : m ≡ 0 = cc in omega (arith, zero_is, some));
-              few = subst (SendsCopied reply) (sym is_sent) (one_growth (has_grown end at found.len found.modified), λ k e.
-                  let both : Count m ≡ Count k = sym r ∙ e in
-                  let count : m ≡ k = cc in
-                  omega (arith, count, few));
+              few = subst (SendsCopied reply) (sym is_sent) (
+                one_growth (has_grown end at found.len found.modified),
+                λ k e.
+                    let both : Count m ≡ Count k = sym r ∙ e in
+                    let count : m ≡ k = cc in
+                    omega (arith, count, few),
+              );
             }

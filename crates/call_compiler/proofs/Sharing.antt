@@ -42,11 +42,12 @@ module _ (d : Blocks) (p q : Path) (is_p : IsPath p) (is_q : IsPath q) (s t n : 
 
   in_blocks : (i : ℕ) → i < most_blocks → is_in (between q t (t + n)) (block_key q i) ≡ true → (t ≤ i) × (i < t + n)
   in_blocks i li e =
-      let parts : (reaches (block_key q t) (block_key q i) ≡ true) × (before (block_key q i) (block_key q (t + n)) ≡ true) = and_parts _ _ e in
-      (reached_blocks q is_q t i (omega arith) (omega arith) parts.0,
-      ⊎_elim (λ (u : i < t + n). u)
-      (λ (u : t + n ≤ i). absurd (false≢true (sym (not_before_from_reaches (block_key q (t + n)) (block_key q i) (block_reaches q (t + n) i (omega arith) (omega arith) u)) ∙ parts.1)))
-      (cases_lt i (t + n)))
+      let parts : (reaches (block_key q t) (block_key q i) ≡ true) × (before (block_key q i) (block_key q (t + n)) ≡ true) = and_parts _ _ e in (
+        reached_blocks q is_q t i (omega arith) (omega arith) parts.0,
+        ⊎_elim (λ (u : i < t + n). u)
+            (λ (u : t + n ≤ i). absurd (false≢true (sym (not_before_from_reaches (block_key q (t + n)) (block_key q i) (block_reaches q (t + n) i (omega arith) (omega arith) u)) ∙ parts.1)))
+            (cases_lt i (t + n)),
+      )
 
   kept : OwnsRange d q → (k : Key) → ((j : ℕ) → j < n → k ≡ block_key q (t + j) → ⊥) → (b : Bool) → is_in (between q t (t + n)) k ≡ b → (o : Option (List ℕ)) → d k ≡ o → cond b None o ≡ o
   kept own k out false e o g = refl
@@ -174,3 +175,17 @@ module _ (d : Blocks) (p q : Path) (is_p : IsPath p) (is_q : IsPath q) (s t n : 
                 put_effect (block_key q (t + j)) ∙ ap (λ (b : Bool). cond b (Some v) (after ms d (block_key q (t + j)))) (same_from_eq z (block_key q (t + j)) (z_is ∙ ap (block_key q) at_q))
                 ∙ sym first.1 ∙ ap d (key ∙ ap (block_key p) (sym is)))
                 (cases_lt (s + j) m)
+
+-- ---- what a walk finds, in the range as it was named
+
+module _ {V : Type 0} (f : Key → Option V) (lo : Key) (hi : Option Key) (end : Key) (is_end : hi ≡ Some end) (r : Option (Key × V)) where
+  pub found_first : (p : Key × V) → r ≡ Some p → IsFirst f lo hi r → IsFirst f lo (Some end) (Some p)
+  found_first p is h = subst (λ (x : Option (Key × V)). IsFirst f lo (Some end) x) is (subst (λ (x : Option Key). IsFirst f lo x r) is_end h)
+
+  pub found_none : r ≡ None → IsFirst f lo hi r → HasNone f lo (Some end)
+  found_none is h = subst (λ (x : Option (Key × V)). IsFirst f lo (Some end) x) is (subst (λ (x : Option Key). IsFirst f lo x r) is_end h)
+
+-- no message deletes no block
+pub takes_none : (q : Path) (t n : ℕ) (ms : Messages) → TakesOut q t (t + n) ms → n ≡ 0 → ms ≡ []
+takes_none q t n ms (inl (less, none)) e = none
+takes_none q t n ms (inr (less, is)) e = absurd (omega (arith, less, e))

@@ -1,5 +1,6 @@
 //! Copies of bytes from file to file, which share whole blocks.
-ghost use Rattle.std.specs.Prelude.{◌≡◌, ◌≢◌, ◌<◌, ◌≤◌, ◌*◌, ◌+◌, ◌/◌, ◌^◌, [], IfOk, ℕ, List, length};
+ghost use Rattle.std.specs.Prelude.{◌≡◌, ◌≢◌, ◌⊎◌, ◌<◌, ◌≤◌, ◌*◌, ◌+◌, ◌-◌, ◌/◌, ◌^◌, [], IfOk, ℕ, List, length, true, false};
+ghost use Rattle.call_compiler.specs.Punched.{TakesOut};
 ghost use Rattle.block_index.specs.Means.{blocks};
 ghost use Rattle.call_compiler.specs.Compiled.{messages};
 ghost use Rattle.call_compiler.specs.Copied.{HoldsOfBytes, IsCopied, Overwrites, SharesWhereMeant, blocks_between, whole_of};
@@ -87,8 +88,10 @@ fn copy_msgs(
     ensures copied { IfOk result (λ msgs. HoldsOfBytes (blocks index.now) from.now size offset len (λ w. Overwrites (blocks index.now) to.now target w msgs.items)) }
     ensures few { IfOk result (λ msgs. length msgs.items ≤ len / 4096 + 2) }
 {
+    // The contract of `key` says that both paths are valid.
+    let (_from_key, _to_key) = (from.key(), to.key());
     let whole = whole_blocks(offset, target, len);
-    let shared = whole * BLOCK;
+    let shared = BLOCK * whole;
     let source = (offset / BLOCK) as u32;
     let mut msgs = share_msgs(
         alloc,
@@ -115,7 +118,8 @@ fn copy_msgs(
 
 /// How many whole blocks a copy of `len` bytes shares: none unless both offsets are where a block begins.
 fn whole_blocks(offset: u64, target: u64, len: u64) -> u64
-    ensures { result ≡ whole_of offset target len }
+    ensures value { result ≡ whole_of offset target len }
+    ensures fits { 4096 * result ≤ len }
 {
     if offset % BLOCK == 0 && target % BLOCK == 0 {
         len / BLOCK
@@ -144,14 +148,13 @@ fn share_msgs(
     // The contract of `key` says that both paths are valid.
     let (_from_key, _to_key) = (from.key(), to.key());
     let end = source + count;
-    let mut msgs = Vec::new(alloc);
-    push_range(alloc, to, target, target + count, &mut msgs)?;
+    let mut msgs = delete_msgs(alloc, to, target, target + count)?;
     let mut rest = blocks_between(alloc, from, source, end)?;
     let mut next = source;
     let mut stored = Readahead::new(alloc);
-    'blocks: while let Some((key, block)) = stored.first(alloc, &index.tree, &rest)? {
+    'pairs: while let Some((key, block)) = stored.first(alloc, &index.tree, &rest)? {
         let number = block_number(&key);
-        if number < next || number >= end {
+        if !is_between(number, next, end) {
             // Does not occur: the keys of the range are those of the file's blocks, in the order of their numbers.
             return Ok(msgs);
         }
@@ -161,6 +164,29 @@ fn share_msgs(
         next = number + 1;
     }
     Ok(msgs)
+}
+
+/// The message that deletes the blocks of a path from number `first` up to but excluding `end`; none if there are no such blocks.
+fn delete_msgs(
+    alloc: Global,
+    path: &Path,
+    first: u32,
+    end: u32,
+) -> Result<Vec<Msg<BlockUpdate>>, NoMemory>
+    requires file { path.now ≢ [] }
+    ensures { IfOk result (λ msgs. TakesOut path.now first end msgs.items) }
+{
+    let mut msgs = Vec::new(alloc);
+    push_range(alloc, path, first, end, &mut msgs)?;
+    Ok(msgs)
+}
+
+/// Whether a number is at least `from` and less than `end`.
+fn is_between(number: u32, from: u32, end: u32) -> bool
+    ensures yes { result ≡ true → (from ≤ number) × (number < end) }
+    ensures no { result ≡ false → (number < from) ⊎ (end ≤ number) }
+{
+    from <= number && number < end
 }
 
 /// The keys of the blocks of a path from number `first` up to but excluding `end`.
@@ -202,9 +228,12 @@ fn byte_msgs(
     ensures copied { IfOk result (λ msgs. HoldsOfBytes (blocks index.now) from.now size offset count (λ w. (d : Blocks) → Overwrites d to.now target w msgs.items)) }
     ensures few { IfOk result (λ msgs. length msgs.items ≤ (target + count + 4095) / 4096 - target / 4096) }
 {
+    if count == 0 {
+        return Ok(Vec::new(alloc));
+    }
     let bytes = index.read(alloc, from, offset, count, size)?;
-    if count == 0 || bytes.len() as u64 != count {
-        // The second does not occur: all bytes are within the file.
+    if bytes.len() as u64 != count {
+        // Does not occur: all of them are within the file.
         return Ok(Vec::new(alloc));
     }
     let shared = Bytes::from_vec(bytes)?;

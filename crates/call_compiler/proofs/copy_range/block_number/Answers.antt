@@ -1,6 +1,3 @@
-use Rattle.call_compiler.proofs.Sharing.{share_starts}
-use Rattle.call_compiler.proofs.OnCopies.{copy_is_done}
-use Rattle.call_compiler.proofs.Copying.{copy_overwrites}
 use Rattle.std.proofs.Common.{◌∙◌}
 use Rattle.call_compiler.proofs.BlockNumbers.{number_read, short_key}
 use Rattle.call_compiler.proofs.copy_range.block_number.Goals as goal
