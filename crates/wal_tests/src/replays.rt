@@ -1,11 +1,13 @@
 //! Tests of replaying a log on a volume.
-use crate::log_by_hand::{FIRST, FIRST_END, LOG, SALT, SALTED, SECOND_END, SIZE};
+use crate::log_by_hand::{
+    COPY_WITHIN, FIRST, FIRST_BODY, FIRST_END, LOG, SALT, SALTED, SECOND_BODY, SECOND_END, SIZE,
+};
 use crate::small::new_volume;
 use pathkey::{Errno, Path};
 use std::alloc::Global;
 use std::test::Fail;
 use volume::Volume;
-use wal::{ReplayError, ReplayReport, replay};
+use wal::{ReplayError, ReplayReport, replay, replay_body};
 
 /// The first bytes of a log.
 fn front(log: &'static [u8], end: usize) -> &'static [u8] {
@@ -98,6 +100,33 @@ fn row_of(
         reported,
         length: end.3,
     }
+}
+
+/// Whether a body is applied.
+fn applies(alloc: Global, volume: &mut Volume, body: &[u8]) -> bool {
+    replay_body(alloc, volume, body).is_ok()
+}
+
+/// Whether the file is made with four bytes, and two of them are copied behind them.
+fn copies_within(alloc: Global, volume: &mut Volume) -> bool {
+    applies(alloc, volume, FIRST_BODY)
+        && applies(alloc, volume, SECOND_BODY)
+        && has_length(alloc, volume, Ok(4))
+        && applies(alloc, volume, COPY_WITHIN)
+        && has_length(alloc, volume, Ok(12))
+}
+
+/// Whether so in a new volume.
+fn copies_within_new(alloc: Global) -> bool {
+    match new_volume(alloc) {
+        Some(mut volume) => copies_within(alloc, &mut volume),
+        None => false,
+    }
+}
+
+#[test]
+fn a_copied_range(rt: HostRuntime) {
+    assert!(rt; copies_within_new(rt.alloc()));
 }
 
 #[test]
