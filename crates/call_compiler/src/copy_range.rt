@@ -232,10 +232,10 @@ fn byte_msgs(
         return Ok(Vec::new(alloc));
     }
     let bytes = index.read(alloc, from, offset, count, size)?;
-    if bytes.len() as u64 != count {
+    let shared = Bytes::from_vec(bytes)?;
+    if shared.len() as u64 != count {
         // Does not occur: all of them are within the file.
         return Ok(Vec::new(alloc));
     }
-    let shared = Bytes::from_vec(bytes)?;
     index.write_msgs(alloc, to, target, &shared)
 }
