@@ -152,9 +152,9 @@ is_read (Makes (CopyRange p off q to n at)) h = (
   path_word q,
   decimal to,
   decimal n,
-  word_before (codes "#") _ _ (seen (codes "#") refl)
-      (word_before (codes "copy") _ _ (seen (codes "copy") refl)
-      (word_before (path_word p) _ _ (path_word_visible p)
+  word_before (codes "#") (codes "copy" ++ 32 ∷ (path_word p ++ 32 ∷ (decimal off ++ 32 ∷ (path_word q ++ 32 ∷ (decimal to ++ 32 ∷ decimal n))))) _ (seen (codes "#") refl)
+      (word_before (codes "copy") (path_word p ++ 32 ∷ (decimal off ++ 32 ∷ (path_word q ++ 32 ∷ (decimal to ++ 32 ∷ decimal n)))) _ (seen (codes "copy") refl)
+      (word_before (path_word p) (decimal off ++ 32 ∷ (path_word q ++ 32 ∷ (decimal to ++ 32 ∷ decimal n))) _ (path_word_visible p)
       (four_words (decimal off) (path_word q) (decimal to) (decimal n) (decimal_visible off h.1) (path_word_visible q) (decimal_visible to h.3) (decimal_visible n h.4)))),
   path_word_read p h.0,
   number_read off h.1,
