@@ -106,7 +106,7 @@ fn pattern(alloc: Global, offset: u64, count: u32, at: u64) -> Result<Vec<u8>, N
         let mixed = place
             .wrapping_mul(2_654_435_761)
             .wrapping_add(at.wrapping_mul(97));
-        bytes.push((mixed >> 9) as u8)?;
+        bytes.push((mixed >> 9 & 255) as u8)?;
     }
     Ok(bytes)
 }
@@ -285,7 +285,7 @@ fn place(random: &mut Random) -> u64 {
 }
 
 /// Any of what can be done.
-fn act(random: &mut Random) -> Act<'static> {
+fn any_act(random: &mut Random) -> Act<'static> {
     match random.below(10) {
         0 | 1 | 2 => Act::Fill(file(random), place(random), random.below(9000)),
         3 => Act::Call(SampleCall::Truncate(file(random), place(random))),
@@ -316,7 +316,7 @@ fn alike_by_chance(alloc: Global, seed: u32, count: u32) -> u32 {
     }
     let mut random = Random(seed);
     for number in 0..count {
-        let next = act(&mut random);
+        let next = any_act(&mut random);
         if !acts(alloc, &mut volume, &mut plain, next, number as u64)
             || !look_alike(alloc, &volume, &plain)
         {
