@@ -1,6 +1,6 @@
 //! Copies between files: a volume, with steps and snapshots between the calls, against the plain program, which reads and writes.
-use crate::requests::{SMALL, Snap, new_volume, snap_name};
 use crate::look_alike::{is_reply, look_alike};
+use crate::requests::{SMALL, Snap, new_volume, snap_name};
 use bytes::Bytes;
 use node::StepReply;
 use pathkey::{NoMemory, Path};

@@ -88,7 +88,14 @@ fn each_change_reported(rt: HostRuntime) -> Result<(), Fail> {
     let encoded = encode_mtime(rt.alloc(), b"/a b", 6, &mut room);
     assert!(rt; is_encoded_reported(rt.alloc(), encoded, &room, b"# mtime /a%20b 6\n"));
     let encoded = encode_copy_range(rt.alloc(), b"/a b", 4096, b"/%", 8192, 5, 6, &mut room);
-    assert!(rt; is_encoded_reported(rt.alloc(), encoded, &room, b"# copy /a%20b 4096 /%25 8192 5\n"));
+    assert!(rt;
+        is_encoded_reported(
+            rt.alloc(),
+            encoded,
+            &room,
+            b"# copy /a%20b 4096 /%25 8192 5\n"
+        )
+    );
     let encoded = encode_snapshot_call(rt.alloc(), SnapshotCall::Remove, b"s", &mut room);
     assert!(rt; is_encoded_reported(rt.alloc(), encoded, &room, b"drop s\n"));
     let encoded = encode_snapshot_call(rt.alloc(), SnapshotCall::Restore, b"s", &mut room);
