@@ -21,7 +21,7 @@
 #include "namei.h"
 #include "replica.h"
 #include "memlimit.h"
-#include "privileges.h"
+#include "killpriv.h"
 #include "snapshots.h"
 #include "status.h"
 #include "store.h"
@@ -170,7 +170,7 @@ static void finish(const struct request *request, int err, struct answer answer)
     bool has_changed;
     answer.request = *request;
     answer.err = end_changed(request, err, &has_changed);
-    if (request->stale && privileges_are_ours()) notify_mode(request->stale);
+    if (request->stale && killpriv_is_handled()) notify_mode(request->stale);
     answer_change(&answer, has_changed);
 }
 
@@ -296,9 +296,9 @@ static void on_setattr(fuse_req_t req, fuse_ino_t ino, struct stat *wanted, int 
                   : which & FUSE_SET_ATTR_MTIME   ? &wanted->st_mtim
                                                   : NULL,
         .modifies_now = which & FUSE_SET_ATTR_MTIME_NOW,
-        .drops_set_user = privileges_are_lost(),
+        .drops_set_user = killpriv_is_requested(),
         .drops_capability =
-            privileges_are_ours() && which & (FUSE_SET_ATTR_SIZE | FUSE_SET_ATTR_UID | FUSE_SET_ATTR_GID),
+            killpriv_is_handled() && which & (FUSE_SET_ATTR_SIZE | FUSE_SET_ATTR_UID | FUSE_SET_ATTR_GID),
     };
     struct stat stat;
     (void)info;
@@ -491,7 +491,7 @@ static bool may_drop(const struct request *request, struct inode *inode) {
 
 // The same of one that opens a file and may cut it, which the kernel may tell.
 static bool open_may_drop(const struct request *request, struct inode *inode, int flags) {
-    return flags & O_TRUNC && (privileges_are_ours() ? privileges_are_lost() : may_drop(request, inode));
+    return flags & O_TRUNC && (killpriv_is_handled() ? killpriv_is_requested() : may_drop(request, inode));
 }
 
 // Where memory is wanting, the file is told of no sync that failed before.
@@ -569,7 +569,7 @@ static void on_write(fuse_req_t req, fuse_ino_t ino, const char *bytes, size_t s
     size_t done = 0;
     int err = begin_write(&request, ino);
     if (!err && info->flags & O_APPEND) err = files_find_end(request.mount, inode, &at);
-    if (!err && privileges_are_ours()) err = fs_drop_privileges(&request, inode, privileges_are_lost());
+    if (!err && killpriv_is_handled()) err = fs_drop_privileges(&request, inode, killpriv_is_requested());
     if (!err) err = fs_write(&request, inode, at, bytes, size, &done);
     if (!err && at != (uint64_t)offset) replica_note_moved(request.mount, inode);
     finish(&request, err, (struct answer){.kind = ANSWER_WRITTEN, .written = done});
@@ -581,7 +581,7 @@ static void on_fallocate(fuse_req_t req, fuse_ino_t ino, int mode, off_t offset,
     struct inode *inode = inode_of(&request, ino);
     (void)info;
     int err = requests_begin(&request);
-    if (!err && privileges_are_ours()) err = fs_drop_privileges(&request, inode, may_drop(&request, inode));
+    if (!err && killpriv_is_handled()) err = fs_drop_privileges(&request, inode, may_drop(&request, inode));
     if (!err) err = holes_allocate(&request, inode, mode, (uint64_t)offset, (uint64_t)count);
     finish_done(&request, err);
 }
