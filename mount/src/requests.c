@@ -10,6 +10,7 @@
 #include "attrs.h"
 #include "orphan.h"
 #include "busy_poll.h"
+#include "copy_range.h"
 #include "delta_ioctl.h"
 #include "entry_count.h"
 #include "exit_report.h"
@@ -160,8 +161,8 @@ int requests_end(const struct request *request, int err) {
     return end_changed(request, err, &has_changed);
 }
 
-// A file lost set-user bits by a request whose answer does not say so: whoever runs it next asks for its mode.
-static void notify_mode(const struct inode *inode) {
+// A file lost set-user bits, or was read, by a request whose answer does not say so: its attributes are asked for anew.
+static void notify_attributes(const struct inode *inode) {
     fuse_lowlevel_notify_inval_inode(session, (fuse_ino_t)(uintptr_t)inode, -1, 0);
 }
 
@@ -170,7 +171,8 @@ static void finish(const struct request *request, int err, struct answer answer)
     bool has_changed;
     answer.request = *request;
     answer.err = end_changed(request, err, &has_changed);
-    if (request->stale && killpriv_is_handled()) notify_mode(request->stale);
+    if (request->stale && killpriv_is_handled()) notify_attributes(request->stale);
+    if (request->accessed && !request->mount->replica) notify_attributes(request->accessed);
     answer_change(&answer, has_changed);
 }
 
@@ -586,6 +588,21 @@ static void on_fallocate(fuse_req_t req, fuse_ino_t ino, int mode, off_t offset,
     finish_done(&request, err);
 }
 
+static void on_copy_file_range(fuse_req_t req, fuse_ino_t ino, off_t offset, struct fuse_file_info *info,
+                               fuse_ino_t target_ino, off_t target, struct fuse_file_info *target_info, size_t count,
+                               int flags) {
+    struct request request = request_of(req);
+    struct inode *to = inode_of(&request, target_ino);
+    struct copy_args args = {inode_of(&request, ino), (uint64_t)offset, to, (uint64_t)target, count};
+    uint64_t done = 0;
+    (void)info, (void)target_info;
+    int err = requests_begin(&request);
+    if (!err && flags) err = EINVAL;
+    if (!err && killpriv_is_handled()) err = fs_drop_privileges(&request, to, may_drop(&request, to));
+    if (!err) err = copy_range(&request, &args, &done);
+    finish(&request, err, (struct answer){.kind = ANSWER_WRITTEN, .written = done});
+}
+
 static void on_lseek(fuse_req_t req, fuse_ino_t ino, off_t offset, int whence, struct fuse_file_info *info) {
     struct request request = request_of(req);
     uint64_t found = 0;
@@ -966,6 +983,7 @@ const struct fuse_lowlevel_ops requests = {
     .read = on_read,
     .write = on_write,
     .fallocate = on_fallocate,
+    .copy_file_range = on_copy_file_range,
     .lseek = on_lseek,
     .fsync = on_fsync,
     .fsyncdir = on_fsync,
