@@ -300,15 +300,15 @@ def a_store_keeps_them(folder: Path):
     snapshot(mount, "kept")
     names = sorted(it.name for it in (mount.point / "files").iterdir())
     found = [(mount.point / "files" / name).read_bytes() for name in names]
+    end_well(mount)
+    dumped = subprocess.run([MOUNT, "--dump-log", folder / "store"], capture_output=True)
+    assert dumped.returncode == 0 and b"\n# copy /files/" in dumped.stdout, dumped.stderr
     for options in ((), ("--log-size", "1M"), ()):
-        end_well(mount)
         mount = store_mount(folder, *options)
         assert mount.stands, mount.said()
         for top in (mount.point, mount.point / ".snapshots/kept"):
             assert [(top / "files" / name).read_bytes() for name in names] == found
-    dumped = subprocess.run([MOUNT, "--dump-log", folder / "store"], capture_output=True)
-    assert dumped.returncode == 0, dumped.stderr
-    end_well(mount)
+        end_well(mount)
 
 
 def make_copies(source: Path, notes: Path) -> None:
