@@ -96,7 +96,7 @@ enum {
     DOORVERVAIN_EFBIG = 9,        // a file too large
     DOORVERVAIN_EBUSY = 10,       // the root, which stays
     DOORVERVAIN_ENOMEM = 11,      // allocation failure
-    DOORVERVAIN_ENOSPC = 12,      // all 64 names of snapshots are taken
+    DOORVERVAIN_ENOSPC = 12,      // there are already 64 snapshots
     DOORVERVAIN_ERANGE = 13,      // the buffer is too short, and nothing was written
     DOORVERVAIN_NULL = 254,       // a pointer is null
     DOORVERVAIN_CLOSED = 255      // the volume, frozen tree, printer, loader or list is closed

@@ -125,6 +125,14 @@ class Side:
     def held_write(self, slot: int, offset: int, data: bytes):
         return os.pwrite(self.files[slot], data, offset) if slot in self.files else None
 
+    def held_copy(self, slot: int, other: int, offset: int, to: int, count: int):
+        if slot not in self.files or other not in self.files:
+            return None
+        done, source, target = 0, self.files[slot], self.files[other]
+        while part := os.copy_file_range(source, target, count - done, offset + done, to + done):
+            done += part
+        return done
+
     def held_read(self, slot: int):
         return os.pread(self.files[slot], 1 << 20, 0) if slot in self.files else None
 
@@ -283,6 +291,9 @@ class Calls:
 
     def draw_held_write(self):
         return self.slot(), self.size(), self.data()
+
+    def draw_held_copy(self):
+        return self.slot(), self.slot(), self.size(), self.size(), self.size()
 
     def draw_held_set(self):
         return self.slot(), self.mode(), self.moment()

@@ -43,6 +43,12 @@ struct extent {
     uint64_t from, to;
 };
 
+// Bytes of a file, and where they go: to another file, or elsewhere in the same one.
+struct copy_range {
+    const char *from, *to;
+    uint64_t offset, target, count;
+};
+
 // The operations of a backend. A null read, stat, readdir, next_extent, compact, compaction_debt, fork or adopt is that
 // of its inner backend, which is then the first member of `self`; these eight are called by the functions below. What
 // changes the tree is done at the timestamp `at`, in nanoseconds since 1970.
@@ -61,6 +67,9 @@ struct backend_ops {
     int (*snapshot)(void *self, enum snapshot_call what, const char *snapshot);
     // So many bytes from `offset` on become zeros that take no room; the file keeps its length.
     int (*punch)(void *self, const char *path, uint64_t offset, uint64_t count, uint64_t at);
+    // Copies these bytes, all that the file has of them or none: how many. If both places are where a block begins, whole
+    // blocks are shared. EOPNOTSUPP: they have to be read and written.
+    int (*copy_range)(void *self, const struct copy_range *range, uint64_t at, uint64_t *copied);
     // The next run of bytes that are stored, at or after `offset`. Those before it read as zeros.
     int (*next_extent)(void *self, struct path_ref ref, uint64_t offset, struct extent *out);
     // Does at most so many steps that move pending changes down: how many.

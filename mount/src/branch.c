@@ -19,6 +19,7 @@ static const struct backend_ops noting_ops = {
     .truncate = wal_layer_truncate,
     .write = wal_layer_write,
     .punch = wal_layer_punch,
+    .copy_range = wal_layer_copy_range,
 };
 
 // Without a log nothing is noted.

@@ -37,6 +37,11 @@ void holes_written(struct mount *mount, struct inode *inode, uint64_t offset, si
     else if (offset + count > inode->length) holes_dense(mount, inode, offset + count);
 }
 
+void holes_copied(struct mount *mount, const struct inode *from, struct inode *to, uint64_t target, uint64_t count) {
+    if (count && !is_dense(mount, from)) forget(to);
+    else holes_written(mount, to, target, count);
+}
+
 void holes_cut(struct mount *mount, struct inode *inode, uint64_t length) {
     if (is_dense(mount, inode) && length <= inode->length) holes_dense(mount, inode, length);
     else forget(inode);

@@ -10,8 +10,10 @@ int holes_seek(struct mount *mount, struct inode *inode, uint64_t offset, int wh
 // How many bytes are stored of what is at an entry. It is remembered until the file changes.
 uint64_t holes_stored(struct mount *mount, struct inode *inode, struct node_stat node_stat);
 
-// What is remembered follows a change: a file has all of its bytes, so many; bytes were written; it was cut.
+// What is remembered follows a change: a file has all of its bytes, so many; bytes were written, or
+// copied from a file; it was cut.
 void holes_dense(struct mount *mount, struct inode *inode, uint64_t length);
 void holes_written(struct mount *mount, struct inode *inode, uint64_t offset, size_t count);
+void holes_copied(struct mount *mount, const struct inode *from, struct inode *to, uint64_t target, uint64_t count);
 void holes_cut(struct mount *mount, struct inode *inode, uint64_t length);
 #endif

@@ -156,6 +156,15 @@ static int library_punch(void *self, const char *path, uint64_t offset, uint64_t
     return done(library, doorvervain_punch(&library->volume, path, strlen(path), offset, count, at));
 }
 
+static int library_copy_range(void *self, const struct copy_range *range, uint64_t at, uint64_t *copied) {
+    struct library *library = self;
+    *copied = 0;
+    uint8_t number =
+        doorvervain_copy_range(&library->volume, range->from, strlen(range->from), range->offset, range->to,
+                               strlen(range->to), range->target, range->count, at, copied);
+    return done_many(library, number, 1 + *copied / BLOCK);
+}
+
 static int library_next_extent(void *self, struct path_ref ref, uint64_t offset, struct extent *out) {
     struct library *library = self;
     size_t length = strlen(ref.path);
@@ -228,6 +237,7 @@ static const struct backend_ops library_ops = {
     .readdir = library_readdir,
     .snapshot = library_snapshot,
     .punch = library_punch,
+    .copy_range = library_copy_range,
     .next_extent = library_next_extent,
     .compact = library_compact,
     .compaction_debt = library_compaction_debt,

@@ -166,6 +166,7 @@ static const struct backend_ops replica_ops = {
     .write = wal_layer_write,
     .snapshot = replica_snapshot,
     .punch = wal_layer_punch,
+    .copy_range = wal_layer_copy_range,
     .close = replica_close,
 };
 

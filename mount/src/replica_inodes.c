@@ -14,7 +14,9 @@
 #include <string.h>
 
 // The kinds of calls, as docs/FORMATS.md has them.
-enum { A_MKDIR = 1, A_CREATE, AN_UNLINK, AN_RMDIR, AN_RMTREE, A_RENAME };
+enum { A_MKDIR = 1, A_CREATE, AN_UNLINK, AN_RMDIR, AN_RMTREE, A_RENAME, A_TRUNCATION, A_WRITE, A_HOLE, A_COPY = 14 };
+// The second text of a copy begins with a word: where its bytes go.
+enum { WORD = 8 };
 
 // A call of a record: its numbers as they stand there, and its texts.
 struct call {
@@ -193,6 +195,10 @@ static void follow_rename(struct replica *replica, const struct reach *from, con
     else take_out(to.inode);
 }
 
+static void follow_copy(struct replica *replica, const char *to, size_t length) {
+    if (length > WORD) note_inode(replica, reach_path(replica, to + WORD, length - WORD, false).inode);
+}
+
 static void follow_call(struct replica *replica, const struct call *call, const char *texts) {
     const char *path = texts, *other = texts + call->lengths[0];
     struct reach reach = reach_path(replica, path, call->lengths[0], false);
@@ -259,7 +265,9 @@ void replica_update_inodes(struct replica *replica, const char *calls, size_t le
     if (!replica->mount->root) return;
     for (size_t at = 0; at + sizeof call <= length; at += sizeof call + call.lengths[0] + call.lengths[1]) {
         memcpy(&call, calls + at, sizeof call);
-        if (call.kind > A_RENAME + 3) return; // Snapshots, which no mount over a log takes.
-        follow_call(replica, &call, calls + at + sizeof call);
+        const char *texts = calls + at + sizeof call;
+        if (call.kind == A_COPY) follow_copy(replica, texts + call.lengths[0], call.lengths[1]);
+        else if (call.kind > A_HOLE) return; // Snapshots, which no mount over a log takes.
+        else follow_call(replica, &call, texts);
     }
 }

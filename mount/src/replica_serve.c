@@ -36,6 +36,7 @@ static bool names_number(uint32_t what) {
     case FUSE_OPENDIR:
     case FUSE_READ:
     case FUSE_WRITE:
+    case FUSE_COPY_FILE_RANGE:
     case FUSE_SETXATTR:
     case FUSE_GETXATTR:
     case FUSE_LISTXATTR:

@@ -11,7 +11,9 @@ struct request {
     struct fuse_req *req;
     uint64_t at; // the timestamp of all that it changes, in nanoseconds since 1970
     struct mem_budget budget;
-    const struct inode *stale; // of a file that lost set-user bits, which the kernel does not know; null: there is none
+    // Of which the kernel does not know it; null: there is none.
+    const struct inode *stale;    // a file that lost set-user bits
+    const struct inode *accessed; // a file that was read
 };
 
 // Whether this thread may use the tree: it holds the request lock, or is the one thread of a replica.

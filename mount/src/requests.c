@@ -10,6 +10,7 @@
 #include "attrs.h"
 #include "orphan.h"
 #include "busy_poll.h"
+#include "copy_range.h"
 #include "delta_ioctl.h"
 #include "entry_count.h"
 #include "exit_report.h"
@@ -21,7 +22,7 @@
 #include "namei.h"
 #include "replica.h"
 #include "memlimit.h"
-#include "privileges.h"
+#include "killpriv.h"
 #include "snapshots.h"
 #include "status.h"
 #include "store.h"
@@ -160,8 +161,8 @@ int requests_end(const struct request *request, int err) {
     return end_changed(request, err, &has_changed);
 }
 
-// A file lost set-user bits by a request whose answer does not say so: whoever runs it next asks for its mode.
-static void notify_mode(const struct inode *inode) {
+// A file lost set-user bits, or was read, by a request whose answer does not say so: its attributes are asked for anew.
+static void notify_attributes(const struct inode *inode) {
     fuse_lowlevel_notify_inval_inode(session, (fuse_ino_t)(uintptr_t)inode, -1, 0);
 }
 
@@ -170,7 +171,8 @@ static void finish(const struct request *request, int err, struct answer answer)
     bool has_changed;
     answer.request = *request;
     answer.err = end_changed(request, err, &has_changed);
-    if (request->stale && privileges_are_ours()) notify_mode(request->stale);
+    if (request->stale && killpriv_is_handled()) notify_attributes(request->stale);
+    if (request->accessed && !request->mount->replica) notify_attributes(request->accessed);
     answer_change(&answer, has_changed);
 }
 
@@ -296,9 +298,9 @@ static void on_setattr(fuse_req_t req, fuse_ino_t ino, struct stat *wanted, int 
                   : which & FUSE_SET_ATTR_MTIME   ? &wanted->st_mtim
                                                   : NULL,
         .modifies_now = which & FUSE_SET_ATTR_MTIME_NOW,
-        .drops_set_user = privileges_are_lost(),
+        .drops_set_user = killpriv_is_requested(),
         .drops_capability =
-            privileges_are_ours() && which & (FUSE_SET_ATTR_SIZE | FUSE_SET_ATTR_UID | FUSE_SET_ATTR_GID),
+            killpriv_is_handled() && which & (FUSE_SET_ATTR_SIZE | FUSE_SET_ATTR_UID | FUSE_SET_ATTR_GID),
     };
     struct stat stat;
     (void)info;
@@ -491,7 +493,7 @@ static bool may_drop(const struct request *request, struct inode *inode) {
 
 // The same of one that opens a file and may cut it, which the kernel may tell.
 static bool open_may_drop(const struct request *request, struct inode *inode, int flags) {
-    return flags & O_TRUNC && (privileges_are_ours() ? privileges_are_lost() : may_drop(request, inode));
+    return flags & O_TRUNC && (killpriv_is_handled() ? killpriv_is_requested() : may_drop(request, inode));
 }
 
 // Where memory is wanting, the file is told of no sync that failed before.
@@ -569,7 +571,7 @@ static void on_write(fuse_req_t req, fuse_ino_t ino, const char *bytes, size_t s
     size_t done = 0;
     int err = begin_write(&request, ino);
     if (!err && info->flags & O_APPEND) err = files_find_end(request.mount, inode, &at);
-    if (!err && privileges_are_ours()) err = fs_drop_privileges(&request, inode, privileges_are_lost());
+    if (!err && killpriv_is_handled()) err = fs_drop_privileges(&request, inode, killpriv_is_requested());
     if (!err) err = fs_write(&request, inode, at, bytes, size, &done);
     if (!err && at != (uint64_t)offset) replica_note_moved(request.mount, inode);
     finish(&request, err, (struct answer){.kind = ANSWER_WRITTEN, .written = done});
@@ -581,9 +583,24 @@ static void on_fallocate(fuse_req_t req, fuse_ino_t ino, int mode, off_t offset,
     struct inode *inode = inode_of(&request, ino);
     (void)info;
     int err = requests_begin(&request);
-    if (!err && privileges_are_ours()) err = fs_drop_privileges(&request, inode, may_drop(&request, inode));
+    if (!err && killpriv_is_handled()) err = fs_drop_privileges(&request, inode, may_drop(&request, inode));
     if (!err) err = holes_allocate(&request, inode, mode, (uint64_t)offset, (uint64_t)count);
     finish_done(&request, err);
+}
+
+static void on_copy_file_range(fuse_req_t req, fuse_ino_t ino, off_t offset, struct fuse_file_info *info,
+                               fuse_ino_t target_ino, off_t target, struct fuse_file_info *target_info, size_t count,
+                               int flags) {
+    struct request request = request_of(req);
+    struct inode *to = inode_of(&request, target_ino);
+    struct copy_args args = {inode_of(&request, ino), (uint64_t)offset, to, (uint64_t)target, count};
+    uint64_t done = 0;
+    (void)info, (void)target_info;
+    int err = requests_begin(&request);
+    if (!err && flags) err = EINVAL;
+    if (!err && killpriv_is_handled()) err = fs_drop_privileges(&request, to, may_drop(&request, to));
+    if (!err) err = copy_range(&request, &args, &done);
+    finish(&request, err, (struct answer){.kind = ANSWER_WRITTEN, .written = done});
 }
 
 static void on_lseek(fuse_req_t req, fuse_ino_t ino, off_t offset, int whence, struct fuse_file_info *info) {
@@ -966,6 +983,7 @@ const struct fuse_lowlevel_ops requests = {
     .read = on_read,
     .write = on_write,
     .fallocate = on_fallocate,
+    .copy_file_range = on_copy_file_range,
     .lseek = on_lseek,
     .fsync = on_fsync,
     .fsyncdir = on_fsync,

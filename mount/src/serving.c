@@ -8,7 +8,7 @@
 #include "entry_count.h"
 #include "exit_report.h"
 #include "image.h"
-#include "privileges.h"
+#include "killpriv.h"
 #include "readahead.h"
 #include "replica.h"
 #include "requests.h"
@@ -53,7 +53,7 @@ static void ignore_signals(void) {
 }
 
 static void process(struct fuse_session *session, const struct fuse_buf *buffer) {
-    privileges_note(buffer);
+    killpriv_note(buffer);
     fuse_session_process_buf(session, buffer);
 }
 
@@ -155,7 +155,7 @@ static int mount_and_serve(const struct options *options, struct mount *mount, s
     int status = fuse_set_signal_handlers(session) || fuse_session_mount(session, options->mount_point);
     if (!status) {
         abort_watch_mounted(watch, options->mount_point);
-        if (!mount->replica) privileges_offer(session);
+        if (!mount->replica) killpriv_negotiate(session);
         raise_readahead(options->mount_point);
         stands();
         *stood = true;

@@ -402,6 +402,7 @@ static const struct backend_ops store_ops = {
     .write = wal_layer_write,
     .snapshot = store_snapshot,
     .punch = wal_layer_punch,
+    .copy_range = wal_layer_copy_range,
     .adopt = store_adopt,
     .close = store_close,
 };

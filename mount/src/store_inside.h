@@ -229,7 +229,7 @@ int store_print_sum(struct bytes *out, uint64_t number, const struct checkpoint_
 int store_read_sum(const struct store *store, uint64_t number, struct checkpoint_sum *out);
 // Whether the files of a checkpoint are what this says of them. What is not so is said.
 int store_check_files(const struct store *store, uint64_t number, const struct checkpoint_sum *sum);
-// Whether the tree alone is, of which nothing is said.
+// Whether the tree alone has its checksum. Nothing is reported.
 bool store_is_tree_of(const struct store *store, uint64_t number, const struct checkpoint_sum *sum);
 
 // ---- store_last.c

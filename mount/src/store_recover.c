@@ -532,7 +532,7 @@ static int find_checkpoint(const struct store *store, struct checkpoint *out) {
     return err ? err : is_found ? 0 : EINVAL;
 }
 
-// Of a checkpoint that is not complete: if its tree is right, its snapshots are not.
+// Reports what is taken unverified of an incomplete checkpoint: its tree or, if that has its checksum, its snapshots.
 static void report_unknown(const struct store *store, const struct checkpoint *checkpoint) {
     char name[STORE_NAME];
     bool is_right = store_is_tree_of(store, checkpoint->number, &checkpoint->sum);

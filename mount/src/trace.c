@@ -294,6 +294,13 @@ static int trace_punch(void *self, const char *path, uint64_t offset, uint64_t c
     return err;
 }
 
+// No line copies bytes from file to file: so they are read and written.
+static int trace_copy_range(void *self, const struct copy_range *range, uint64_t at, uint64_t *copied) {
+    (void)self, (void)range, (void)at;
+    *copied = 0;
+    return EOPNOTSUPP;
+}
+
 // Each call has its line, and no line makes a fork.
 static int trace_fork(void *self, struct backend *out) {
     (void)self;
@@ -329,6 +336,7 @@ static const struct backend_ops trace_ops = {
     .readdir = trace_readdir,
     .snapshot = trace_snapshot,
     .punch = trace_punch,
+    .copy_range = trace_copy_range,
     .fork = trace_fork,
     .close = trace_close,
 };

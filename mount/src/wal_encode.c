@@ -62,6 +62,16 @@ int wal_encode_punch(struct bytes *out, const char *path, uint64_t offset, uint6
     return put(out, number, &size);
 }
 
+// The second text is a word and the path.
+int wal_encode_copy_range(struct bytes *out, const struct copy_range *range, uint64_t at) {
+    size_t length = strlen(range->from), other = strlen(range->to), size = 0;
+    size_t texts = length + sizeof range->target + other;
+    if (reserve(out, texts)) return ENOMEM;
+    uint8_t number = doorvervain_wal_copy_range(range->from, length, range->offset, range->to, other, range->target,
+                                                range->count, at, end_of(out), ENTRY + texts, &size);
+    return put(out, number, &size);
+}
+
 int wal_encode_snapshot(struct bytes *out, enum snapshot_call what, const char *snapshot) {
     static uint8_t (*const calls[])(const char *, size_t, void *, size_t, size_t *) = {
         [TAKE_SNAPSHOT] = doorvervain_wal_snapshot,

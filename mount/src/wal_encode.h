@@ -11,6 +11,7 @@ int wal_encode_truncate(struct bytes *out, const char *path, uint64_t length, ui
 int wal_encode_write(struct bytes *out, const char *path, uint64_t offset, const char *bytes, size_t count,
                      uint64_t at);
 int wal_encode_punch(struct bytes *out, const char *path, uint64_t offset, uint64_t count, uint64_t at);
+int wal_encode_copy_range(struct bytes *out, const struct copy_range *range, uint64_t at);
 int wal_encode_snapshot(struct bytes *out, enum snapshot_call what, const char *snapshot);
 
 // The random bytes of a log, which the digest of each of its records includes: so no record of another log, and no

@@ -71,3 +71,15 @@ int wal_layer_punch(void *self, const char *path, uint64_t offset, uint64_t coun
     if (!call.err) call.err = layer->inner.ops->punch(layer->inner.self, path, offset, count, at);
     return end(layer, &call);
 }
+
+int wal_layer_copy_range(void *self, const struct copy_range *range, uint64_t at, uint64_t *copied) {
+    struct wal_layer *layer = self;
+    struct layer_call call;
+    *copied = 0;
+    if (!begin(layer, &call)) return 0;
+    if (!call.err) call.err = wal_encode_copy_range(call.calls, range, at);
+    if (!call.err) call.err = layer->inner.ops->copy_range(layer->inner.self, range, at, copied);
+    int err = end(layer, &call);
+    if (err) *copied = 0;
+    return err;
+}

@@ -21,4 +21,5 @@ int wal_layer_truncate(void *self, const char *path, uint64_t length, uint64_t a
 int wal_layer_write(void *self, const char *path, uint64_t offset, const char *bytes, size_t count, uint64_t at,
                     size_t *done);
 int wal_layer_punch(void *self, const char *path, uint64_t offset, uint64_t count, uint64_t at);
+int wal_layer_copy_range(void *self, const struct copy_range *range, uint64_t at, uint64_t *copied);
 #endif

@@ -39,7 +39,7 @@ pub enum Errno {
     EBUSY = 10,
     /// Allocation failure.
     ENOMEM = 11,
-    /// All 64 names of snapshots are taken.
+    /// There are already 64 snapshots.
     ENOSPC = 12,
 }
 

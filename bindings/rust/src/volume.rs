@@ -508,7 +508,7 @@ impl Volume {
     /// ```
     ///
     /// # Errors
-    /// `EEXIST`; `EINVAL`: not a name; `ENOSPC`: all 64 names are taken; `ENOMEM`.
+    /// `EEXIST`; `EINVAL`: not a name; `ENOSPC`: there are already 64 snapshots; `ENOMEM`.
     pub fn snapshot(&self, name: &str) -> Result<(), Errno> {
         self.handle.snapshot_call(SnapshotCall::Snapshot, name.as_bytes())
     }
