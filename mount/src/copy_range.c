@@ -1,8 +1,8 @@
 // copy_file_range(2): a copy whose ends are as far into their blocks shares whole blocks, and any other is read and
 // written by the library.
 //
-// Invariant: a request takes some 4 ms at most, so a long copy is several requests, and the reply says how far this one
-// got. It ends within a block that could be shared only at the end of what was asked for.
+// Invariant: a request copies at most 16 MiB, in some 4 ms, so a long copy is several requests, and the reply says how far
+// this one got. It ends within a block that could be shared only at the end of what was asked for.
 #include "copy_range.h"
 #include "fs_ops.h"
 #include "holes.h"
