@@ -7,7 +7,7 @@
 #![tactic(auto)]
 
 pub mod compaction;
-pub mod copy_range;
+pub mod copies;
 pub mod deltas;
 pub mod forks;
 pub mod holes;
@@ -19,7 +19,7 @@ pub mod snapshots;
 pub mod writes;
 
 pub use compaction::compact;
-pub use copy_range::copy_range;
+pub use copies::copy_range;
 pub use deltas::delta;
 pub use forks::{fork, frozen_fork, restore_frozen};
 pub use holes::{frozen_stored, punch, stored};

@@ -4,7 +4,7 @@ use Rattle.pathkey.specs.Texts.{parsed}
 use Rattle.pathkey.specs.declared.errno.Errno.{Errno}
 use Rattle.ffi_calls.specs.Copies.{CopiesAt}
 use Rattle.ffi_calls.proofs.CopyTexts.{unread_source, unread_target}
-use Rattle.ffi_calls.proofs.copy_range.copy_range.Goals as goal
+use Rattle.ffi_calls.proofs.copies.copy_range.Goals as goal
 
 pub returns-in_err-source : goal.returns-in_err-source
 returns-in_err-source c =
