@@ -121,8 +121,8 @@ fn word_of(request: Request) -> (&'static str, usize) {
 }
 
 /// The word for the result of a call that returns nothing.
-fn answer_of(result: Result<(), Errno>) -> &'static str {
-    match result {
+fn answer_of(outcome: Result<(), Errno>) -> &'static str {
+    match outcome {
         Ok(()) => "ok",
         Err(fault) => fault.name(),
     }
