@@ -23,8 +23,9 @@
 // writes no more bytes into a buffer than its capacity.
 //
 // Caller obligations, which no check can see:
-//   - Set `ptr` to null before the first use (`struct doorvervain fs = {0};`), and do not change it.
-//   - A copy of a struct is the same volume. Do not use a copy after a close: that is a use of freed memory.
+//   - Set all members to null before the first use (`struct doorvervain fs = {0};`), and do not change them.
+//   - A copy of a struct is the same volume. Do not use a copy after a close: that is a use of freed memory. Begin and end a
+//     transaction through one struct: a copy does not know of it.
 //   - A call that changes a volume is alone in it. Calls that take a `const struct doorvervain *` only look: any number of
 //     them may be in one volume at once while no other call is. So a read-write lock around the calls of a volume is enough.
 //   - Any number of threads may be in one frozen tree at once, without a lock, by calls that take a
@@ -49,8 +50,15 @@
 extern "C" {
 #endif
 
-// A volume: a tree of directories and files, with snapshots. It is closed if `ptr` is null.
+// A volume: a tree of directories and files, with snapshots. It is closed if `ptr` is null. `before` is the tree with which an
+// open transaction began, or null.
 struct doorvervain {
+    void *ptr;
+    void *before;
+};
+
+// A volume as the archive takes it by value.
+struct doorvervain_handle {
     void *ptr;
 };
 
@@ -94,7 +102,7 @@ enum {
     DOORVERVAIN_EINVAL = 7,       // no path, name or shape; a rename below itself; a text that is malformed
     DOORVERVAIN_ENAMETOOLONG = 8, // a name or path too long
     DOORVERVAIN_EFBIG = 9,        // a file too large
-    DOORVERVAIN_EBUSY = 10,       // the root, which stays
+    DOORVERVAIN_EBUSY = 10,       // the root, which stays; a transaction is open
     DOORVERVAIN_ENOMEM = 11,      // allocation failure
     DOORVERVAIN_ENOSPC = 12,      // there are already 64 snapshots
     DOORVERVAIN_ERANGE = 13,      // the buffer is too short, and nothing was written
@@ -142,7 +150,7 @@ struct doorvervain_attributes {
 // other results as those functions say, whatever they were before.
 
 uint8_t doorvervain_raw_open(uint16_t fanout, uint16_t pending, uint16_t leaf, struct doorvervain *out);
-void doorvervain_raw_close(struct doorvervain fs);
+void doorvervain_raw_close(struct doorvervain_handle fs);
 uint8_t doorvervain_raw_mkdir(struct doorvervain *fs, const uint8_t *path, size_t length, uint64_t at);
 uint8_t doorvervain_raw_create(struct doorvervain *fs, const uint8_t *path, size_t length, uint64_t at);
 uint8_t doorvervain_raw_unlink(struct doorvervain *fs, const uint8_t *path, size_t length, uint64_t at);
@@ -256,6 +264,18 @@ static inline uint8_t doorvervain_bad_args(const struct doorvervain *fs, const v
     return !bytes && length ? DOORVERVAIN_NULL : DOORVERVAIN_DONE;
 }
 
+// The same, and DOORVERVAIN_EBUSY while a transaction is open.
+static inline uint8_t doorvervain_busy_args(const struct doorvervain *fs, const void *bytes, size_t length) {
+    uint8_t err = doorvervain_bad_args(fs, bytes, length);
+    return !err && fs->before ? DOORVERVAIN_EBUSY : err;
+}
+
+// Closes a struct, whatever it holds.
+static inline void doorvervain_set_closed(struct doorvervain *fs) {
+    fs->ptr = NULL;
+    fs->before = NULL;
+}
+
 // Returns the error for a frozen tree or a pointer to bytes that is null, or for a tree that is closed; else 0.
 static inline uint8_t doorvervain_frozen_bad_args(
     const struct doorvervain_frozen *tree, const void *bytes, size_t length) {
@@ -304,7 +324,7 @@ static inline int doorvervain_errno(uint8_t number) {
 // with ENOMEM; the volume is closed then.
 static inline uint8_t doorvervain_open(struct doorvervain *fs, uint16_t fanout, uint16_t pending, uint16_t leaf) {
     if (!fs) return DOORVERVAIN_NULL;
-    fs->ptr = NULL;
+    doorvervain_set_closed(fs);
     return doorvervain_raw_open(fanout, pending, leaf, fs);
 }
 
@@ -314,7 +334,7 @@ static inline uint8_t doorvervain_open(struct doorvervain *fs, uint16_t fanout, 
 // number of its first bad line, counted from 1; and with ENOMEM. The volume is closed then. `*line` is 0 in every other case.
 static inline uint8_t doorvervain_load(struct doorvervain *fs, uint16_t fanout, uint16_t pending, uint16_t leaf,
     const void *text, size_t length, uint64_t *line) {
-    if (fs) fs->ptr = NULL;
+    if (fs) doorvervain_set_closed(fs);
     if (line) *line = 0;
     if (!fs || !line || (!text && length)) return DOORVERVAIN_NULL;
     return doorvervain_raw_load(fanout, pending, leaf, doorvervain_in(text), length, line, fs);
@@ -323,8 +343,11 @@ static inline uint8_t doorvervain_load(struct doorvervain *fs, uint16_t fanout, 
 // Frees a volume with its snapshots, and closes it. Frozen trees stay valid. A closed volume is left unchanged.
 static inline void doorvervain_close(struct doorvervain *fs) {
     if (!fs || !fs->ptr) return;
-    doorvervain_raw_close(*fs);
-    fs->ptr = NULL;
+    const struct doorvervain_handle handle = {fs->ptr};
+    const struct doorvervain_frozen before = {fs->before};
+    doorvervain_raw_close(handle);
+    if (before.ptr) doorvervain_raw_frozen_close(before);
+    doorvervain_set_closed(fs);
 }
 
 // ---- calls that change a volume. Each fails with ENOMEM if an allocation fails, and then nothing has changed.
@@ -475,19 +498,19 @@ static inline uint8_t doorvervain_readdir(
 // Takes a snapshot of the tree under a name, in constant time. Fails with EEXIST if a snapshot has the name, with ENOSPC if the
 // volume has 64 snapshots, and with ENOMEM.
 static inline uint8_t doorvervain_snapshot(struct doorvervain *fs, const char *name, size_t length) {
-    uint8_t err = doorvervain_bad_args(fs, name, length);
+    uint8_t err = doorvervain_busy_args(fs, name, length);
     return err ? err : doorvervain_raw_snapshot(fs, doorvervain_in(name), length);
 }
 
 // Drops the snapshot of that name. Fails with ENOENT if there is none.
 static inline uint8_t doorvervain_drop_snapshot(struct doorvervain *fs, const char *name, size_t length) {
-    uint8_t err = doorvervain_bad_args(fs, name, length);
+    uint8_t err = doorvervain_busy_args(fs, name, length);
     return err ? err : doorvervain_raw_drop_snapshot(fs, doorvervain_in(name), length);
 }
 
 // Restores the volume's tree from the snapshot of that name, which is kept. Fails with ENOENT if there is none, and with ENOMEM.
 static inline uint8_t doorvervain_restore(struct doorvervain *fs, const char *name, size_t length) {
-    uint8_t err = doorvervain_bad_args(fs, name, length);
+    uint8_t err = doorvervain_busy_args(fs, name, length);
     return err ? err : doorvervain_raw_restore(fs, doorvervain_in(name), length);
 }
 
@@ -532,7 +555,7 @@ static inline uint8_t doorvervain_open_snapshot(
 // changes of one do not affect the other. What `out` held before is not freed. Fails with ENOMEM, and `out` is closed then.
 static inline uint8_t doorvervain_fork(const struct doorvervain *fs, struct doorvervain *out) {
     if (!out) return DOORVERVAIN_NULL;
-    out->ptr = NULL;
+    doorvervain_set_closed(out);
     uint8_t err = doorvervain_bad_args(fs, NULL, 0);
     if (err) return err;
     struct doorvervain same = *fs;
@@ -542,7 +565,7 @@ static inline uint8_t doorvervain_fork(const struct doorvervain *fs, struct door
 // Forks a frozen tree, as doorvervain_fork does for a volume. The tree stays as it is.
 static inline uint8_t doorvervain_frozen_fork(const struct doorvervain_frozen *tree, struct doorvervain *out) {
     if (!out) return DOORVERVAIN_NULL;
-    out->ptr = NULL;
+    doorvervain_set_closed(out);
     uint8_t err = doorvervain_frozen_bad_args(tree, NULL, 0);
     if (err) return err;
     struct doorvervain_frozen same = *tree;
@@ -552,7 +575,7 @@ static inline uint8_t doorvervain_frozen_fork(const struct doorvervain_frozen *t
 // Restores the volume's tree from a frozen one, also of another volume, whose shape the volume then has. The frozen tree stays as it is,
 // and so do the volume's snapshots. Fails with ENOMEM.
 static inline uint8_t doorvervain_restore_frozen(struct doorvervain *fs, const struct doorvervain_frozen *tree) {
-    uint8_t err = doorvervain_bad_args(fs, NULL, 0);
+    uint8_t err = doorvervain_busy_args(fs, NULL, 0);
     if (!err) err = doorvervain_frozen_bad_args(tree, NULL, 0);
     if (err) return err;
     struct doorvervain_frozen same = *tree;
@@ -620,6 +643,42 @@ static inline void doorvervain_frozen_close(struct doorvervain_frozen *tree) {
     if (!tree || !tree->ptr) return;
     doorvervain_raw_frozen_close(*tree);
     tree->ptr = NULL;
+}
+
+// ---- transactions: several calls that are done whole or not at all
+
+// Begins a transaction, in constant time. Calls then change the volume as always, and each sees the changes of those before. While
+// the transaction is open, the calls fail with DOORVERVAIN_EBUSY that take, drop or restore a snapshot, restore a frozen tree, or apply
+// a delta or a log, and doorvervain_compact does nothing. The first changes copy parts of the tree, as those after a snapshot do. Fails
+// with EBUSY if a transaction is open, and with ENOMEM.
+static inline uint8_t doorvervain_begin(struct doorvervain *fs) {
+    uint8_t err = doorvervain_busy_args(fs, NULL, 0);
+    struct doorvervain_frozen before = {NULL};
+    if (!err) err = doorvervain_raw_freeze(fs, &before);
+    if (!err) fs->before = before.ptr;
+    return err;
+}
+
+// Ends a transaction, and keeps its changes. Fails with EINVAL if none is open.
+static inline uint8_t doorvervain_commit(struct doorvervain *fs) {
+    uint8_t err = doorvervain_bad_args(fs, NULL, 0);
+    if (err) return err;
+    if (!fs->before) return DOORVERVAIN_EINVAL;
+    const struct doorvervain_frozen before = {fs->before};
+    doorvervain_raw_frozen_close(before);
+    fs->before = NULL;
+    return DOORVERVAIN_DONE;
+}
+
+// Ends a transaction, and undoes its changes: the tree is again as it was at the beginning. It asks for no memory. Fails with EINVAL if
+// none is open. It could fail with ENOMEM, and the transaction stay open, only if the tree had 2^64 - 1 references.
+static inline uint8_t doorvervain_rollback(struct doorvervain *fs) {
+    uint8_t err = doorvervain_bad_args(fs, NULL, 0);
+    if (err) return err;
+    if (!fs->before) return DOORVERVAIN_EINVAL;
+    struct doorvervain_frozen before = {fs->before};
+    err = doorvervain_raw_restore_frozen(fs, &before);
+    return err ? err : doorvervain_commit(fs);
 }
 
 // ---- listings, entry by entry
@@ -741,7 +800,7 @@ static inline uint8_t doorvervain_load_feed(
 // The volume is closed then. `*line` is 0 in every other case.
 static inline uint8_t doorvervain_load_finish(
     struct doorvervain *fs, struct doorvervain_loader *loader, uint64_t *line) {
-    if (fs) fs->ptr = NULL;
+    if (fs) doorvervain_set_closed(fs);
     if (line) *line = 0;
     if (!fs || !loader || !line) return DOORVERVAIN_NULL;
     if (!loader->ptr) return DOORVERVAIN_CLOSED;
@@ -786,7 +845,7 @@ static inline uint8_t doorvervain_load_read(struct doorvervain *fs, uint16_t fan
     void *buffer, size_t capacity, int (*get)(void *context, uint8_t *buffer, size_t capacity, size_t *got), void *context,
     int *failed, uint64_t *line) {
     struct doorvervain_loader loader;
-    if (fs) fs->ptr = NULL;
+    if (fs) doorvervain_set_closed(fs);
     if (failed) *failed = 0;
     if (line) *line = 0;
     if (!fs || !buffer || !get || !failed || !line) return DOORVERVAIN_NULL;
@@ -828,7 +887,7 @@ static inline uint8_t doorvervain_delta(const struct doorvervain *fs, const char
 static inline uint8_t doorvervain_apply_delta(struct doorvervain *fs, const void *text, size_t length, uint64_t *line) {
     if (!line) return DOORVERVAIN_NULL;
     *line = 0;
-    uint8_t err = doorvervain_bad_args(fs, text, length);
+    uint8_t err = doorvervain_busy_args(fs, text, length);
     return err ? err : doorvervain_raw_apply_delta(fs, doorvervain_in(text), length, line);
 }
 
@@ -837,10 +896,10 @@ static inline uint8_t doorvervain_apply_delta(struct doorvervain *fs, const void
 // Compacts the trees: does at most `steps` steps, each of which moves pending changes down from the fullest slot, or makes
 // room for that. Returns how many steps it did, fewer than `steps` only if nothing is pending or the next step cannot be
 // done: an allocation failed, or no step was found that has room, which can happen at the smallest shapes, and a later
-// change may end it. It changes no result of any call. Call it now and then, or never. Returns 0 for a closed volume or a
-// null pointer.
+// change may end it. It changes no result of any call. Call it now and then, or never. Returns 0 for a closed volume, a
+// null pointer, and while a transaction is open.
 static inline uint32_t doorvervain_compact(struct doorvervain *fs, uint32_t steps) {
-    return doorvervain_bad_args(fs, NULL, 0) ? 0 : doorvervain_raw_compact(fs, steps);
+    return doorvervain_busy_args(fs, NULL, 0) ? 0 : doorvervain_raw_compact(fs, steps);
 }
 
 // ---- attribute records. These calls take no volume, and may be made from any thread. docs/FORMATS.md has the text of a record.
@@ -1126,7 +1185,7 @@ static inline uint8_t doorvervain_wal_apply(
     struct doorvervain *fs, const void *body, size_t length, size_t *done) {
     if (!done) return DOORVERVAIN_NULL;
     *done = 0;
-    uint8_t err = doorvervain_bad_args(fs, body, length);
+    uint8_t err = doorvervain_busy_args(fs, body, length);
     return err ? err : doorvervain_raw_wal_apply(fs, doorvervain_in(body), length, done);
 }
 
@@ -1139,7 +1198,7 @@ static inline uint8_t doorvervain_wal_replay(struct doorvervain *fs, const void 
     if (done) *done = 0;
     if (size) *size = 0;
     if (!records || !done || !size) return DOORVERVAIN_NULL;
-    uint8_t err = doorvervain_bad_args(fs, log, length);
+    uint8_t err = doorvervain_busy_args(fs, log, length);
     return err ? err
                  : doorvervain_raw_wal_salted_replay(
                        fs, doorvervain_in(log), length, doorvervain_in(NULL), 0, number, records, done, size);
@@ -1175,7 +1234,7 @@ static inline uint8_t doorvervain_wal_salted_replay(struct doorvervain *fs, cons
     if (done) *done = 0;
     if (size) *size = 0;
     if (!records || !done || !size) return DOORVERVAIN_NULL;
-    uint8_t err = doorvervain_bad_args(fs, log, length);
+    uint8_t err = doorvervain_busy_args(fs, log, length);
     if (!err) err = doorvervain_bad_args(fs, salt, salt_length);
     return err ? err
                  : doorvervain_raw_wal_salted_replay(

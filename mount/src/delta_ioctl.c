@@ -134,7 +134,7 @@ static int adopt(struct mount *mount, struct branch *branch, struct doorvervain 
 // The lock is held at its beginning and at its end alone.
 static int apply_beside(struct request *request, const struct bytes *given, struct bytes *stale) {
     struct branch branch = {.calls = {NULL}};
-    struct doorvervain former = {NULL};
+    struct doorvervain former = {0};
     int err = requests_begin(request);
     if (!err) err = branch_begin(request->mount, &branch);
     err = requests_end(request, err);

@@ -798,7 +798,7 @@ static void restore(void *argument) {
     struct restoring *restoring = argument;
     struct request *request = &restoring->request;
     struct stale stale = find_stale();
-    struct doorvervain former = {NULL};
+    struct doorvervain former = {0};
     int err = requests_begin(request);
     if (!err) worker_fork(request->mount, NULL, &former);
     if (!err) err = snapshot_restore(request->mount, restoring->wanted.name, noted(&stale));
