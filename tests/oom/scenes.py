@@ -254,6 +254,7 @@ def planting():
 def scripts():
     yield Scene("scripts", ("script", *SCRIPT), WITH_FILES, judged="script")
     yield Scene("scripts", ("run",), WITH_FILES, judged="run")
+    yield Scene("scripts", ("transact",), WITH_FILES, wanted="ok")
     yield Scene("images", ("load",), FIRST_IMAGE)
     yield Scene("images", ("load",), IMAGE)
     yield Scene("images", ("bad_shape",), IMAGE, free=True, wanted="bad shape")

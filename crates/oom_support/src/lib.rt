@@ -17,6 +17,7 @@ pub mod runs;
 pub mod scenes;
 pub mod small;
 pub mod standing;
+pub mod transacts;
 pub mod trees;
 pub mod window;
 pub mod words;

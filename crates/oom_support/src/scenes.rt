@@ -5,6 +5,7 @@ use crate::live::{Act, Cancel, Line, Measure, Plant, Relieve, Take, Try};
 use crate::looks::{Freeze, Glance, Image, Look, Past};
 use crate::runs::{Run, events_without};
 use crate::standing::Site;
+use crate::transacts::{Transact, listed_calls};
 use crate::trees::{self, Entries, Pair};
 use crate::words::{index_of, meta_of, path_of, slot_of, step_of, word_at};
 use jobs::Ticket;
@@ -139,6 +140,14 @@ fn run<R: Print>(
     ask(rt, alloc, site, &mut run, out)
 }
 
+/// Does a list of calls, whole or not at all.
+fn transact<R: Print>(rt: &R, alloc: Global, site: &mut Site, out: &mut Vec<u8>) -> bool {
+    let mut transact = Transact {
+        calls: listed_calls(alloc),
+    };
+    ask(rt, alloc, site, &mut transact, out)
+}
+
 /// What is done with a slot of an index's root.
 #[derive(Clone, Copy)]
 enum SlotVerb {
@@ -163,6 +172,7 @@ enum Verb {
     Image,
     Run,
     RunWithout,
+    Transact,
     Tree,
     AtSlot(SlotVerb),
 }
@@ -180,6 +190,7 @@ const VERBS: &[(&str, Verb)] = &[
     ("image", Verb::Image),
     ("run", Verb::Run),
     ("run_without", Verb::RunWithout),
+    ("transact", Verb::Transact),
     ("tree", Verb::Tree),
     ("take", Verb::AtSlot(SlotVerb::Take)),
     ("build", Verb::AtSlot(SlotVerb::Build)),
@@ -337,6 +348,7 @@ fn at_site<R: Print>(
         Verb::Image => Some(image(rt, alloc, site, out)),
         Verb::Run => Some(run(rt, alloc, site, None, out)),
         Verb::RunWithout => run_without(rt, alloc, site, words, out),
+        Verb::Transact => Some(transact(rt, alloc, site, out)),
         Verb::Tree => on_tree_of(rt, alloc, &site.volume, words, out),
         Verb::AtSlot(verb) => at_slot(rt, alloc, site, verb, words, out),
     }

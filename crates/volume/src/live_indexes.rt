@@ -125,6 +125,14 @@ impl LiveIndexes {
         self.block_marks.cancel_all();
     }
 
+    /// Replaces these indexes by others that the same marks fit. It allocates nothing.
+    pub fn put_back(&mut self, before: Indexes)
+        requires { Stands (record { indexes = before; marks = self.old.marks }) }
+        ensures { self.new ≡ record { indexes = before; marks = self.old.marks } }
+    {
+        self.indexes = before;
+    }
+
     /// Appends the messages of a batch to both trees, all or none. The list of a marked slot stays as it was, with the new pieces
     /// after it.
     pub fn append(&mut self, alloc: Global, batch: Batch) -> Result<(), NoMemory>

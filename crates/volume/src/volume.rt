@@ -290,6 +290,27 @@ impl Volume {
         Ok(Frozen::new(rooted))
     }
 
+    /// The live tree as it is now, for `put_back`. It fails only if a node already has 2^64 - 1 references.
+    pub(crate) fn live_root(&self) -> Result<FsRoot, NoMemory>
+        ensures { IfOk result (λ r. r ≡ self.now.live) }
+    {
+        let indexes = self.live.indexes();
+        share(indexes, self.modified)
+    }
+
+    /// Makes a tree the live one that was it when the marks were those that there are now. It allocates nothing.
+    pub(crate) fn put_back(&mut self, before: FsRoot)
+        requires { IsVolume (record (self.old) { live = before }) }
+        ensures { self.new ≡ record (self.old) { live = before } }
+    {
+        let FsRoot {
+            indexes,
+            modified: mtime,
+        } = before;
+        self.live.put_back(indexes);
+        self.modified = mtime;
+    }
+
     /// The tree of the snapshot of that name; ENOENT if there is none, ENOMEM if a node already has 2^64 - 1 references.
     pub fn frozen(&self, name: &SnapName) -> Result<Frozen, Errno>
         ensures same { IfOk result (λ f. finite.get self.now.snapshots name.now ≡ Some f) }

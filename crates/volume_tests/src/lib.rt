@@ -48,6 +48,8 @@ mod some_events;
 #[cfg(test)]
 mod steps_between;
 #[cfg(test)]
+mod transacted;
+#[cfg(test)]
 mod typed;
 #[cfg(test)]
 mod walked;
