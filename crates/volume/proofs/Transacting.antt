@@ -1,6 +1,6 @@
 -- Calls that are done one after the other: one more of them, and the worlds that they lead to.
-use Rattle.std.proofs.Common.{◌≡◌, ℕ, ◌+◌, ◌<◌, List, [], ◌∷◌, ◌++◌, length, refl, sym, ap, subst, ◌∙◌, arith, Ok, Err, Option}
-use Rattle.std.specs.Prelude.{Result}
+use Rattle.std.proofs.Common.{◌≡◌, ℕ, ◌<◌, List, [], ◌∷◌, ◌++◌, length, refl, sym, ap, subst, ◌∙◌, arith, Ok, Err, Option}
+use Rattle.std.specs.Prelude.{Result, IfErr}
 use Rattle.std.specs.Global.{Vec}
 use Rattle.block_index.specs.Updates.{means as block_means}
 use Rattle.jobs.specs.Marks.{Each, PMarked, KeepsContent}
@@ -13,9 +13,9 @@ use Rattle.reference.specs.declared.reply.Reply.{Reply}
 use Rattle.reference.specs.declared.reply.Reply.TheVariants.{Fault}
 use Rattle.volume.specs.Changes.{Called}
 use Rattle.volume.specs.Laws.{AllOrNothing, timed_calls}
-use Rattle.volume.specs.Marked.{PLive, PMarks, AreMarked, Keeps, KeepsMarks, Stands, meta_marked, block_marked}
+use Rattle.volume.specs.Marked.{PLive, PMarks, Keeps, KeepsMarks, meta_marked, block_marked}
 use Rattle.volume.specs.Transactions.{AllCalled, CalledUntil, DoesAll, FailsAt, Succeeds, Timed, Transacts}
-use Rattle.volume.specs.Volumes.{PVolume, IsVolume, Means, live_of}
+use Rattle.volume.specs.Volumes.{PVolume, Means, live_of}
 use Rattle.volume.specs.declared.fs_root.FsRoot.{FsRoot}
 use Rattle.volume.specs.declared.transact.FailedCall.{FailedCall}
 use Rattle.volume.proofs.Leading.{kept_all, lacks_call}
@@ -73,11 +73,16 @@ none_done (d ∷ cs) [] a b all e = absurd all
 none_done (d ∷ cs) (q ∷ rs) a b all e = (cc)
 
 -- one call that fails has no reply before it
-pub one_fails : (cs : List Timed) (rs : List Reply) (e : Errno) (v : PVolume) → CalledUntil cs rs e v → length cs ≡ 1 → rs ≡ []
+one_fails : (cs : List Timed) (rs : List Reply) (e : Errno) (v : PVolume) → CalledUntil cs rs e v → length cs ≡ 1 → rs ≡ []
 one_fails [] rs e v until n = absurd until
 one_fails (c ∷ cs) [] e v until n = refl
 one_fails (c ∷ []) (r ∷ rs) e v until n = absurd until.3
 one_fails (c ∷ d ∷ cs) (r ∷ rs) e v until n = absurd (omega (arith, n))
+
+-- a list of one call that fails
+pub one_failed : (cs : List Timed) (rs : List Reply) (answer : Result (Unit {0}) Errno) (old new : PVolume) → length cs ≡ 1 → IfErr answer (λ e. CalledUntil cs rs e old) → IfErr answer (λ e. rs ≡ [] → new ≡ old) → IfErr answer (λ e. FailsAt cs (length rs) e old new)
+one_failed cs rs (Ok x) old new n until first = tt
+one_failed cs rs (Err e) old new n until first = record { replies = rs; before = refl; called = until; nothing = first (one_fails cs rs e old until n) }
 
 -- memory was refused before the first call
 pub lacks_first : (cs : List Timed) (v : PVolume) → 0 < length cs → FailsAt cs 0 ENOMEM v v
@@ -86,9 +91,9 @@ lacks_first (c ∷ cs) v some = record { replies = []; before = refl; called = l
 
 -- ---- what is put back
 
--- a volume with the trees that it had when its marks were the same
-pub put_back_lasts : (old now : PVolume) (before : FsRoot) → IsVolume old → before ≡ old.live → now.snapshots ≡ old.snapshots → now.marks ≡ old.marks → record now { live = before } ≡ old
-put_back_lasts old now before is same snapshots marks = λ k. record { live = same k; snapshots = snapshots k; marks = marks k }
+-- a volume with the trees that it had when its snapshots and marks were the same
+pub is_put_back : (old now : PVolume) (before : FsRoot) → before ≡ old.live → now.snapshots ≡ old.snapshots → now.marks ≡ old.marks → record now { live = before } ≡ old
+is_put_back old now before same snapshots marks = λ k. record { live = same k; snapshots = snapshots k; marks = marks k }
 
 -- ---- the law
 

@@ -1,4 +1,4 @@
-use Rattle.std.proofs.Common.{◌≡◌, ◌≤◌, [], length, take, vec_len, vec_capacity}
+use Rattle.std.proofs.Common.{◌≡◌, ◌≤◌, length, take, vec_len, vec_capacity}
 use Rattle.volume.specs.Transactions.{DoesAll}
 use Rattle.volume.proofs.volume.Volume.call_until_fault.Given as goal
 
