@@ -210,7 +210,7 @@ static int numbers_of_copy(const Tree *tree, PyObject *const *args, struct copy 
 }
 
 static const struct signature copy_range_signature = {
-    "copy_range", 5, 5, {"old", "offset", "new", "target", "count", "at"}};
+    "copy_range", 5, 5, {"src", "offset", "dst", "target", "count", "at"}};
 
 static PyObject *volume_copy_range(PyObject *self, PyObject *const *words, Py_ssize_t count, PyObject *named) {
     Tree *tree = (Tree *)self;
@@ -572,8 +572,8 @@ static PyMethodDef volume_methods[] = {
         "Writes bytes to a file at the offset, and extends it if they reach past its end. The write is atomic. Returns how\n"
         "many bytes."},
     {"copy_range", FAST(volume_copy_range),
-        "copy_range($self, /, old, offset, new, target, count, *, at=None)\n--\n\n"
-        "Copies `count` bytes of a file from `offset` on, as far as it has them, to the file `new` from `target` on, which exists\n"
+        "copy_range($self, /, src, offset, dst, target, count, *, at=None)\n--\n\n"
+        "Copies `count` bytes of a file from `offset` on, as far as it has them, to the file `dst` from `target` on, which exists\n"
         "and may be the same one. The tree is the same as after a write of these bytes. If both offsets are multiples of 4,096,\n"
         "whole blocks are shared. The copy is atomic. Returns how many bytes.\n\n"
         ">>> volume = Volume()\n"

@@ -259,13 +259,13 @@ class Files(unittest.TestCase):
         for name in "ab":
             volume.write_bytes("/" + name, rng.randbytes(5 * 4096 + 100))
         for step in range(200):
-            old, new = ("/" + rng.choice("ab") for _ in range(2))
+            src, dst = ("/" + rng.choice("ab") for _ in range(2))
             offset, target = (rng.choice([4096 * rng.randrange(9), rng.randrange(30_000)]) for _ in range(2))
             count = rng.choice([4096 * rng.randrange(6), rng.randrange(30_000), 1 << 63])
             with volume.fork() as other:
-                data = other.read(old, count, offset)
-                other.write(new, data, target, at=step)
-                self.assertEqual(volume.copy_range(old, offset, new, target, count, at=step), len(data))
+                data = other.read(src, count, offset)
+                other.write(dst, data, target, at=step)
+                self.assertEqual(volume.copy_range(src, offset, dst, target, count, at=step), len(data))
                 self.assertEqual(volume.image(), other.image())
 
     def test_a_long_listing(self):
@@ -524,6 +524,7 @@ class Words(unittest.TestCase):
         self.assertEqual(volume.read("/d/f", offset=1, size=3), b"bXd")
         volume.truncate("/d/f", size=2)
         volume.rename(new="/d/g", old="/d/f")
+        self.assertEqual(volume.copy_range(src="/d/g", offset=0, dst="/d/g", target=2, count=9), 2)
         self.assertEqual(volume.listdir(path="/d"), ["g"])
         self.assertEqual(volume.scandir("/"), [("d", True)])
 
