@@ -1,8 +1,8 @@
-// copy_file_range(2): a copy whose ends are as far into their blocks shares whole blocks, and any other is read and
-// written by the library.
+// copy_file_range(2). If both offsets are equally far into a block, whole blocks are shared; otherwise the library
+// reads and writes the bytes.
 //
-// Invariant: a request copies at most 16 MiB, in some 4 ms, so a long copy is several requests, and the reply says how far
-// this one got. It ends within a block that could be shared only at the end of what was asked for.
+// Invariant: a request copies at most 16 MiB, in some 4 ms, so a long copy takes several requests, and each reply says
+// how many bytes were copied. If blocks are shared, a request ends at the end of a block or of the range.
 #include "copy_range.h"
 #include "fs_ops.h"
 #include "holes.h"
@@ -15,22 +15,23 @@ enum { BLOCK = 4096, SHARED_AT_ONCE = 16 << 20 };
 
 static uint64_t least(uint64_t one, uint64_t other) { return one < other ? one : other; }
 
-// Whether blocks of the one place can be those of the other.
+// Whether both offsets are equally far into a block, so that whole blocks can be shared.
 static bool shares(const struct copy_args *args) { return args->offset % BLOCK == args->target % BLOCK; }
 
-// How much a request copies. After it the next one begins with a whole block.
+// How many bytes a request copies. If blocks are shared, the next request begins at a block's start.
 static uint64_t piece_of(const struct copy_args *args) {
     uint64_t most = shares(args) ? SHARED_AT_ONCE - args->offset % BLOCK : LARGEST_READ;
     return least(args->count, most);
 }
 
-// How much the library copies by one call, which shares blocks only if it begins with a whole one.
+// How many bytes one call of the library copies. A call shares blocks only if it begins at a block's start, so the
+// bytes before the first start are copied by a call of their own.
 static uint64_t part_of(const struct copy_range *range, uint64_t count) {
     uint64_t into = range->offset % BLOCK;
     return into && into == range->target % BLOCK ? least(count, BLOCK - into) : count;
 }
 
-// What was copied stays, also if a later call fails.
+// Copies by one call or two. If the second fails, what the first copied stays, and the copy succeeds with that.
 static int copy_parts(const struct request *request, struct copy_range range, uint64_t *done) {
     const struct backend *backend = &request->mount->backend;
     uint64_t count = range.count;
@@ -59,7 +60,7 @@ static int copy_piece(struct request *request, const struct copy_range *range, u
     return err;
 }
 
-// A copy ends where the file does. No two bytes of it are at one place.
+// Ends the copy at the end of the source. EINVAL if two ranges of one file overlap.
 static int limit(struct mount *mount, struct copy_args *args) {
     struct node_stat node_stat;
     int err = fs_node_stat(mount, args->from, &node_stat);

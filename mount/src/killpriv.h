@@ -1,16 +1,17 @@
-// Who takes set-user bits and a capability off a file whose bytes or owner change. Kernels since 5.11 leave that to the
-// mount if it offers to do so, by FUSE_HANDLE_KILLPRIV_V2: then they need not ask for the capability before each write.
-// What a handler asks here is about the request that it serves.
+// Negotiates who clears the set-user bits and the capability of a file whose bytes or owner change. Kernels since 5.11
+// leave it to a mount that offers FUSE_HANDLE_KILLPRIV_V2; then they do not ask for the capability before each write.
 #ifndef KILLPRIV_H
 #define KILLPRIV_H
 #include "requests.h"
 
-// Of a session that is mounted, before its first request. If libfuse cannot offer it, the kernel does it as before.
+// Makes the offer. It is called once the session is mounted, before its first request. If libfuse has no means for it,
+// the kernel clears the bits itself.
 void killpriv_negotiate(struct fuse_session *session);
-// The next request that is processed, as the kernel wrote it.
+// Notes the request that is processed next, in the bytes that the kernel wrote.
 void killpriv_note(const struct fuse_buf *request);
-// Whether the mount does it.
+// Whether the mount clears the bits.
 bool killpriv_is_handled(void);
-// Whether the kernel says that this request takes set-user bits: for all who have not CAP_FSETID, and a new owner.
+// Whether the request that was noted last asks that set-user bits be cleared: the caller has no CAP_FSETID, or the
+// owner changes.
 bool killpriv_is_requested(void);
 #endif

@@ -15,8 +15,8 @@
 
 // The kinds of calls, as docs/FORMATS.md has them.
 enum { A_MKDIR = 1, A_CREATE, AN_UNLINK, AN_RMDIR, AN_RMTREE, A_RENAME, A_TRUNCATION, A_WRITE, A_HOLE, A_COPY = 14 };
-// The second text of a copy begins with a word: where its bytes go.
-enum { WORD = 8 };
+// The second text of a copy begins with the target offset, in so many bytes.
+enum { TARGET_SIZE = 8 };
 
 // A call of a record: its numbers as they stand there, and its texts.
 struct call {
@@ -196,7 +196,8 @@ static void follow_rename(struct replica *replica, const struct reach *from, con
 }
 
 static void follow_copy(struct replica *replica, const char *to, size_t length) {
-    if (length > WORD) note_inode(replica, reach_path(replica, to + WORD, length - WORD, false).inode);
+    if (length <= TARGET_SIZE) return;
+    note_inode(replica, reach_path(replica, to + TARGET_SIZE, length - TARGET_SIZE, false).inode);
 }
 
 static void follow_call(struct replica *replica, const struct call *call, const char *texts) {

@@ -11,9 +11,9 @@ struct request {
     struct fuse_req *req;
     uint64_t at; // the timestamp of all that it changes, in nanoseconds since 1970
     struct mem_budget budget;
-    // Of which the kernel does not know it; null: there is none.
-    const struct inode *stale;    // a file that lost set-user bits
-    const struct inode *accessed; // a file that was read
+    // Files whose attributes the request changed without telling the kernel; null: there is none.
+    const struct inode *stale;    // it lost its set-user bits
+    const struct inode *accessed; // it was read, so its atime changed
 };
 
 // Whether this thread may use the tree: it holds the request lock, or is the one thread of a replica.

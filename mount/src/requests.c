@@ -161,7 +161,8 @@ int requests_end(const struct request *request, int err) {
     return end_changed(request, err, &has_changed);
 }
 
-// A file lost set-user bits, or was read, by a request whose answer does not say so: its attributes are asked for anew.
+// Invalidates the attributes that the kernel has of a file. The request cleared its set-user bits or read it, and the
+// answer does not say so.
 static void notify_attributes(const struct inode *inode) {
     fuse_lowlevel_notify_inval_inode(session, (fuse_ino_t)(uintptr_t)inode, -1, 0);
 }

@@ -1,9 +1,9 @@
 // The backend of --trace, for tests: writes each call as a line of a script, and each reply ("Script" in
 // docs/FORMATS.md).
 //
-// Invariant: both files have the same number of lines, notes apart, so any program of the language gives the same
-// replies. A write that is longer than a line becomes several lines, and a hole writes of zeros. A write or a hole that
-// fails, and a call that failed for lack of memory, become notes.
+// Invariant: apart from notes, both files have the same number of lines, so any program of the language gives the same
+// replies. A write that is longer than a line becomes several lines, and a hole becomes writes of zeros. A long write
+// or a hole that fails, and each call that fails for lack of memory, become notes.
 #include "exit_report.h"
 #include "backend.h"
 #include "memlimit.h"
@@ -18,10 +18,10 @@
 #include <sys/types.h>
 #include <unistd.h>
 
-// A reply has at most SHORT_REPLY bytes, but for bytes that were read, two for each, and names, three.
+// A reply takes at most SHORT_REPLY bytes, and in addition two for each byte read, and three for each byte of names.
 enum { LONGEST_NOTE = 100, WRITTEN_AT_ONCE = 1 << 16, SHORT_REPLY = 64 };
 
-// One of the two files: what it has, whole lines, and lines that wait.
+// One of the two files: the length of the whole lines in it, and the lines that are not written yet.
 struct trace_file {
     int fd;
     off_t whole;
@@ -32,12 +32,12 @@ struct trace {
     struct backend inner;
     const char *name;
     struct trace_file calls, replies;
-    int err;     // why it ends before the mount does; 0: it does not
-    uint64_t at; // the moment of the lines that follow
+    int err;     // why the trace ended before the mount; 0: it goes on
+    uint64_t at; // the timestamp of the lines that follow
     struct bytes line, reply;
 };
 
-// The record is no part of the tree. Where memory is wanting for it, it ends.
+// Empties a buffer and reserves memory for the next line. If memory is lacking, the trace ends, and the mount goes on.
 static struct bytes *fresh(struct trace *trace, struct bytes *bytes, size_t capacity) {
     bytes->length = 0;
     if (memlimit_reserve(bytes, capacity)) trace->err = ENOMEM;
@@ -60,7 +60,7 @@ static void cut_file(struct trace_file *file) {
     if (ftruncate(file->fd, file->whole)) return;
 }
 
-// Writes the lines that wait into both files. Where that fails, both end with the lines before them, and get no others.
+// Writes the waiting lines to both files. If that fails, both are cut to the lines before, and get no others.
 static void flush(struct trace *trace) {
     if (!trace->err) write_file(trace, &trace->calls);
     if (!trace->err) write_file(trace, &trace->replies);
@@ -79,7 +79,7 @@ static int append(struct bytes *lines, const struct bytes *more) {
     return err ? err : bytes_append(lines, more->at, more->length);
 }
 
-// Puts lines down: the same number in both files, but for notes.
+// Adds as many lines to both files; a note, without a reply, is added to the calls alone.
 static void put_lines(struct trace *trace, const struct bytes *line, const struct bytes *reply) {
     if (trace->err) return;
     int err = append(&trace->calls.lines, line);
@@ -98,7 +98,7 @@ static void put_note(struct trace *trace, const char *form, ...) {
     put_lines(trace, &(struct bytes){text, (size_t)length, 0}, NULL);
 }
 
-// What was refused for want of memory another program would do.
+// Notes a call that failed for lack of memory, since another program might do it.
 static int note_line(struct trace *trace) {
     size_t length = trace->line.length - 1;
     if (length > LONGEST_NOTE) length = LONGEST_NOTE;
@@ -106,7 +106,7 @@ static int note_line(struct trace *trace) {
     return ENOMEM;
 }
 
-// Writes the line that stands ready and the reply to it: a refusal, or what stands ready as a reply.
+// Adds the line in `line` with its reply: the fault, or the reply in `reply`.
 static int trace_call(struct trace *trace, int err) {
     if (err == ENOMEM) return note_line(trace);
     if (err) reply_fault(fresh_reply(trace, SHORT_REPLY), err);
@@ -119,7 +119,7 @@ static int trace_done(struct trace *trace, int err) {
     return trace_call(trace, err);
 }
 
-// Sets the moment of the lines that follow, where it is another one.
+// Sets the timestamp of the lines that follow, if it differs.
 static void trace_timestamp(struct trace *trace, uint64_t at) {
     if (at == trace->at) return;
     trace->at = at;
@@ -132,7 +132,7 @@ static void trace_line(struct trace *trace, enum path_call what, const char *pat
     trace_done(trace, 0);
 }
 
-// A path in a directory at which there is no entry: a name of one byte. False if there is none.
+// Finds a path in a directory, with a name of one byte, at which there is no entry. False if there is none.
 static bool find_free_path(struct trace *trace, const char *directory, char *path, size_t capacity) {
     size_t length = strcmp(directory, "/") ? strlen(directory) : 0;
     struct node_stat node_stat;
@@ -146,8 +146,8 @@ static bool find_free_path(struct trace *trace, const char *directory, char *pat
     return false;
 }
 
-// No line of a script sets an mtime. The lines of one that was set truncate a file to the length that it has, or create
-// an entry in a directory and remove it.
+// No line of a script sets an mtime. In its place the lines truncate a file to the length that it has, or create an
+// entry in a directory and remove it.
 static int trace_set_mtime(struct trace *trace, const char *path, uint64_t at) {
     char entry[LONGEST_PATH + 1];
     struct node_stat node_stat = {0};
@@ -242,7 +242,7 @@ static int trace_snapshot(void *self, enum snapshot_call what, const char *snaps
     return trace_done(trace, trace->inner.ops->snapshot(trace->inner.self, what, snapshot));
 }
 
-// The runs that are stored of a range, side by side.
+// Appends the extents that are stored in a range of a file.
 static int find_extents(struct trace *trace, const char *path, struct extent range, struct bytes *out) {
     struct extent extent = range;
     for (uint64_t from = range.from; from < range.to; from = extent.to) {
@@ -262,7 +262,7 @@ static void trace_zeros(struct trace *trace, const char *path, struct extent ext
                          extent.to - at < LARGEST_LINE_WRITE ? extent.to - at : LARGEST_LINE_WRITE);
 }
 
-// Zeros stand for a hole that was made: over each run that was stored, and over one byte where none was.
+// Writes zeros for a hole: over each extent that was stored, or over one byte if there was none.
 static void trace_hole(struct trace *trace, const char *path, uint64_t offset, const struct bytes *runs, uint64_t at) {
     trace_timestamp(trace, at);
     for (size_t i = 0; i < runs->length; i += sizeof(struct extent)) {
@@ -273,13 +273,13 @@ static void trace_hole(struct trace *trace, const char *path, uint64_t offset, c
     if (!runs->length) trace_zeros(trace, path, (struct extent){offset, offset + 1});
 }
 
-// What of a hole lies within a file.
+// The part of a hole that lies within the file.
 static struct extent within(uint64_t offset, uint64_t count, uint64_t length) {
     uint64_t end = offset < length ? length : offset;
     return (struct extent){offset, count < end - offset ? offset + count : end};
 }
 
-// What is stored there is asked for before the hole is made, and told when it was.
+// The extents that are stored are found before the hole is made, and their lines are added after it was.
 static int trace_punch(void *self, const char *path, uint64_t offset, uint64_t count, uint64_t at) {
     struct trace *trace = self;
     struct node_stat node_stat = {0};
@@ -294,14 +294,14 @@ static int trace_punch(void *self, const char *path, uint64_t offset, uint64_t c
     return err;
 }
 
-// No line copies bytes from file to file: so they are read and written.
+// No line of a script copies a range, so the kernel has to read and write the bytes.
 static int trace_copy_range(void *self, const struct copy_range *range, uint64_t at, uint64_t *copied) {
     (void)self, (void)range, (void)at;
     *copied = 0;
     return EOPNOTSUPP;
 }
 
-// Each call has its line, and no line makes a fork.
+// No line of a script makes a fork.
 static int trace_fork(void *self, struct backend *out) {
     (void)self;
     *out = (struct backend){NULL};
@@ -325,7 +325,7 @@ static int trace_close(void *self, struct image *image) {
     return err;
 }
 
-// No line of a script asks for what is stored, or for steps.
+// No line of a script finds extents or does steps, so these calls are not traced.
 static const struct backend_ops trace_ops = {
     .change = trace_change,
     .rename = trace_rename,
@@ -341,7 +341,8 @@ static const struct backend_ops trace_ops = {
     .close = trace_close,
 };
 
-// The bytes of files that only their owner may read go into a record: so may it only be read. An older one stays.
+// Only the owner may read a trace, since it has bytes of files that only their owner may read. An existing file is not
+// replaced.
 static int open_file(const char *name, const char *ending, struct trace_file *out) {
     struct bytes file = {NULL};
     int err = bytes_append(&file, name, strlen(name));

@@ -62,7 +62,7 @@ int wal_encode_punch(struct bytes *out, const char *path, uint64_t offset, uint6
     return put(out, number, &size);
 }
 
-// The second text is a word and the path.
+// The second text is the target offset, in 8 bytes, and the path.
 int wal_encode_copy_range(struct bytes *out, const struct copy_range *range, uint64_t at) {
     size_t length = strlen(range->from), other = strlen(range->to), size = 0;
     size_t texts = length + sizeof range->target + other;
