@@ -82,19 +82,10 @@ static bool may_follow(const struct deferred_request *request) {
     }
 }
 
-// What was tried on this very tree is done on it again.
-static bool is_still_right(struct replica *replica, const struct deferred_request *request) {
-    size_t done;
-    if (request->tried_at != replica->done || replica_savepoint(replica)) return false;
-    uint8_t number =
-        doorvervain_wal_apply(replica->volume, (const uint8_t *)request->calls.at, request->calls.length, &done);
-    if (number) replica_rollback(replica);
-    return !number;
-}
-
-// Its calls are made of the tree as it is, with those of the requests before it: ENODATA where it has none.
+// Tries a request on the tree, after the requests before it: ENODATA if it makes no calls. The first is not tried again
+// if it was tried on this very tree.
 static int try_one(struct replica *replica, struct deferred_request *request, bool is_first) {
-    if (is_first && is_still_right(replica, request)) return 0;
+    if (is_first && request->tried_at == replica->done) return 0;
     request->at = clock_now_ns();
     request->orphans = replica->mount->orphans;
     replica->is_silent = !is_first;
@@ -117,6 +108,17 @@ static int try_first(struct replica *replica) {
     return err;
 }
 
+// Applies the calls of the first request, after which others are tried or done. If it was tried just now, the tree has
+// them, and a savepoint.
+static int apply_first(struct replica *replica) {
+    size_t done;
+    if (!replica->proposal.requests || replica->has_savepoint) return 0;
+    const struct bytes *calls = &replica->first->calls;
+    int err = replica_savepoint(replica);
+    if (err) return err;
+    return doorvervain_errno(doorvervain_wal_apply(replica->volume, (const uint8_t *)calls->at, calls->length, &done));
+}
+
 static int add_requests(struct replica *replica) {
     struct proposal *proposal = &replica->proposal;
     int err = try_first(replica);
@@ -124,7 +126,7 @@ static int add_requests(struct replica *replica) {
     if (!err && request) err = add_record(replica, proposal->requests++, &request->calls);
     while (!err && request && !moves(request) && (request = request->next) && may_follow(request)) {
         if (proposal->records.length + request->size >= LARGEST_PART) break;
-        proposal->is_torn = try_one(replica, request, false);
+        proposal->is_torn = apply_first(replica) || try_one(replica, request, false);
         if (proposal->is_torn) break;
         err = add_record(replica, proposal->requests++, &request->calls);
     }
@@ -140,6 +142,7 @@ static int add_leftovers(struct replica *replica) {
     while (replica->leftovers && !err &&
            (!index || proposal->records.length + replica->leftovers->calls.length < LARGEST_PART)) {
         struct leftover *leftover = replica->leftovers;
+        if (apply_first(replica)) break;
         err = replica_savepoint(replica);
         if (err) break;
         replica->leftovers = leftover->next;
