@@ -69,11 +69,15 @@ void replica_pass_ends(struct replica *replica) {
     replica->at = 0;
 }
 
+// Whether the calls are those of the record.
+static bool is_record(const struct replica *replica) {
+    const struct bytes *wanted = replica->wanted, *calls = &replica->calls;
+    return calls->length == wanted->length && !memcmp(calls->at, wanted->at, wanted->length);
+}
+
 // The record's calls were made: the tree is kept as it stands now, and what follows is another record's.
 static int meet(struct replica *replica) {
-    const struct bytes *wanted = replica->wanted, *calls = &replica->calls;
-    bool is_same = calls->length == wanted->length && !memcmp(calls->at, wanted->at, wanted->length);
-    if (!is_same) {
+    if (!is_record(replica)) {
         replica->is_over = true;
         return EIO;
     }
@@ -133,11 +137,27 @@ static struct bytes *call_begins(void *self, int *err) {
     struct replica *replica = self;
     if (replica->is_over) return NULL;
     change_begins(replica);
-    *err = replica->mode == NO_REPLAY ? EROFS : replica_savepoint(replica);
+    *err = replica->mode == NO_REPLAY ? EROFS : 0;
     return &replica->calls;
 }
 
-static int call_ends(void *self, int err) { return change_ends(self, err); }
+// Whether the tree before the record is not kept.
+static bool lacks_savepoint(const struct replica *replica) {
+    return replica->mode == APPLYING && !replica->has_met && !replica->has_savepoint;
+}
+
+// A call that is a whole record takes no savepoint, by which the tree would copy what the call changes: it makes the
+// record or changes nothing.
+static int call_noted(void *self) {
+    struct replica *replica = self;
+    return lacks_savepoint(replica) && is_record(replica) ? 0 : replica_savepoint(replica);
+}
+
+static int call_ends(void *self, int err) {
+    struct replica *replica = self;
+    if (!err && lacks_savepoint(replica)) meet(replica);
+    return change_ends(replica, err);
+}
 
 // The library has one place for snapshots, where the tree is kept that is taken back.
 static int replica_snapshot(void *self, enum snapshot_call what, const char *snapshot) {
@@ -192,6 +212,7 @@ static int open_log_of(struct replica *replica, const struct open_options *optio
 
 static void begin_at(struct replica *replica, struct mount *mount, const struct log_start *start) {
     replica->layer.begins = call_begins;
+    replica->layer.noted = call_noted;
     replica->layer.ends = call_ends;
     replica->volume = library_volume(replica->layer.inner.self);
     replica->number = start->number;

@@ -18,6 +18,8 @@ static bool begin(struct wal_layer *layer, struct layer_call *call) {
     return call->calls;
 }
 
+static int noted(struct wal_layer *layer) { return layer->noted ? layer->noted(layer) : 0; }
+
 static int end(struct wal_layer *layer, const struct layer_call *call) {
     if (call->err) call->calls->length = call->before;
     return layer->ends ? layer->ends(layer, call->err) : call->err;
@@ -28,6 +30,7 @@ int wal_layer_change(void *self, enum path_call what, const char *path, uint64_t
     struct layer_call call;
     if (!begin(layer, &call)) return 0;
     if (!call.err) call.err = wal_encode_change(call.calls, what, path, at);
+    if (!call.err) call.err = noted(layer);
     if (!call.err) call.err = layer->inner.ops->change(layer->inner.self, what, path, at);
     return end(layer, &call);
 }
@@ -37,6 +40,7 @@ int wal_layer_rename(void *self, const char *from, const char *to, uint64_t at) 
     struct layer_call call;
     if (!begin(layer, &call)) return 0;
     if (!call.err) call.err = wal_encode_rename(call.calls, from, to, at);
+    if (!call.err) call.err = noted(layer);
     if (!call.err) call.err = layer->inner.ops->rename(layer->inner.self, from, to, at);
     return end(layer, &call);
 }
@@ -46,6 +50,7 @@ int wal_layer_truncate(void *self, const char *path, uint64_t length, uint64_t a
     struct layer_call call;
     if (!begin(layer, &call)) return 0;
     if (!call.err) call.err = wal_encode_truncate(call.calls, path, length, at);
+    if (!call.err) call.err = noted(layer);
     if (!call.err) call.err = layer->inner.ops->truncate(layer->inner.self, path, length, at);
     return end(layer, &call);
 }
@@ -57,6 +62,7 @@ int wal_layer_write(void *self, const char *path, uint64_t offset, const char *b
     *done = 0;
     if (!begin(layer, &call)) return 0;
     if (!call.err) call.err = wal_encode_write(call.calls, path, offset, bytes, count, at);
+    if (!call.err) call.err = noted(layer);
     if (!call.err) call.err = layer->inner.ops->write(layer->inner.self, path, offset, bytes, count, at, done);
     int err = end(layer, &call);
     if (err) *done = 0;
@@ -68,6 +74,7 @@ int wal_layer_punch(void *self, const char *path, uint64_t offset, uint64_t coun
     struct layer_call call;
     if (!begin(layer, &call)) return 0;
     if (!call.err) call.err = wal_encode_punch(call.calls, path, offset, count, at);
+    if (!call.err) call.err = noted(layer);
     if (!call.err) call.err = layer->inner.ops->punch(layer->inner.self, path, offset, count, at);
     return end(layer, &call);
 }
@@ -78,6 +85,7 @@ int wal_layer_copy_range(void *self, const struct copy_range *range, uint64_t at
     *copied = 0;
     if (!begin(layer, &call)) return 0;
     if (!call.err) call.err = wal_encode_copy_range(call.calls, range, at);
+    if (!call.err) call.err = noted(layer);
     if (!call.err) call.err = layer->inner.ops->copy_range(layer->inner.self, range, at, copied);
     int err = end(layer, &call);
     if (err) *copied = 0;

@@ -10,6 +10,8 @@ struct wal_layer {
     // Begins a call, and says after which bytes its note goes, and in `err` why it is refused, which is 0 before.
     // Null: the call does nothing, and is answered as done.
     struct bytes *(*begins)(void *self, int *err);
+    // Called when the note is there, before the inner backend's call: why that is refused. Null: it is not.
+    int (*noted)(void *self);
     // Ends a call that began: what it is answered with. Null: with its fault as it is.
     int (*ends)(void *self, int err);
 };
