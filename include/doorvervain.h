@@ -23,9 +23,9 @@
 // writes no more bytes into a buffer than its capacity.
 //
 // Caller obligations, which no check can see:
-//   - Set all members to null before the first use (`struct doorvervain fs = {0};`), and do not change them.
-//   - A copy of a struct is the same volume. Do not use a copy after a close: that is a use of freed memory. Begin and end a
-//     transaction through one struct: a copy does not know of it.
+//   - Set all members to null before the first use (`struct doorvervain fs = {0};`, in C++ `{}`), and do not change them.
+//   - A copy of a struct is the same volume. Do not use a copy after a close: that is a use of freed memory. Begin, end and close
+//     through one struct: a copy does not know that a transaction was begun since, nor that one was ended.
 //   - A call that changes a volume is alone in it. Calls that take a `const struct doorvervain *` only look: any number of
 //     them may be in one volume at once while no other call is. So a read-write lock around the calls of a volume is enough.
 //   - Any number of threads may be in one frozen tree at once, without a lock, by calls that take a
@@ -99,7 +99,7 @@ enum {
     DOORVERVAIN_EEXIST = 4,       // the path or snapshot exists already
     DOORVERVAIN_ENOTEMPTY = 5,    // the directory is not empty
     DOORVERVAIN_EPERM = 6,        // not permitted: to unlink a directory
-    DOORVERVAIN_EINVAL = 7,       // no path, name or shape; a rename below itself; a text that is malformed
+    DOORVERVAIN_EINVAL = 7,       // no path, name or shape; a rename below itself; a text that is malformed; no transaction is open
     DOORVERVAIN_ENAMETOOLONG = 8, // a name or path too long
     DOORVERVAIN_EFBIG = 9,        // a file too large
     DOORVERVAIN_EBUSY = 10,       // the root, which stays; a transaction is open
@@ -267,7 +267,8 @@ static inline uint8_t doorvervain_bad_args(const struct doorvervain *fs, const v
 // The same, and DOORVERVAIN_EBUSY while a transaction is open.
 static inline uint8_t doorvervain_busy_args(const struct doorvervain *fs, const void *bytes, size_t length) {
     uint8_t err = doorvervain_bad_args(fs, bytes, length);
-    return !err && fs->before ? DOORVERVAIN_EBUSY : err;
+    if (err) return err;
+    return fs->before ? DOORVERVAIN_EBUSY : DOORVERVAIN_DONE;
 }
 
 // Closes a struct, whatever it holds.
@@ -496,19 +497,20 @@ static inline uint8_t doorvervain_readdir(
 // text that is not a name.
 
 // Takes a snapshot of the tree under a name, in constant time. Fails with EEXIST if a snapshot has the name, with ENOSPC if the
-// volume has 64 snapshots, and with ENOMEM.
+// volume has 64 snapshots, with EBUSY if a transaction is open, and with ENOMEM.
 static inline uint8_t doorvervain_snapshot(struct doorvervain *fs, const char *name, size_t length) {
     uint8_t err = doorvervain_busy_args(fs, name, length);
     return err ? err : doorvervain_raw_snapshot(fs, doorvervain_in(name), length);
 }
 
-// Drops the snapshot of that name. Fails with ENOENT if there is none.
+// Drops the snapshot of that name. Fails with ENOENT if there is none, and with EBUSY if a transaction is open.
 static inline uint8_t doorvervain_drop_snapshot(struct doorvervain *fs, const char *name, size_t length) {
     uint8_t err = doorvervain_busy_args(fs, name, length);
     return err ? err : doorvervain_raw_drop_snapshot(fs, doorvervain_in(name), length);
 }
 
-// Restores the volume's tree from the snapshot of that name, which is kept. Fails with ENOENT if there is none, and with ENOMEM.
+// Restores the volume's tree from the snapshot of that name, which is kept. Fails with ENOENT if there is none, with EBUSY if a
+// transaction is open, and with ENOMEM.
 static inline uint8_t doorvervain_restore(struct doorvervain *fs, const char *name, size_t length) {
     uint8_t err = doorvervain_busy_args(fs, name, length);
     return err ? err : doorvervain_raw_restore(fs, doorvervain_in(name), length);
@@ -573,10 +575,11 @@ static inline uint8_t doorvervain_frozen_fork(const struct doorvervain_frozen *t
 }
 
 // Restores the volume's tree from a frozen one, also of another volume, whose shape the volume then has. The frozen tree stays as it is,
-// and so do the volume's snapshots. Fails with ENOMEM.
+// and so do the volume's snapshots. Fails with EBUSY if a transaction is open, and with ENOMEM.
 static inline uint8_t doorvervain_restore_frozen(struct doorvervain *fs, const struct doorvervain_frozen *tree) {
-    uint8_t err = doorvervain_busy_args(fs, NULL, 0);
+    uint8_t err = doorvervain_bad_args(fs, NULL, 0);
     if (!err) err = doorvervain_frozen_bad_args(tree, NULL, 0);
+    if (!err) err = doorvervain_busy_args(fs, NULL, 0);
     if (err) return err;
     struct doorvervain_frozen same = *tree;
     return doorvervain_raw_restore_frozen(fs, &same);
@@ -647,10 +650,11 @@ static inline void doorvervain_frozen_close(struct doorvervain_frozen *tree) {
 
 // ---- transactions: several calls that are done whole or not at all
 
-// Begins a transaction, in constant time. Calls then change the volume as always, and each sees the changes of those before. While
-// the transaction is open, the calls fail with DOORVERVAIN_EBUSY that take, drop or restore a snapshot, restore a frozen tree, or apply
-// a delta or a log, and doorvervain_compact does nothing. The first changes copy parts of the tree, as those after a snapshot do. Fails
-// with EBUSY if a transaction is open, and with ENOMEM.
+// Begins a transaction, in constant time. Calls change the volume as before, and later ones see their changes, until doorvervain_commit
+// or doorvervain_rollback ends the transaction. While it is open, calls that take, drop or restore a snapshot, restore a frozen tree, or
+// apply a delta or a log fail with EBUSY, and doorvervain_compact does nothing. A fork or a frozen tree that is made meanwhile has the
+// changes so far, and no transaction. The first changes copy parts of the tree, as those after a snapshot do. Fails with EBUSY if a
+// transaction is open, and with ENOMEM.
 static inline uint8_t doorvervain_begin(struct doorvervain *fs) {
     uint8_t err = doorvervain_busy_args(fs, NULL, 0);
     struct doorvervain_frozen before = {NULL};
@@ -659,7 +663,7 @@ static inline uint8_t doorvervain_begin(struct doorvervain *fs) {
     return err;
 }
 
-// Ends a transaction, and keeps its changes. Fails with EINVAL if none is open.
+// Ends a transaction, and keeps its changes. It asks for no memory. Fails with EINVAL if none is open.
 static inline uint8_t doorvervain_commit(struct doorvervain *fs) {
     uint8_t err = doorvervain_bad_args(fs, NULL, 0);
     if (err) return err;
@@ -883,7 +887,8 @@ static inline uint8_t doorvervain_delta(const struct doorvervain *fs, const char
 
 // Applies a delta to the live tree. Afterwards the volume is like one that was just loaded: its snapshots are dropped. Fails with ENOENT
 // if the live tree is not the tree from which the delta was made; with EINVAL if the text is not a delta, and `*line` is the number of its
-// first bad line; with EINVAL and a `*line` of 0 if the result would not be a tree; and with ENOMEM. `*line` is 0 in every other case.
+// first bad line; with EINVAL and a `*line` of 0 if the result would not be a tree; with EBUSY if a transaction is open; and with
+// ENOMEM. `*line` is 0 in every other case.
 static inline uint8_t doorvervain_apply_delta(struct doorvervain *fs, const void *text, size_t length, uint64_t *line) {
     if (!line) return DOORVERVAIN_NULL;
     *line = 0;
@@ -1179,8 +1184,8 @@ static inline uint8_t doorvervain_wal_dump(
 }
 
 // Applies the changes of a body, up to the first that fails: the call returns its error, and `*done` is how many were applied before it.
-// `*done` is 0 if none fails. Also fails with EINVAL if the bytes are not a body, and with ENOMEM if it could not be decoded; `*done` is 0
-// then, and nothing was applied.
+// `*done` is 0 if none fails. Also fails with EBUSY if a transaction is open, with EINVAL if the bytes are not a body, and with ENOMEM if
+// it could not be decoded; `*done` is 0 then, and nothing was applied.
 static inline uint8_t doorvervain_wal_apply(
     struct doorvervain *fs, const void *body, size_t length, size_t *done) {
     if (!done) return DOORVERVAIN_NULL;
@@ -1191,7 +1196,8 @@ static inline uint8_t doorvervain_wal_apply(
 
 // Replays the valid records of a log, the first of which has the given number. `*records` is how many records were replayed, and
 // `*size` how many bytes they have. If a change fails, the call returns its error, and `*done` is how many changes of its record were
-// applied. Also fails with EINVAL if the body of a record is not valid, or if a number of the log may exceed 2^64.
+// applied. Also fails with EBUSY if a transaction is open, and with EINVAL if the body of a record is not valid, or if a number of the log
+// may exceed 2^64.
 static inline uint8_t doorvervain_wal_replay(struct doorvervain *fs, const void *log, size_t length,
     uint64_t number, size_t *records, size_t *done, size_t *size) {
     if (records) *records = 0;
@@ -1234,8 +1240,8 @@ static inline uint8_t doorvervain_wal_salted_replay(struct doorvervain *fs, cons
     if (done) *done = 0;
     if (size) *size = 0;
     if (!records || !done || !size) return DOORVERVAIN_NULL;
-    uint8_t err = doorvervain_busy_args(fs, log, length);
-    if (!err) err = doorvervain_bad_args(fs, salt, salt_length);
+    uint8_t err = doorvervain_bad_args(fs, log, length);
+    if (!err) err = doorvervain_busy_args(fs, salt, salt_length);
     return err ? err
                  : doorvervain_raw_wal_salted_replay(
                        fs, doorvervain_in(log), length, doorvervain_in(salt), salt_length, number, records, done, size);
@@ -1255,7 +1261,7 @@ static inline const char *doorvervain_strerror(uint8_t number) {
     case DOORVERVAIN_EINVAL: return "EINVAL: invalid argument";
     case DOORVERVAIN_ENAMETOOLONG: return "ENAMETOOLONG: name or path too long";
     case DOORVERVAIN_EFBIG: return "EFBIG: file too large";
-    case DOORVERVAIN_EBUSY: return "EBUSY: the root cannot be moved or removed";
+    case DOORVERVAIN_EBUSY: return "EBUSY: the root cannot be moved or removed, or a transaction is open";
     case DOORVERVAIN_ENOMEM: return "ENOMEM: out of memory";
     case DOORVERVAIN_ENOSPC: return "ENOSPC: there are already 64 snapshots";
     case DOORVERVAIN_ERANGE: return "ERANGE: the buffer is too short";

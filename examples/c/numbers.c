@@ -243,7 +243,7 @@ static void say_names(struct doorvervain *fs) {
 static const char *state_of(const void *at) { return at ? "open" : "closed"; }
 
 static void say_open(const char *what, uint16_t fanout, uint16_t pending, uint16_t leaf, bool no_memory) {
-    struct doorvervain fs = {&fs};
+    struct doorvervain fs = {.ptr = &fs};
     refused_request = no_memory ? ALL_REQUESTS : 0;
     uint8_t number = without_memory(doorvervain_raw_open(fanout, pending, leaf, &fs));
     printf("%s: %d, %s\n", what, number, state_of(fs.ptr));
@@ -251,7 +251,7 @@ static void say_open(const char *what, uint16_t fanout, uint16_t pending, uint16
 }
 
 static void say_load(const char *what, const char *text, uint16_t fanout, uint16_t pending, uint16_t leaf, bool no_memory) {
-    struct doorvervain fs = {&fs};
+    struct doorvervain fs = {.ptr = &fs};
     uint64_t line = OLD;
     refused_request = no_memory ? ALL_REQUESTS : 0;
     uint8_t number = without_memory(doorvervain_raw_load(fanout, pending, leaf, bytes_of(text), strlen(text), &line, &fs));
@@ -294,7 +294,7 @@ static void say_piece(const char *what, struct doorvervain_loader *loading, cons
 }
 
 static void say_end(const char *what, struct doorvervain_loader loading, bool no_memory) {
-    struct doorvervain fs = {&fs};
+    struct doorvervain fs = {.ptr = &fs};
     uint64_t line = OLD;
     refused_request = no_memory ? ALL_REQUESTS : 0;
     uint8_t number = without_memory(doorvervain_raw_load_finish(loading, &line, &fs));
@@ -362,7 +362,7 @@ static void freeze(struct doorvervain *fs) {
 // ---- what the functions of the header leave in their results if another one is null
 
 static void leave_out(struct doorvervain *fs) {
-    struct doorvervain loaded = {&loaded};
+    struct doorvervain loaded = {&loaded, &loaded};
     uint8_t kind = OLD;
     uint64_t size = OLD, line = OLD;
     uint8_t number = doorvervain_stat(fs, "/d", 2, &kind, &size, NULL);

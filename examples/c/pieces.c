@@ -81,7 +81,7 @@ static void goes(struct doorvervain *fs, size_t capacity) {
 // Callbacks that stop.
 static void stops(struct doorvervain *fs) {
     static struct text text;
-    struct doorvervain loaded = {&loaded};
+    struct doorvervain loaded = {&loaded, &loaded};
     int failed = OLD;
     uint64_t line = OLD;
     text.most = 100;
@@ -99,7 +99,7 @@ static void stops(struct doorvervain *fs) {
 
 // A text that is not an image, piece by piece.
 static void refusals(void) {
-    struct doorvervain fs = {&fs};
+    struct doorvervain fs = {&fs, &fs};
     struct doorvervain_loader loading = {0};
     uint64_t line = OLD;
     uint8_t number = doorvervain_load_begin(&loading, 3, 256, 256);
