@@ -107,6 +107,7 @@ PyObject *refuse(uint8_t number, PyObject *path, PyObject *other) {
         raise_os_error(EBADF, "the volume or tree is closed", NULL, NULL);
         return NULL;
     }
+    if (number == DOORVERVAIN_EBUSY && !path) return refuse_as(number, "a transaction is open", NULL, NULL);
     const char *fault = fault_of(number, path);
     if (!fault) fault = fault_of(number, other);
     if (!fault && other) fault = fault_of_both(number);
@@ -119,6 +120,7 @@ PyObject *refuse_name(uint8_t number, PyObject *name, PyObject *other) {
         return refuse_as(number, "a snapshot's name has 1 to 64 letters, digits, '.', '_' and '-'", name, other);
     case DOORVERVAIN_ENOENT: return refuse_as(number, "no such snapshot", name, other);
     case DOORVERVAIN_EEXIST: return refuse_as(number, "a snapshot of that name exists", name, other);
+    case DOORVERVAIN_EBUSY: return refuse_as(number, "a transaction is open", name, other);
     case DOORVERVAIN_ENOSPC:
         return refuse_as(
             number, "a volume has at most 64 named snapshots; frozen trees and forks have no such limit", name, other);

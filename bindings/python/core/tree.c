@@ -328,7 +328,7 @@ static void close_tree(Tree *tree) {
     if (!is_lost) lock_take(tree->lock);
     struct doorvervain volume = tree->volume;
     struct doorvervain_frozen frozen = tree->frozen;
-    tree->volume.ptr = NULL;
+    tree->volume = (struct doorvervain){0};
     tree->frozen.ptr = NULL;
     if (is_lost) return;
     Py_BEGIN_ALLOW_THREADS

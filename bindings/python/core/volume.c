@@ -1,4 +1,4 @@
-// Volumes: calls that change them, snapshots and compaction.
+// Volumes: calls that change them, snapshots, transactions and compaction.
 //
 // Invariant: a call that changes the volume holds its lock alone, and `kept` has the shape of each snapshot.
 #include "core.h"
@@ -44,7 +44,7 @@ static int volume_init(PyObject *self, PyObject *words, PyObject *named) {
     static char *names[] = {"shape", "clock", NULL};
     PyObject *shape = NULL, *clock = Py_None;
     uint16_t numbers[3] = {DOORVERVAIN_FANOUT, DOORVERVAIN_PENDING, DOORVERVAIN_LEAF};
-    struct doorvervain opened = {NULL};
+    struct doorvervain opened = {0};
     if (!PyArg_ParseTupleAndKeywords(words, named, "|OO:Volume", names, &shape, &clock)) return -1;
     if ((shape && shape_of(shape, numbers)) || begin((Tree *)self)) return -1;
     uint8_t number = doorvervain_open(&opened, numbers[0], numbers[1], numbers[2]);
@@ -68,7 +68,7 @@ static PyObject *volume_load(PyObject *self, PyObject *words) {
     const char *text;
     Py_ssize_t length;
     uint16_t numbers[3];
-    struct doorvervain opened = {NULL};
+    struct doorvervain opened = {0};
     uint64_t line = 0;
     uint8_t number;
     if (!PyArg_ParseTuple(words, "y#OO:load", &text, &length, &shape, &clock)) return NULL;
@@ -404,7 +404,7 @@ static PyObject *volume_restore(PyObject *self, PyObject *from) {
 // Initialises a volume as the fork of a volume or a frozen tree.
 static PyObject *volume_fork_of(PyObject *self, PyObject *words) {
     PyObject *given, *clock;
-    struct doorvervain made = {NULL};
+    struct doorvervain made = {0};
     if (!PyArg_ParseTuple(words, "O!O:fork", known.tree, &given, &clock)) return NULL;
     Tree *from = (Tree *)given;
     uint16_t shape[3];
@@ -502,6 +502,40 @@ static PyObject *volume_apply_delta(PyObject *self, PyObject *given) {
     refuse_text(known.bad_delta, line);
     return NULL;
 }
+
+// ---- transactions
+
+static PyObject *volume_begin(PyObject *self, PyObject *unused) {
+    (void)unused;
+    Tree *tree = (Tree *)self;
+    if (enter(tree)) return NULL;
+    uint8_t number = doorvervain_begin(&tree->volume);
+    leave(tree);
+    return answer(number, NULL);
+}
+
+// Ends a transaction, without the interpreter's lock: it may free a tree.
+static PyObject *end_transaction(Tree *tree, uint8_t (*call)(struct doorvervain *fs)) {
+    uint8_t number;
+    if (enter(tree)) return NULL;
+    Py_BEGIN_ALLOW_THREADS
+    number = call(&tree->volume);
+    Py_END_ALLOW_THREADS
+    leave(tree);
+    return number == DOORVERVAIN_EINVAL ? refuse_as(number, "no transaction is open", NULL, NULL) : answer(number, NULL);
+}
+
+static PyObject *volume_commit(PyObject *self, PyObject *unused) {
+    (void)unused;
+    return end_transaction((Tree *)self, doorvervain_commit);
+}
+
+static PyObject *volume_rollback(PyObject *self, PyObject *unused) {
+    (void)unused;
+    return end_transaction((Tree *)self, doorvervain_rollback);
+}
+
+// ---- compaction
 
 // How many steps are done between two looks at signals: some milliseconds.
 enum { STEPS_AT_ONCE = 1000 };
@@ -618,10 +652,27 @@ static PyMethodDef volume_methods[] = {
         "apply_delta($self, text, /)\n--\n\n"
         "Applies a delta to the tree. Afterwards the volume is like one that was just loaded: its snapshots are dropped. The delta\n"
         "of another tree is a FileNotFoundError, and a text that is not a delta a `BadDelta`."},
+    {"begin", volume_begin, METH_NOARGS,
+        "begin($self, /)\n--\n\n"
+        "Begins a transaction, in constant time, which `commit` or `rollback` ends. `transaction` does all three, and says what\n"
+        "fails meanwhile.\n\n"
+        ">>> volume = Volume()\n"
+        ">>> volume.begin()\n"
+        ">>> volume.create(\"/x\")\n"
+        ">>> volume.rollback()\n"
+        ">>> volume.listdir()\n"
+        "[]\n"},
+    {"commit", volume_commit, METH_NOARGS,
+        "commit($self, /)\n--\n\n"
+        "Ends a transaction, and keeps its changes. If none is open, that is an OSError with EINVAL."},
+    {"rollback", volume_rollback, METH_NOARGS,
+        "rollback($self, /)\n--\n\n"
+        "Ends a transaction, and undoes its changes. If none is open, that is an OSError with EINVAL."},
     {"compact", FAST(volume_compact),
         "compact($self, /, steps=None)\n--\n\n"
         "Compacts the trees: moves pending changes down, by at most `steps` steps, or all of them. Returns how many steps it did:\n"
-        "fewer if nothing is pending, or if no step has room. No result changes, but later read-only calls take less time."},
+        "fewer if nothing is pending, or if no step has room, and none while a transaction is open. No result changes, but later\n"
+        "read-only calls take less time."},
     {NULL, NULL, 0, NULL},
 };
 

@@ -5,6 +5,7 @@ append, holds it alone throughout. A fork and a frozen tree have locks of their 
 """
 from __future__ import annotations
 
+import contextlib
 import copy
 import errno
 import io
@@ -347,6 +348,34 @@ class Volume(Tree, _core.Volume):
         (['x'], [])
         """
         return _forked(self, clock)
+
+    @contextlib.contextmanager
+    def transaction(self) -> Iterator[None]:
+        """Makes a `with` block a transaction: its changes are kept at its end, and undone if an exception leaves it, which is
+        raised again.
+
+        The block sees its changes, and so do other threads, whose own changes belong to the transaction too: a thread that
+        should not take part gets a fork. While it is open, another transaction, taking, dropping and restoring a snapshot,
+        restoring a frozen tree and `apply_delta` are an `OSError` with EBUSY, and `compact` does nothing. Forks and frozen
+        trees have the changes so far.
+
+        >>> volume = Volume()
+        >>> with volume.transaction():
+        ...     volume.create("/x")
+        ...     volume.mkdir("/x")
+        Traceback (most recent call last):
+            ...
+        FileExistsError: [Errno 17] File exists: '/x'
+        >>> volume.listdir()
+        []
+        """
+        self.begin()
+        try:
+            yield
+        except BaseException:
+            self.rollback()
+            raise
+        self.commit()
 
     def open_snapshot(self, name: Union[str, bytes]) -> "Frozen":
         """Opens a snapshot for reading."""

@@ -37,6 +37,8 @@ def uses(volume: Volume, tree: Frozen, mode: str) -> None:
     skipped: List[str] = volume.import_tree("here", path, skip_special=True)
     volume.import_tree(path)  # type: ignore[arg-type]
     volume.restore(volume.fork().freeze())
+    with volume.transaction():
+        volume.commit()
     numbers = array("i", [1, 2])
     volume.write_bytes("/x", numbers), volume.write("/x", numbers), volume.path("/x").write_bytes(numbers)
     Mine.load(b"").more()

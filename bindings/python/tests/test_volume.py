@@ -1,5 +1,6 @@
 """Volumes, snapshots and frozen trees: what each call gives, and what it refuses."""
 import array
+import copy
 import errno
 import gc
 import os
@@ -171,7 +172,7 @@ class Refusals(unittest.TestCase):
             (volume.copy_range, "/d/f", 0, "/d/f", 0, 1), (volume.write, "/d/f", b"x"), (volume.write_bytes, "/d/f", b"x"), (volume.read, "/d/f"),
             (volume.stat, "/d"), (volume.listdir, "/"), (volume.snapshot, "t"), (volume.drop_snapshot, "s"),
             (volume.restore, "s"), (volume.restore, tree), (volume.freeze,), (volume.fork,), (volume.open_snapshot, "s"), (volume.image,),
-            (volume.compact, 1),
+            (volume.compact, 1), (volume.begin,), (volume.commit,), (volume.rollback,),
             (volume.makedirs, "/e/f"), (volume.open, "/d/f"), (file.read, 1), (file.readall,),
         ]:
             with self.subTest(call=call.__name__):
@@ -508,6 +509,139 @@ class Snapshots(unittest.TestCase):
         finally:
             signal.signal(signal.SIGALRM, before)
         self.assertGreater(volume.compact(), 0)
+
+
+class Transactions(unittest.TestCase):
+    def setUp(self):
+        self.volume = Volume(clock=iter(range(1, 1 << 30)).__next__)
+        self.volume.makedirs("/d/sub")
+        self.volume.write_bytes("/d/f", b"some rain")
+        self.volume.snapshot("s")
+
+    def change(self):
+        self.volume.rename("/d", "/e")
+        self.volume.rmtree("/e/sub")
+        self.volume.truncate("/e/f", 4)
+        self.volume.write("/e/f", b"sun", 9000)
+        self.volume.utime("/")
+
+    def test_a_commit_keeps_and_a_rollback_undoes(self):
+        before = self.volume.image()
+        self.volume.begin()
+        self.change()
+        self.assertEqual((self.volume.rollback(), self.volume.image()), (None, before))
+        self.volume.begin()
+        self.change()
+        after = self.volume.image()
+        self.assertEqual((self.volume.commit(), self.volume.image()), (None, after))
+        self.assertNotEqual(after, before)
+        self.volume.restore("s")
+        self.assertEqual(self.volume.image(), before)
+
+    def test_what_is_refused_meanwhile(self):
+        volume, delta, before = self.volume, self.volume.delta("s"), self.volume.image()
+        tree = volume.freeze()
+        with volume.transaction():
+            for call, *words in [
+                (volume.begin,), (volume.snapshot, "t"), (volume.snapshot, "s"), (volume.drop_snapshot, "s"), (volume.restore, "s"),
+                (volume.restore, tree), (volume.apply_delta, delta),
+            ]:
+                with self.subTest(call=call.__name__):
+                    self.assertEqual(refused(self, OSError, errno.EBUSY, call, *words).strerror, "a transaction is open")
+            self.assertEqual(refused(self, OSError, errno.EBUSY, volume.rmtree, "/").strerror, "the root is neither removed nor moved")
+            self.assertEqual((volume.compact(), volume.snapshots(), volume.image()), (0, ["s"], before))
+        for call, *words in [(volume.snapshot, "t"), (volume.drop_snapshot, "t"), (volume.restore, tree), (volume.restore, "s")]:
+            call(*words)
+        self.assertGreater(volume.compact(), 0)
+        volume.apply_delta(delta)
+
+    def test_an_end_without_a_begin(self):
+        for end in [self.volume.commit, self.volume.rollback]:
+            self.assertEqual(refused(self, OSError, errno.EINVAL, end).strerror, "no transaction is open")
+            self.volume.begin()
+            end()
+            refused(self, OSError, errno.EINVAL, end)
+        self.assertRaises(TypeError, self.volume.begin, 1)
+
+    def test_a_block_is_committed_at_its_end(self):
+        with self.volume.transaction() as given:
+            self.assertIsNone(given)
+            self.volume.remove("/d/f")
+        self.assertFalse(self.volume.exists("/d/f"))
+        refused(self, OSError, errno.EINVAL, self.volume.commit)
+
+    def test_a_block_that_an_exception_leaves_is_rolled_back(self):
+        before = self.volume.image()
+        for error in [ValueError("x"), KeyboardInterrupt(), GeneratorExit(), StopIteration()]:
+            with self.assertRaises(type(error)) as caught:
+                with self.volume.transaction():
+                    self.change()
+                    raise error
+            self.assertIs(caught.exception, error)
+            self.assertEqual(self.volume.image(), before)
+            refused(self, OSError, errno.EINVAL, self.volume.rollback)
+
+    def test_a_second_one_leaves_the_first_open(self):
+        with self.volume.transaction():
+            self.volume.create("/x")
+            with self.assertRaises(OSError) as caught:
+                with self.volume.transaction():
+                    self.fail("a second transaction began")
+            self.assertEqual(caught.exception.errno, errno.EBUSY)
+            self.assertTrue(self.volume.exists("/x"))
+            self.volume.create("/y")
+        self.assertEqual(self.volume.listdir(), ["d", "x", "y"])
+
+    def test_what_is_made_of_a_volume_with_an_open_one(self):
+        self.volume.begin()
+        self.volume.create("/x")
+        tree, copies = self.volume.freeze(), [self.volume.fork(), copy.copy(self.volume), Volume.load(self.volume.image())]
+        self.volume.rollback()
+        for it in copies:
+            self.assertTrue(it.exists("/x"))
+            refused(self, OSError, errno.EINVAL, it.rollback)
+        self.assertEqual((tree.exists("/x"), self.volume.exists("/x")), (True, False))
+        self.volume.begin()
+        self.volume.close()
+        refused(self, OSError, errno.EBADF, self.volume.rollback)
+
+    def test_changes_of_other_threads_belong_to_it(self):
+        before = self.volume.image()
+        self.volume.begin()
+        other = threading.Thread(target=self.change)
+        other.start()
+        other.join()
+        self.assertEqual(self.volume.listdir(), ["e"])
+        self.volume.rollback()
+        self.assertEqual(self.volume.image(), before)
+
+    def test_random_transactions(self):
+        draw, volume, kept, is_open = random.Random(7), Volume(shape=(4, 4, 4)), {}, False
+        model = {}
+        for turn in range(20_000):
+            name, kind = f"/f{draw.randrange(50)}", draw.random()
+            if kind < 0.02:
+                if is_open:
+                    refused(self, OSError, errno.EBUSY, volume.begin)
+                else:
+                    volume.begin()
+                    kept, is_open = dict(model), True
+            elif kind < 0.05 and is_open:
+                if draw.random() < 0.5:
+                    volume.commit()
+                else:
+                    volume.rollback()
+                    model = kept
+                is_open = False
+                self.assertEqual({name: volume.read(name) for name in volume.glob("/*")}, model)
+            elif kind < 0.1:
+                volume.compact(5)
+            elif kind < 0.5 and name in model:
+                volume.unlink(name, at=turn)
+                del model[name]
+            else:
+                model[name] = b"%d" % turn
+                volume.write_bytes(name, model[name], at=turn)
 
 
 class Words(unittest.TestCase):
