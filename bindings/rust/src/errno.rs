@@ -35,7 +35,7 @@ pub enum Errno {
     ENAMETOOLONG = 8,
     /// A file too large.
     EFBIG = 9,
-    /// The root, which stays.
+    /// The root, which stays; a transaction is open.
     EBUSY = 10,
     /// Allocation failure.
     ENOMEM = 11,
@@ -54,7 +54,12 @@ const TABLE: [(Errno, &str, &str, i32); 12] = [
     (Errno::EINVAL, "EINVAL", "invalid argument", 22),
     (Errno::ENAMETOOLONG, "ENAMETOOLONG", "name or path too long", 36),
     (Errno::EFBIG, "EFBIG", "file too large", 27),
-    (Errno::EBUSY, "EBUSY", "the root cannot be moved or removed", 16),
+    (
+        Errno::EBUSY,
+        "EBUSY",
+        "the root cannot be moved or removed, or a transaction is open",
+        16,
+    ),
     (Errno::ENOMEM, "ENOMEM", "out of memory", 12),
     (Errno::ENOSPC, "ENOSPC", "there are already 64 snapshots", 28),
 ];

@@ -4,7 +4,8 @@
 //! - *No null pointer, and no volume that is closed*: a handle owns a volume from its creation to its drop, and a slice is never
 //!   null.
 //! - *A call that changes a volume is in it alone; calls that only look may be in it beside each other*: each volume has a read-write
-//!   lock, which each call holds. A frozen tree has none: no call changes it, and its drop has the only reference.
+//!   lock, which each call holds, and which has the tree with which an open transaction began. A frozen tree has none: no call changes
+//!   it, and its drop has the only reference.
 //! - *Bytes that a call writes overlap no others*: they are borrowed by `&mut`.
 #![allow(unsafe_code)]
 
@@ -13,7 +14,7 @@ use crate::listing::{Kind, Stat};
 use std::ffi::c_void;
 use std::mem::ManuallyDrop;
 use std::ptr::{null_mut, NonNull};
-use std::sync::{PoisonError, RwLock};
+use std::sync::{PoisonError, RwLock, RwLockWriteGuard};
 
 /// The most bytes that one call reads.
 const MOST: usize = 1 << 20;
@@ -278,13 +279,14 @@ impl Calls {
     }
 }
 
-/// A volume, which is freed with its owner.
+/// A volume, which is freed with its owner. The lock has the tree with which an open transaction began.
 pub(crate) struct VolumeHandle {
     held: Held,
-    lock: RwLock<()>,
+    before: RwLock<Option<FrozenHandle>>,
 }
 
-// SAFETY: a call that changes the volume holds the lock alone, and one that only looks holds it beside others that only look.
+// SAFETY: a call that changes the volume holds the lock alone, and one that only looks holds it beside others that only look. The tree in
+// the lock may be used and dropped by any thread.
 unsafe impl Sync for VolumeHandle {}
 
 /// A frozen tree, which is freed with its owner.
@@ -295,7 +297,7 @@ unsafe impl Sync for FrozenHandle {}
 
 impl Reads for VolumeHandle {
     fn look<T>(&self, calls: impl FnOnce(*mut RawHandle) -> T) -> T {
-        let _lock = self.lock.read().unwrap_or_else(PoisonError::into_inner);
+        let _before = self.before.read().unwrap_or_else(PoisonError::into_inner);
         calls(&mut self.held.raw())
     }
 
@@ -325,8 +327,8 @@ impl Reads for FrozenHandle {
 impl VolumeHandle {
     /// Takes ownership of a volume that a successful call wrote.
     fn new(raw: &RawHandle) -> Result<VolumeHandle, Errno> {
-        let (held, lock) = (Held::new(raw)?, RwLock::new(()));
-        Ok(VolumeHandle { held, lock })
+        let (held, before) = (Held::new(raw)?, RwLock::new(None));
+        Ok(VolumeHandle { held, before })
     }
 
     pub(crate) fn open(fanout: u16, pending: u16, leaf: u16) -> Result<VolumeHandle, Errno> {
@@ -336,10 +338,53 @@ impl VolumeHandle {
         VolumeHandle::new(&out)
     }
 
+    /// Waits until nobody else is in the volume.
+    fn alone(&self) -> RwLockWriteGuard<'_, Option<FrozenHandle>> {
+        self.before.write().unwrap_or_else(PoisonError::into_inner)
+    }
+
     /// Runs calls that may change the volume while nobody else is in it.
     fn change<T>(&self, calls: impl FnOnce(*mut RawHandle) -> T) -> T {
-        let _lock = self.lock.write().unwrap_or_else(PoisonError::into_inner);
+        let _before = self.alone();
         calls(&mut self.held.raw())
+    }
+
+    /// The same, but `EBUSY` if a transaction is open.
+    fn change_outside<T>(&self, calls: impl FnOnce(*mut RawHandle) -> T) -> Result<T, Errno> {
+        let before = self.alone();
+        match *before {
+            Some(_) => Err(Errno::EBUSY),
+            None => Ok(calls(&mut self.held.raw())),
+        }
+    }
+
+    /// Begins a transaction; or `EBUSY`, if one is open.
+    pub(crate) fn begin(&self) -> Result<(), Errno> {
+        let (mut before, mut out) = (self.alone(), CLOSED);
+        if before.is_some() {
+            return Err(Errno::EBUSY);
+        }
+        // SAFETY: the volume is there, and nobody else is in it; the out-parameter can be written.
+        done(unsafe { doorvervain_raw_freeze(&mut self.held.raw(), &mut out) })?;
+        *before = Some(Held::new(&out).map(FrozenHandle)?);
+        Ok(())
+    }
+
+    /// Ends a transaction, and keeps its changes.
+    pub(crate) fn commit(&self) {
+        let before = self.alone().take();
+        drop(before);
+    }
+
+    /// Ends a transaction, and restores the tree with which it began.
+    pub(crate) fn rollback(&self) {
+        let mut before = self.alone();
+        if let Some(tree) = before.take() {
+            // SAFETY: the volume and the tree are there, and nobody else is in the volume.
+            let number = tree.look(|tree| unsafe { doorvervain_raw_restore_frozen(&mut self.held.raw(), tree) });
+            // It asks for no memory, and fails only with 2^64 - 1 references to the tree, which no memory holds.
+            debug_assert_eq!(number, 0);
+        }
     }
 
     pub(crate) fn path_call(&self, call: PathCall, path: &[u8], at: u64) -> Result<(), Errno> {
@@ -417,7 +462,7 @@ impl VolumeHandle {
     }
 
     pub(crate) fn snapshot_call(&self, call: SnapshotCall, name: &[u8]) -> Result<(), Errno> {
-        self.change(|raw| done(unsafe { call.call()(raw, name.as_ptr(), name.len()) }))
+        self.change_outside(|raw| done(unsafe { call.call()(raw, name.as_ptr(), name.len()) }))?
     }
 
     /// The names of all snapshots, in order, as they are at one time.
@@ -438,7 +483,7 @@ impl VolumeHandle {
     }
 
     pub(crate) fn restore_frozen(&self, tree: &FrozenHandle) -> Result<(), Errno> {
-        self.change(|raw| tree.look(|tree| done(unsafe { doorvervain_raw_restore_frozen(raw, tree) })))
+        self.change_outside(|raw| tree.look(|tree| done(unsafe { doorvervain_raw_restore_frozen(raw, tree) })))?
     }
 
     pub(crate) fn open_snapshot(&self, name: &[u8]) -> Result<FrozenHandle, Errno> {
@@ -460,13 +505,14 @@ impl VolumeHandle {
     /// Applies a delta; or returns the error, with the first bad line of the text.
     pub(crate) fn apply_delta(&self, text: &[u8]) -> Result<(), (Errno, u64)> {
         let mut line = 0;
-        let number =
-            self.change(|raw| unsafe { doorvervain_raw_apply_delta(raw, text.as_ptr(), text.len(), &mut line) });
-        done(number).map_err(|refused| (refused, line))
+        let applied = self
+            .change_outside(|raw| unsafe { doorvervain_raw_apply_delta(raw, text.as_ptr(), text.len(), &mut line) });
+        applied.and_then(done).map_err(|refused| (refused, line))
     }
 
     pub(crate) fn compact(&self, steps: u32) -> u32 {
-        self.change(|raw| unsafe { doorvervain_raw_compact(raw, steps) })
+        self.change_outside(|raw| unsafe { doorvervain_raw_compact(raw, steps) })
+            .unwrap_or(0)
     }
 }
 

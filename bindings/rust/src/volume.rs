@@ -1,7 +1,9 @@
-//! Volumes and frozen trees.
+//! Volumes, their transactions, and frozen trees.
 use crate::errno::{DeltaError, Errno, LoadError};
 use crate::listing::{Listing, Lists, Stat, Walk};
 use crate::raw::{FrozenHandle, LoaderHandle, PathCall, Printer, Reads, SnapshotCall, VolumeHandle};
+use std::mem::ManuallyDrop;
+use std::ops::Deref;
 use std::os::unix::ffi::OsStrExt;
 use std::path::Path;
 use std::sync::Arc;
@@ -125,6 +127,12 @@ pub struct Frozen {
 pub struct At<'a> {
     volume: &'a Volume,
     timestamp: u64,
+}
+
+/// An open transaction of a volume: [`Volume::transaction`]. It is rolled back when it is dropped.
+#[must_use = "a transaction that is dropped is rolled back"]
+pub struct Transaction<'a> {
+    volume: &'a Volume,
 }
 
 /// The read-only calls, which a volume and a frozen tree have in common.
@@ -508,7 +516,7 @@ impl Volume {
     /// ```
     ///
     /// # Errors
-    /// `EEXIST`; `EINVAL`: not a name; `ENOSPC`: there are already 64 snapshots; `ENOMEM`.
+    /// `EEXIST`; `EINVAL`: not a name; `ENOSPC`: there are already 64 snapshots; `EBUSY`: a transaction is open; `ENOMEM`.
     pub fn snapshot(&self, name: &str) -> Result<(), Errno> {
         self.handle.snapshot_call(SnapshotCall::Snapshot, name.as_bytes())
     }
@@ -516,7 +524,7 @@ impl Volume {
     /// Drops a snapshot.
     ///
     /// # Errors
-    /// `ENOENT`; `EINVAL`: not a name.
+    /// `ENOENT`; `EINVAL`: not a name; `EBUSY`: a transaction is open.
     pub fn drop_snapshot(&self, name: &str) -> Result<(), Errno> {
         self.handle.snapshot_call(SnapshotCall::Drop, name.as_bytes())
     }
@@ -524,7 +532,7 @@ impl Volume {
     /// Restores the volume's tree from a snapshot, which is kept.
     ///
     /// # Errors
-    /// `ENOENT`, `ENOMEM`; `EINVAL`: not a name.
+    /// `ENOENT`, `ENOMEM`; `EINVAL`: not a name; `EBUSY`: a transaction is open.
     pub fn restore(&self, name: &str) -> Result<(), Errno> {
         self.handle.snapshot_call(SnapshotCall::Restore, name.as_bytes())
     }
@@ -579,9 +587,43 @@ impl Volume {
     /// ```
     ///
     /// # Errors
-    /// `ENOMEM`.
+    /// `EBUSY`: a transaction is open; `ENOMEM`.
     pub fn restore_frozen(&self, tree: &Frozen) -> Result<(), Errno> {
         self.handle.restore_frozen(&tree.handle)
+    }
+
+    /// Begins a transaction, in constant time. Calls change the volume as before, and later ones see their changes, which are undone
+    /// unless the transaction is committed.
+    ///
+    /// ```
+    /// # use doorvervain::{Errno, Volume};
+    /// fn replace(volume: &Volume) -> Result<(), Errno> {
+    ///     let transaction = volume.transaction()?;
+    ///     transaction.rmtree("/new")?;
+    ///     transaction.rename("/old", "/new")?;
+    ///     transaction.commit();
+    ///     Ok(())
+    /// }
+    ///
+    /// let volume = Volume::new()?;
+    /// volume.create("/new")?;
+    /// assert_eq!(replace(&volume), Err(Errno::ENOENT));
+    /// assert!(volume.exists("/new")?);
+    /// volume.mkdir("/old")?;
+    /// replace(&volume)?;
+    /// assert!(volume.stat("/new")?.is_dir());
+    /// # Ok::<(), Errno>(())
+    /// ```
+    ///
+    /// Other threads see these changes, and theirs belong to the transaction too: a thread that should not take part gets a
+    /// [`fork`](Volume::fork). Until its end, calls that take, drop or restore a snapshot, restore a frozen tree or apply a delta are
+    /// `EBUSY`, and [`compact`](Volume::compact) does nothing.
+    ///
+    /// # Errors
+    /// `EBUSY`: one is open; `ENOMEM`.
+    pub fn transaction(&self) -> Result<Transaction<'_>, Errno> {
+        self.handle.begin()?;
+        Ok(Transaction { volume: self })
     }
 
     /// Opens a snapshot for reading.
@@ -643,7 +685,7 @@ impl Volume {
     /// ```
     ///
     /// # Errors
-    /// [`DeltaError`]. Then the volume is unchanged.
+    /// [`DeltaError`], for `EBUSY` if a transaction is open. Then the volume is unchanged.
     pub fn apply_delta(&self, text: &[u8]) -> Result<(), DeltaError> {
         self.handle.apply_delta(text).map_err(|refused| match refused {
             (Errno::ENOENT, _) => DeltaError::OtherTree,
@@ -654,9 +696,34 @@ impl Volume {
     }
 
     /// Compacts the trees: does at most `steps` steps, each of which moves pending changes down. Returns how many steps it did,
-    /// fewer only if nothing is pending or the next step cannot be done. It changes no result of any call.
+    /// fewer only if nothing is pending or the next step cannot be done, and none while a transaction is open. It changes no result of
+    /// any call.
     pub fn compact(&self, steps: u32) -> u32 {
         self.handle.compact(steps)
+    }
+}
+
+impl Transaction<'_> {
+    /// Ends the transaction, and keeps its changes.
+    pub fn commit(self) {
+        ManuallyDrop::new(self).volume.handle.commit();
+    }
+
+    /// Ends the transaction, and undoes its changes, as a drop does.
+    pub fn rollback(self) {}
+}
+
+impl Deref for Transaction<'_> {
+    type Target = Volume;
+
+    fn deref(&self) -> &Volume {
+        self.volume
+    }
+}
+
+impl Drop for Transaction<'_> {
+    fn drop(&mut self) {
+        self.volume.handle.rollback();
     }
 }
 
@@ -703,6 +770,12 @@ fn show(f: &mut fmt::Formatter<'_>, name: &str, listing: Result<Listing, Errno>)
 impl fmt::Debug for Volume {
     fn fmt(&self, f: &mut fmt::Formatter<'_>) -> fmt::Result {
         show(f, "Volume", self.readdir("/"))
+    }
+}
+
+impl fmt::Debug for Transaction<'_> {
+    fn fmt(&self, f: &mut fmt::Formatter<'_>) -> fmt::Result {
+        show(f, "Transaction", self.readdir("/"))
     }
 }
 

@@ -1,6 +1,7 @@
 //! Each call: what it gives, what it refuses, and what stands still.
-use doorvervain::{DeltaError, Errno, File, Frozen, Kind, LoadError, Shape, Stat, Volume};
+use doorvervain::{DeltaError, Errno, File, Frozen, Kind, LoadError, Shape, Stat, Transaction, Volume};
 use std::io::{self, Write};
+use std::panic::{self, AssertUnwindSafe};
 use std::path::Path;
 use std::sync::Barrier;
 use std::thread;
@@ -378,6 +379,166 @@ fn a_bad_delta_changes_nothing() -> Result<(), Errno> {
     assert_eq!(volume.image()?, b"D / 5\n");
     assert_eq!(volume.snapshots().count(), 1);
     assert_eq!(volume.delta("none", ""), Err(Errno::ENOENT));
+    Ok(())
+}
+
+/// A volume with files, a directory, a snapshot and an mtime for each.
+fn with_tree() -> Result<Volume, Errno> {
+    let volume = Volume::new()?;
+    volume.at(1).create_dir_all("/d/sub")?;
+    volume.at(2).write("/d/f", "some rain")?;
+    volume.at(3).write("/big", vec![7; 9000])?;
+    volume.snapshot("s")?;
+    Ok(volume)
+}
+
+fn change(volume: &Volume) -> Outcome {
+    volume.at(10).rename("/d", "/e")?;
+    volume.at(11).rmtree("/e/sub")?;
+    volume.at(12).truncate("/e/f", 4)?;
+    volume.at(13).punch("/big", 0, 4096)?;
+    volume.copy_range("/big", 4096, "/e/f", 4096, 4096)?;
+    volume.set_modified("/", 14)
+}
+
+#[test]
+fn transactions() -> Outcome {
+    let volume = with_tree()?;
+    let before = volume.image()?;
+    let transaction = volume.transaction()?;
+    change(&transaction)?;
+    assert_ne!(volume.image()?, before);
+    transaction.rollback();
+    assert_eq!(volume.image()?, before);
+    let transaction = volume.transaction()?;
+    change(&volume)?;
+    drop(transaction);
+    assert_eq!(volume.image()?, before);
+    let transaction = volume.transaction()?;
+    change(&transaction)?;
+    let after = transaction.image()?;
+    transaction.commit();
+    assert_eq!(volume.image()?, after);
+    volume.restore("s")?;
+    assert_eq!(volume.image()?, before);
+    Ok(())
+}
+
+#[test]
+fn what_a_transaction_refuses() -> Outcome {
+    let volume = with_tree()?;
+    let (before, delta, tree) = (volume.image()?, volume.delta("s", "")?, volume.freeze()?);
+    let transaction = volume.transaction()?;
+    assert_eq!(volume.transaction().unwrap_err(), Errno::EBUSY);
+    assert_eq!(transaction.snapshot("t"), Err(Errno::EBUSY));
+    assert_eq!(volume.drop_snapshot("s"), Err(Errno::EBUSY));
+    assert_eq!(volume.restore("s"), Err(Errno::EBUSY));
+    assert_eq!(volume.restore_frozen(&tree), Err(Errno::EBUSY));
+    assert_eq!(volume.apply_delta(&delta), Err(DeltaError::Refused(Errno::EBUSY)));
+    assert_eq!(volume.compact(9), 0);
+    assert_eq!(volume.image()?, before);
+    assert!(volume.open_snapshot("s")?.exists("/d")?);
+    let fork = volume.fork()?;
+    fork.snapshot("t")?;
+    fork.transaction()?.commit();
+    transaction.commit();
+    volume.snapshot("t")?;
+    volume.drop_snapshot("t")?;
+    volume.restore_frozen(&tree)?;
+    volume.restore("s")?;
+    assert!(volume.compact(9) > 0);
+    volume.transaction()?.rollback();
+    assert_eq!(volume.apply_delta(&delta), Ok(()));
+    assert_eq!(volume.image()?, before);
+    Ok(())
+}
+
+#[test]
+fn a_transaction_that_a_fault_leaves_is_rolled_back() -> Outcome {
+    let volume = with_tree()?;
+    let before = volume.image()?;
+    let fails = |volume: &Volume| -> Outcome {
+        let transaction = volume.transaction()?;
+        change(&transaction)?;
+        transaction.mkdir("/e")?;
+        transaction.commit();
+        Ok(())
+    };
+    assert_eq!(fails(&volume), Err(Errno::EEXIST));
+    assert_eq!(volume.image()?, before);
+    let panics = panic::catch_unwind(AssertUnwindSafe(|| {
+        let _transaction = volume.transaction().unwrap();
+        change(&volume).unwrap();
+        panic!("on purpose");
+    }));
+    assert!(panics.is_err());
+    assert_eq!(volume.image()?, before);
+    volume.transaction()?.commit();
+    Ok(())
+}
+
+#[test]
+fn a_volume_and_its_transaction_go_to_threads() -> Outcome {
+    fn any_thread<T: Send + Sync>(_: &T) {}
+    let volume = with_tree()?;
+    let before = volume.image()?;
+    let transaction: Transaction = volume.transaction()?;
+    any_thread(&volume);
+    any_thread(&transaction);
+    thread::scope(|scope| {
+        for number in 0..8 {
+            let volume = &volume;
+            scope.spawn(move || {
+                volume.write(format!("/{number}"), "x").unwrap();
+                assert_eq!(volume.transaction().err(), Some(Errno::EBUSY));
+            });
+        }
+    });
+    assert_eq!(volume.readdir("/")?.len(), 10);
+    thread::scope(|scope| scope.spawn(move || transaction.rollback()).join().unwrap());
+    assert_eq!(volume.image()?, before);
+    Ok(())
+}
+
+#[test]
+fn threads_take_turns_with_transactions() -> Outcome {
+    let (volume, barrier) = (Volume::new()?, Barrier::new(8));
+    let count = |number: u32| -> Result<u32, Errno> {
+        let (mut commits, mut turn) = (0, 0);
+        barrier.wait();
+        while turn < 100 {
+            match volume.transaction() {
+                Ok(transaction) => {
+                    transaction.create(format!("/{number}-{turn}"))?;
+                    turn += 1;
+                    if (turn + number) % 2 == 0 {
+                        transaction.commit();
+                        commits += 1;
+                    }
+                }
+                Err(refused) => {
+                    assert_eq!(refused, Errno::EBUSY);
+                    thread::yield_now();
+                }
+            }
+        }
+        Ok(commits)
+    };
+    let commits: Result<Vec<u32>, Errno> = thread::scope(|scope| {
+        let crew: Vec<_> = (0..8).map(|number| scope.spawn(move || count(number))).collect();
+        crew.into_iter().map(|worker| worker.join().unwrap()).collect()
+    });
+    let commits: u32 = commits?.iter().sum();
+    assert_eq!((commits, volume.readdir("/")?.len()), (400, 400));
+    Ok(())
+}
+
+#[test]
+fn a_volume_is_dropped_with_a_transaction() -> Outcome {
+    let volume = with_tree()?;
+    std::mem::forget(volume.transaction()?);
+    change(&volume)?;
+    assert_eq!(volume.transaction().err(), Some(Errno::EBUSY));
     Ok(())
 }
 
