@@ -1,5 +1,5 @@
 //! Tests of the delta that is printed for two trees, and of applying it to a volume.
-use crate::deltas_by_hand::{TREE, apply, between, delta, has_image, load};
+use crate::logs::deltas_by_hand::{TREE, apply, between, delta, has_image, load};
 use std::alloc::Global;
 use std::test::Fail;
 

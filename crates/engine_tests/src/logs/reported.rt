@@ -1,5 +1,5 @@
 //! Tests of printing bodies as lines of a script, against lines that were written by hand.
-use crate::log_by_hand::{FIRST_BODY, SECOND_BODY, THIRD_BODY};
+use crate::logs::log_by_hand::{FIRST_BODY, SECOND_BODY, THIRD_BODY};
 use pathkey::Errno;
 use std::alloc::Global;
 use std::test::Fail;

@@ -1,5 +1,5 @@
 //! Tests of encoding changes and decoding them again, against bytes that were written by hand.
-use crate::log_by_hand::{COPY_BODY, FIRST_BODY, SECOND_BODY, THIRD_BODY};
+use crate::logs::log_by_hand::{COPY_BODY, FIRST_BODY, SECOND_BODY, THIRD_BODY};
 use pathkey::Errno;
 use std::alloc::Global;
 use std::test::Fail;

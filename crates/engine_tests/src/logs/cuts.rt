@@ -1,5 +1,5 @@
 //! Tests of a log that is cut at each of its bytes, and of one in which each byte is changed.
-use crate::log_by_hand::{
+use crate::logs::log_by_hand::{
     FIRST, FIRST_BODY, FIRST_END, LOG, SALT, SALTED, SECOND_BODY, SECOND_END, SIZE, THIRD_BODY,
 };
 use std::alloc::Global;

@@ -1,6 +1,6 @@
 //! Tests that the delta of many files and one change is short. The helpers have no postconditions, so that the proofs of the tests do not
 //! unfold the contract of a volume.
-use crate::deltas_by_hand::{apply, delta_of, has_image, image_of, load};
+use crate::logs::deltas_by_hand::{apply, delta_of, has_image, image_of, load};
 use std::alloc::Global;
 use std::test::Fail;
 use volume::{Path, Volume};

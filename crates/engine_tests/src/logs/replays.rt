@@ -1,8 +1,8 @@
 //! Tests of replaying a log on a volume.
-use crate::log_by_hand::{
+use crate::logs::log_by_hand::{
     COPY_WITHIN, FIRST, FIRST_BODY, FIRST_END, LOG, SALT, SALTED, SECOND_BODY, SECOND_END, SIZE,
 };
-use crate::small::new_volume;
+use crate::logs::small::new_volume;
 use pathkey::{Errno, Path};
 use std::alloc::Global;
 use std::test::Fail;

@@ -1,5 +1,5 @@
 //! Tests of texts that are not deltas, deltas of other trees, and deltas whose result is not an image.
-use crate::deltas_by_hand::{FIRST, TREE, apply, delta, has_image, load};
+use crate::logs::deltas_by_hand::{FIRST, TREE, apply, delta, has_image, load};
 use delta::DeltaFault;
 use std::alloc::Global;
 use std::test::Fail;

@@ -1,7 +1,7 @@
 //! Tests of files of which parts were set to zero. No function here has a postcondition, so that the proofs of the tests do not unfold
 //! the contract of a volume.
-use crate::deltas_by_hand::freeze;
-use crate::small::new_volume;
+use crate::logs::deltas_by_hand::freeze;
+use crate::logs::small::new_volume;
 use std::alloc::Global;
 use volume::{Errno, Frozen, Kind, Path, SnapName, Volume};
 
