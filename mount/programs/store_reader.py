@@ -30,12 +30,8 @@ def punch(path: Path, works: random.Random) -> None:
 
 def copy(path: Path, other: Path, works: random.Random) -> None:
     offset, target = (works.choice([4096 * works.randrange(8), works.randrange(30000)]) for _ in range(2))
-    source, new = os.open(path, os.O_RDONLY), os.open(other, os.O_RDWR)
-    try:
-        os.copy_file_range(source, new, works.randrange(1, 20000), offset, target)
-    finally:
-        os.close(source)
-        os.close(new)
+    with path.open("rb", buffering=0) as source, other.open("r+b", buffering=0) as new:
+        os.copy_file_range(source.fileno(), new.fileno(), works.randrange(1, 20000), offset, target)
 
 
 def change(works: random.Random, top: Path) -> None:
