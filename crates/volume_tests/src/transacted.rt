@@ -178,7 +178,8 @@ fn alike(alloc: Global, turns: u32) -> usize {
     };
     let mut count = 0usize;
     for row in ROWS {
-        if !lists(alloc, &mut volume, &mut plain, row, 10 * count as u64) {
+        let at = (count as u64).wrapping_mul(10);
+        if !lists(alloc, &mut volume, &mut plain, row, at) {
             return count;
         }
         for _ in 0..turns {
