@@ -303,6 +303,7 @@ def engines():
     for line, fault in REFUSED[:4]:
         yield Scene("clients", ("client", line), WITH_FILES, wanted=f"fault {fault}")
     yield Scene("clients", ("client", "drop s"), WITH_FILES, wanted="ok")
+    yield Scene("clients", ("client_transact",), WITH_FILES, wanted="ok")
     yield Scene("clients", ("client_freeze",), WITH_FILES)
     yield Scene("clients", ("client_frozen", "s"), WITH_FILES)
     yield Scene("clients", ("client_frozen", "v"), WITH_FILES, wanted="fault ENOENT")

@@ -1,7 +1,7 @@
 //! What the engine, its clients and its flushers share: the table and the lock.
-ghost use Rattle.std.specs.Prelude.{◌≡◌, ◌<◌, List, IfOk, IfErr};
-ghost use Rattle.engine.specs.Histories.{Entry, LegalFrom, own};
-ghost use Rattle.engine.specs.Seats.{IsClientSeat, IsFlusherSeat, Shows, Makes, Looks};
+ghost use Rattle.std.specs.Prelude.{◌≡◌, ◌<◌, List, [], ◌∷◌, IfOk, IfErr};
+ghost use Rattle.engine.specs.Histories.{Entry, entry, LegalFrom, own};
+ghost use Rattle.engine.specs.Seats.{IsClientSeat, IsFlusherSeat, Shows, Makes, MakesAllOrNone, Looks};
 ghost use Rattle.engine.specs.Clients.{FindsAfter, Watches, watched};
 ghost use Rattle.engine.specs.Takings.{BuiltOf, IsTaken};
 ghost use Rattle.engine.specs.Turns.{Cancels, Finishes, Held, PutsIn, RelievesIn, TakesIn, Turns};
@@ -13,9 +13,10 @@ use crate::locked_state::LockedState;
 use crate::operation::Operation;
 use jobs::Ticket;
 use pathkey::{Errno, NoMemory, SnapName};
+use reference::Call;
 use std::alloc::Global;
 use std::sync::{Mutex, Wait};
-use volume::{Done, Frozen, Job, TakeReply};
+use volume::{Done, Frozen, Job, TakeReply, Transacted};
 
 /// The table and the lock. The locked state is present from the opening of the engine to its end.
 #[derive(Drop)]
@@ -46,11 +47,35 @@ impl<J: EngineId> EngineShared<J> {
         requires client { IsClientSeat J.table J.opening client × (client.me.0.client < J.clients) }
         requires announced { client.me.0.announced ≡ own client.me.0.client client.me.0.seen }
         ensures client { IsClientSeat J.table J.opening result.0 }
-        ensures makes { (h : List Entry) × Makes J.opening client.me.0 (A.event execute.now) (A.answer result.1) h result.0.me.0 }
+        ensures makes { (h : List Entry) × Makes J.opening client.me.0 (entry client.me.0.client (A.event execute.now) (A.answer result.1) ∷ []) h result.0.me.0 }
     {
         let mut guard = self.state.lock(rt);
         match &mut *guard {
             Some(state) => state.record_call(self.words(), client, execute),
+            None => {
+                // Unreachable: an engine ends with all its clients, so none is left to call this.
+                for _ in rt.forever() {}
+                unreachable!()
+            }
+        }
+    }
+
+    /// Does the calls of a list under the lock, all of them or none, and records them if they are done.
+    pub fn transact<R: Wait>(
+        &self,
+        rt: &R,
+        alloc: Global,
+        client: Seat,
+        calls: &[(Call, u64)],
+    ) -> (Seat, Transacted)
+        requires client { IsClientSeat J.table J.opening client × (client.me.0.client < J.clients) }
+        requires announced { client.me.0.announced ≡ own client.me.0.client client.me.0.seen }
+        ensures client { IsClientSeat J.table J.opening result.0 }
+        ensures makes { (h : List Entry) × MakesAllOrNone J.opening client.me.0 calls.now result.1 h result.0.me.0 }
+    {
+        let mut guard = self.state.lock(rt);
+        match &mut *guard {
+            Some(state) => state.transact(alloc, self.words(), client, calls),
             None => {
                 // Unreachable: an engine ends with all its clients, so none is left to call this.
                 for _ in rt.forever() {}

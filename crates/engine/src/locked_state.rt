@@ -4,7 +4,7 @@
 //! count is its length, and each mark of the volume belongs to one of the takings.
 ghost use Rattle.std.specs.Prelude.{◌≡◌, [], ◌∷◌, ◌++◌, ◌<◌, length, ◌%◌, ◌^◌, IfOk};
 ghost use Rattle.engine.specs.Histories.{entry, LegalFrom, AllBelow, StartsWith, own};
-ghost use Rattle.engine.specs.Seats.{IsEngineSeat, IsClientSeat, IsFlusherSeat, Shows, Makes, Looks};
+ghost use Rattle.engine.specs.Seats.{IsEngineSeat, IsClientSeat, IsFlusherSeat, Shows, Makes, MakesAllOrNone, Looks};
 ghost use Rattle.engine.specs.Clients.{FindsAfter, Watches, watched};
 ghost use Rattle.engine.specs.Takings.{BuiltOf, IsTaken, KnowsMarks, Picks};
 ghost use Rattle.engine.specs.Turns.{Cancels, Found, Puts, Relieves};
@@ -16,12 +16,15 @@ use crate::choose_job::{choose_job, compact_step, install_or_cancel};
 use crate::engine_rule::{EngineId, Seat, SharedCounters};
 use crate::flusher::TurnReply;
 use crate::operation::Operation;
-use crate::seat_sync::{announce, learn, record_call, record_taken_job, sync_client, sync_takings};
+use crate::seat_sync::{
+    announce, learn, record_all, record_call, record_taken_job, sync_client, sync_takings,
+};
 use jobs::Ticket;
 use pathkey::{Errno, NoMemory, SnapName};
+use reference::Call;
 use std::alloc::Global;
 use std::marker::{Model, PhantomData};
-use volume::{Done, Frozen, TakeReply, Volume};
+use volume::{Done, Frozen, TakeReply, Transacted, Volume};
 
 /// The volume and the engine's seat. A contract sees the history.
 #[derive(Drop)]
@@ -103,7 +106,7 @@ impl<J: EngineId> LockedState<J> {
         requires announced { client.me.0.announced ≡ own client.me.0.client client.me.0.seen }
         ensures client { IsClientSeat J.table J.opening result.0 }
         ensures history { self.new ≡ self.old ++ entry client.me.0.client (A.event execute.now) (A.answer result.1) ∷ [] }
-        ensures makes { Makes J.opening client.me.0 (A.event execute.now) (A.answer result.1) self.old result.0.me.0 }
+        ensures makes { Makes J.opening client.me.0 (entry client.me.0.client (A.event execute.now) (A.answer result.1) ∷ []) self.old result.0.me.0 }
     {
         let mut client = sync_client::<J>(words, &mut self.seat, client);
         announce::<J>(words, &mut client);
@@ -111,6 +114,35 @@ impl<J: EngineId> LockedState<J> {
         let (client, count) = record_call::<J, A>(words, &mut self.seat, client, execute, &reply);
         self.count = count;
         (client, reply)
+    }
+
+    /// Does the calls of a list, all of them or none, and records them next to each other if they are done. The client sees
+    /// the history.
+    pub fn transact(
+        &mut self,
+        alloc: Global,
+        words: &SharedCounters,
+        client: Seat,
+        calls: &[(Call, u64)],
+    ) -> (Seat, Transacted)
+        requires words { (words.now.table_id ≡ J.table) × (0 < J.table.words) }
+        requires client { IsClientSeat J.table J.opening client × (client.me.0.client < J.clients) }
+        requires announced { client.me.0.announced ≡ own client.me.0.client client.me.0.seen }
+        ensures client { IsClientSeat J.table J.opening result.0 }
+        ensures history { self.new ≡ result.0.me.0.seen }
+        ensures makes { MakesAllOrNone J.opening client.me.0 calls.now result.1 self.old result.0.me.0 }
+    {
+        let mut client = sync_client::<J>(words, &mut self.seat, client);
+        learn::<J>(words, &mut client);
+        match self.volume.transact(alloc, calls) {
+            Ok(replies) => {
+                let client =
+                    record_all::<J>(alloc, words, &mut self.seat, client, calls, &replies);
+                self.count = self.count.wrapping_add(calls.len() as u64);
+                (client, Ok(replies))
+            }
+            Err(failed) => (client, Err(failed)),
+        }
     }
 
     /// The client sees the history.

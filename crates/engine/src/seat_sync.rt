@@ -3,16 +3,20 @@
 ghost use Rattle.std.specs.Prelude.{◌≡◌, [], ◌∷◌, ◌++◌, ◌+◌, ◌%◌, ◌^◌, ◌<◌, ◌≤◌, length, true};
 ghost use Rattle.engine.specs.Histories.{entry, LegalFrom, FitsAfter, StartsWith, own};
 ghost use Rattle.engine.specs.Clients.{Watches, watched};
+ghost use Rattle.engine.specs.Lists.{AllSucceed, FitAllAfter, entries};
 ghost use Rattle.engine.specs.Takings.{TakenOnce, times_taken};
 ghost use Rattle.engine.specs.Views.{guest, watcher, recorded, took, announced_more, learned, keeper};
 ghost use Rattle.volume.specs.Jobs.{ticket_of};
+ghost use Rattle.volume.specs.Laws.{timed_calls};
 ghost use Rattle.engine.specs.Seats.{IsEngineSeat, IsClientSeat, IsFlusherSeat};
 
 use crate::engine_rule::{
     AnnounceStep, EngineId, LearnStep, RecordStep, RecordedCall, Seat, SharedCounters,
     SplitClientSeat, SplitFlusherSeat, SyncSeats, TakeStep, Taking,
 };
-use crate::operation::Operation;
+use crate::operation::{FileCall, Operation};
+use reference::{Call, Reply};
+use std::alloc::Global;
 use std::marker::Brand;
 use volume::Job;
 
@@ -166,6 +170,45 @@ pub fn record_call<J: EngineId, A: Operation>(
     let mut client = words.split_seat::<SyncSeats>(engine);
     learn::<J>(words, &mut client);
     (client, count)
+}
+
+/// Records the calls of a list with their replies, which are legal after the history, next to each other. The client sees
+/// them.
+pub fn record_all<J: EngineId>(
+    alloc: Global,
+    words: &SharedCounters,
+    engine: &mut Seat,
+    client: Seat,
+    calls: &[(Call, u64)],
+    replies: &[Reply],
+) -> Seat
+    requires words { (words.now.table_id ≡ J.table) × (0 < J.table.words) }
+    requires engine { IsEngineSeat J.table J.opening engine.old }
+    requires client { IsClientSeat J.table J.opening client }
+    requires announced { own client.me.0.client engine.old.me.0.history ≤ client.me.0.announced }
+    requires seen { (client.me.0.seen ≡ engine.old.me.0.history) × LegalFrom J.opening client.me.0.seen }
+    requires succeed { AllSucceed calls.now replies.now }
+    requires fits { FitAllAfter J.opening engine.old.me.0.history (timed_calls calls.now replies.now) }
+    ensures engine { IsEngineSeat J.table J.opening engine.new }
+    ensures takings { engine.new.me.0.takings ≡ engine.old.me.0.takings }
+    ensures history { engine.new.me.0.history ≡ engine.old.me.0.history ++ entries client.me.0.client calls.now replies.now }
+    ensures client { IsClientSeat J.table J.opening result }
+    ensures seen { (result.me.0.client ≡ client.me.0.client) × (result.me.0.announced ≡ client.me.0.announced + length calls.now)
+        × (result.me.0.seen ≡ engine.new.me.0.history) × LegalFrom J.opening result.me.0.seen }
+{
+    let mut client = client;
+    for (number, timed) in calls.iter().enumerate() {
+        announce::<J>(words, &mut client);
+        let call = FileCall {
+            alloc,
+            call: &timed.0,
+            at: timed.1,
+        };
+        let recorded =
+            record_call::<J, FileCall>(words, engine, client, &call, &replies[number]);
+        client = recorded.0;
+    }
+    client
 }
 
 /// Splits a new client's seat from the engine's seat.

@@ -18,6 +18,8 @@ mod filled;
 #[cfg(test)]
 mod folded;
 #[cfg(test)]
+mod lists;
+#[cfg(test)]
 mod logs;
 #[cfg(test)]
 mod marked;

@@ -7,6 +7,7 @@ use crate::live::{Act, Line};
 use crate::looks::{Freeze, Past};
 use crate::print::{put, put_no_memory, put_number};
 use crate::standing::{put_image, show_volume};
+use crate::transacts::{Transact, listed_calls};
 use crate::words::word_at;
 use crate::{scenes, window};
 use engine::{Client, Clients, CloseFault, Engine, EngineBuilder, EngineId, Flusher, Report};
@@ -25,6 +26,8 @@ pub enum Scene<'a> {
     Open,
     /// A client makes a call.
     Call(Act<'a>),
+    /// A client makes a list of calls.
+    Transact,
     /// A client freezes the live tree.
     Freeze,
     /// A client freezes the tree of a snapshot.
@@ -46,6 +49,7 @@ pub enum Scene<'a> {
 enum Verb {
     Room,
     Open,
+    Transact,
     Freeze,
     Frozen,
     Made,
@@ -59,6 +63,7 @@ enum Verb {
 const VERBS: &[(&str, Verb)] = &[
     ("room", Verb::Room),
     ("engine", Verb::Open),
+    ("client_transact", Verb::Transact),
     ("client_freeze", Verb::Freeze),
     ("client_frozen", Verb::Frozen),
     ("client_made", Verb::Made),
@@ -84,6 +89,7 @@ fn scene_of<'a>(words: &'a [&'a str]) -> Option<Scene<'a>> {
     Some(match verb_of(name)? {
         Verb::Room => Scene::Room,
         Verb::Open => Scene::Open,
+        Verb::Transact => Scene::Transact,
         Verb::Freeze => Scene::Freeze,
         Verb::Frozen => Scene::Frozen(word_at(others, 0)?),
         Verb::Made => Scene::Made,
@@ -108,6 +114,19 @@ fn looks_back<J: EngineId, R: Wait + Print>(
     }
 }
 
+/// A client makes a list of calls.
+fn transacts<J: EngineId, R: Wait + Print>(
+    rt: &R,
+    alloc: Global,
+    served: &mut Served<'_, J, R>,
+    out: &mut Vec<u8>,
+) -> bool {
+    let mut transact = Transact {
+        calls: listed_calls(alloc),
+    };
+    ask(rt, alloc, served, &mut transact, out)
+}
+
 /// What a client does alone.
 fn call<J: EngineId, R: Wait + Print>(
     rt: &R,
@@ -118,6 +137,7 @@ fn call<J: EngineId, R: Wait + Print>(
 ) -> bool {
     match scene {
         Scene::Call(act) => ask(rt, alloc, served, &mut Line { act }, out),
+        Scene::Transact => transacts(rt, alloc, served, out),
         Scene::Freeze => ask(rt, alloc, served, &mut Freeze, out),
         Scene::Frozen(text) => looks_back(rt, alloc, served, text, out),
         Scene::Made => ask(rt, alloc, served, &mut Made, out),

@@ -1,11 +1,14 @@
-//! A list of calls that a volume does whole or not at all.
+//! A list of calls that a volume, or a client of an engine, does whole or not at all.
 use crate::answers::put_reply;
+use crate::clients::Served;
 use crate::harness::OomCase;
 use crate::print::put_fault;
 use crate::standing::Site;
 use crate::words::AT;
+use engine::EngineId;
 use reference::{Call, Reply};
 use std::alloc::Global;
+use std::sync::Wait;
 use test_support::SampleCall;
 use volume::Transacted;
 
@@ -51,6 +54,17 @@ fn put_replies(out: &mut Vec<u8>, replies: &[Reply]) {
     }
 }
 
+/// Prints the answer to the list; whether it is a fault.
+fn put_transacted(told: &Transacted, out: &mut Vec<u8>) -> bool {
+    match told {
+        Ok(replies) => {
+            put_replies(out, replies.as_slice());
+            false
+        }
+        Err(failed) => put_fault(out, failed.errno),
+    }
+}
+
 impl OomCase<Site> for Transact {
     type Outcome = Transacted;
 
@@ -63,12 +77,24 @@ impl OomCase<Site> for Transact {
     }
 
     fn print_outcome(&mut self, _alloc: Global, told: &Transacted, out: &mut Vec<u8>) -> bool {
-        match told {
-            Ok(replies) => {
-                put_replies(out, replies.as_slice());
-                false
-            }
-            Err(failed) => put_fault(out, failed.errno),
-        }
+        put_transacted(told, out)
+    }
+}
+
+impl<'a, J: EngineId, R: Wait> OomCase<Served<'a, J, R>> for Transact {
+    type Outcome = Transacted;
+
+    fn prepare(&mut self, _alloc: Global, _served: &mut Served<'a, J, R>) -> bool {
+        true
+    }
+
+    fn call(&mut self, alloc: Global, served: &mut Served<'a, J, R>) -> Transacted {
+        served
+            .client
+            .transact(served.rt, alloc, self.calls.as_slice())
+    }
+
+    fn print_outcome(&mut self, _alloc: Global, told: &Transacted, out: &mut Vec<u8>) -> bool {
+        put_transacted(told, out)
     }
 }

@@ -1,6 +1,6 @@
 use Rattle.std.proofs.Common.{sym, ap, ◌∙◌}
 use Rattle.engine.specs.Rule.{Seated}
-use Rattle.engine.proofs.Callers.{calls-after, greets-after, numbered-still}
+use Rattle.engine.proofs.Callers.{adds-after, greets-after, numbered-still, own-one}
 use Rattle.engine.proofs.client.Client.record_call.Goals as goal
 
 pub into_seat-seat-requires : goal.into_seat-seat-requires
@@ -12,11 +12,11 @@ invariant_of-self g c =
     let p = c.record_call-seat.ensures in
     let was = ap (λ b. b.views) (sym c.replace.ensures.value) ∙ c.into_seat-seat.ensures.2 in
     let now = c.into_badge.ensures in
-    (now.0 ∙ p.client.0, greets-after _ _ _ _ _ _ _ _ _ _ i.1 was p.makes.1 now.2 (ap (λ (m : Seated). m.0) p.client.1), numbered-still _ _ _ _ _ i.2 was p.makes.1.0 now.2)
+    (now.0 ∙ p.client.0, greets-after _ _ _ _ _ _ _ _ _ i.1 was p.makes.1 now.2 (own-one _ _ _) (ap (λ (m : Seated). m.0) p.client.1), numbered-still _ _ _ _ _ i.2 was p.makes.1.0 now.2)
 
 pub returns : goal.returns
 returns g c =
     let i = c.self.invariant in
     let p = c.record_call-seat.ensures in
     let was = ap (λ b. b.views) (sym c.replace.ensures.value) ∙ c.into_seat-seat.ensures.2 in
-    calls-after _ _ _ _ _ _ _ _ _ _ i.1 was p.makes.1 c.into_badge.ensures.2 _ c.self.view_is
+    adds-after _ _ _ _ _ _ _ _ _ i.1 was p.makes.1 c.into_badge.ensures.2 _ c.self.view_is
