@@ -1,7 +1,9 @@
 """How the program ends where what it reads or writes fails, and what is told by its beginning and its end alone."""
+import functools
 import os
 import re
 import subprocess
+import tempfile
 from collections.abc import Callable, Iterator
 from pathlib import Path
 
@@ -150,7 +152,98 @@ def is_unsaid(betr: str, words: list, status: int) -> str:
     return fault(got[0] == status, got)
 
 
+# A script, each line with its answer; what the last line is answered with stands behind a write that fails in its middle.
+SNAPSHOT = [
+    (b"mkdir /a\n", b"ok\n"),
+    (b"create /a/x\n", b"ok\n"),
+    (b"snapshot s\n", b"ok\n"),
+    (b"rmtree /a\n", b"ok\n"),
+    (b"readdir@s /a\n", b"names 1\nf x\n"),
+    (b"stat /a\n", b"fault ENOENT\n"),
+    (b"restore s\n", b"ok\n"),
+    (b"readdir /a\n", b"names 1\nf x\n"),
+]
+SCRIPT, TOLD = (b"".join(it) for it in zip(*SNAPSHOT))
+
+# A script that answers nothing but its image.
+CUT = b"create /f\nwrite /f 0 ffffffffffffffffffff\ntruncate /f 5\ntruncate /f 9000\n"
+CUT_TOLD = b"ok\ncount 10\nok\nok\nD / 0\nF /f 9000 0\nb 0 ffffffffff\n"
+
+
+@functools.lru_cache(maxsize=None)
+def shim() -> tuple[tempfile.TemporaryDirectory, str]:
+    """A library that makes reads and writes fail, with its folder."""
+    folder = tempfile.TemporaryDirectory()
+    library = f"{folder.name}/fail_io.so"
+    source = Path(__file__).resolve().parent / "fail_io.c"
+    subprocess.run(["cc", "-O1", "-shared", "-fPIC", "-o", library, source], check=True)
+    return folder, library
+
+
+def ended_failing(betr: str, words: list, script: bytes, **how: int) -> Ended:
+    """How the program ends with a read or a write that fails, or is interrupted."""
+    env = {**os.environ, "LD_PRELOAD": shim()[1], **{name.upper(): str(it) for name, it in how.items()}}
+    ran = subprocess.run([betr, *words], input=script, capture_output=True, timeout=SECONDS, env=env)
+    return ran.returncode, ran.stdout, ran.stderr
+
+
+def stops_at_each_read(betr: str, words: list) -> str:
+    """With a read that fails behind each byte of the script, each line that is complete is done and answered, and no other."""
+    for given in range(len(SCRIPT) + 1):
+        answers = b"".join(answer for _, answer in SNAPSHOT[: SCRIPT[:given].count(b"\n")])
+        got = ended_failing(betr, words, SCRIPT, given=given)
+        if got != (1, answers, b"betr: read failed\n"):
+            return f"with {given} bytes it ends so: {got}"
+    return ""
+
+
+def stops_at_each_write(betr: str, words: list, script: bytes, answers: bytes) -> str:
+    """With a write that fails behind each byte of the answers, these are written and no more."""
+    for taken in range(len(answers)):
+        got = ended_failing(betr, words, script, taken=taken)
+        if got != (1, answers[:taken], b"betr: write failed\n"):
+            return f"where {taken} bytes are taken it ends so: {got}"
+    got = ended_failing(betr, words, script, taken=len(answers))
+    return fault(got == (0, answers, b""), got)
+
+
+def goes_on_after_a_signal(betr: str) -> str:
+    got = ended_failing(betr, [], SCRIPT, signal=1)
+    return fault(got == (0, TOLD, b""), got)
+
+
+# How many lines are answered together: they are some three pieces that are read at once.
+LINES = 20_000
+
+
+def answers_in_few_writes(betr: str) -> str:
+    status, output, errors = ended_failing(betr, [], b"stat /\n" * LINES, writes=1)
+    writes = int(re.sub(rb"^writes (\d+)\n$", rb"\1", errors))
+    return fault(status == 0 and output == b"dir 0 0\n" * LINES and writes <= LINES // 100, f"{writes} writes")
+
+
+def answers_before_it_reads(betr: str) -> str:
+    """Each line is answered before the next is given."""
+    with subprocess.Popen([betr], stdin=subprocess.PIPE, stdout=subprocess.PIPE) as running:
+        for line, answer in SNAPSHOT:
+            running.stdin.write(line)
+            running.stdin.flush()
+            got = running.stdout.read(len(answer))
+            if got != answer:
+                running.kill()
+                return f"to {line!r} it answers {got!r}"
+        running.stdin.close()
+        return fault(running.stdout.read() == b"" and running.wait(SECONDS) == 0, running.returncode)
+
+
 def each() -> Iterator[End]:
+    for words in [], ["--steps", "1"]:
+        yield f"a read fails: {words}", lambda betr, words=words: stops_at_each_read(betr, words)
+        yield f"a write fails: {words}", lambda betr, words=words: stops_at_each_write(betr, words, SCRIPT, TOLD)
+    yield "a write of the image fails", lambda betr: stops_at_each_write(betr, ["--image"], CUT, CUT_TOLD)
+    yield "a signal", goes_on_after_a_signal
+    yield "answers in few writes", answers_in_few_writes
+    yield "each line is answered before the next", answers_before_it_reads
     for words in HELP:
         yield f"help is output: {words}", lambda betr, words=words: is_help(betr, words)
     for words in RELEASES:

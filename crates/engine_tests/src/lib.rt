@@ -1,6 +1,6 @@
 //! Tests of engines: threads with a client each and flushers beside them, the end of an engine, and what each turn of a flusher does; long
 //! runs over names that all clients share, what is pending in a slot after its mark is removed, and an engine that is opened with a volume
-//! that has marks. Also tests of how a tree is stored (`logs.rt`).
+//! that has marks.
 #![tactic(auto)]
 
 #[cfg(test)]
@@ -19,8 +19,6 @@ mod filled;
 mod folded;
 #[cfg(test)]
 mod lists;
-#[cfg(test)]
-mod logs;
 #[cfg(test)]
 mod marked;
 #[cfg(test)]
