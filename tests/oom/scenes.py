@@ -258,15 +258,13 @@ def scripts():
     yield Scene("images", ("load",), FIRST_IMAGE)
     yield Scene("images", ("load",), IMAGE)
     yield Scene("images", ("bad_shape",), IMAGE, free=True, wanted="bad shape")
-    yield Scene("command lines", ("read_words", "betr", *SMALL, "--load", "x", "--flushers", "2", "--strict", "--explain", "script"), ())
-    yield Scene("command lines", ("read_words", "betr", "--help"), ())
-    yield Scene("command lines", ("read_words", "betr", "--version"), ())
-    yield Scene("command lines", ("read_words", "betr", "--fanout", "3"), ())
-    yield Scene("command lines", ("run_words", "betr", *SMALL), WHOLE, judged="script")
-    yield Scene("command lines", ("run_words", "betr", "--load", "IMAGE", *SMALL), WHOLE[:10], judged="script")
-    yield Scene("command lines", ("run_words", "betr", "--explain", *SMALL), WHOLE, judged="script")
     yield Scene("whole runs", ("betr", *SMALL), WHOLE, judged="script")
+    yield Scene("whole runs", ("betr", "--explain", *SMALL), WHOLE, judged="script")
     yield Scene("whole runs", ("betr", "--load", "IMAGE", *SMALL), WHOLE[:10], judged="script")
+    yield Scene("whole runs", ("betr", "--load", "IMAGE", "--flushers", "2", "--strict", "--explain", *SMALL), (), judged="script")
+    yield Scene("whole runs", ("betr", "--help"), (), judged="script")
+    yield Scene("whole runs", ("betr", "--version"), (), judged="script")
+    yield Scene("whole runs", ("betr", "--fanout", "3"), (), judged="script")
 
 
 def jobs():

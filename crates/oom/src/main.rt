@@ -5,19 +5,16 @@
 //! which requests for memory are the call's, and can refuse them (`tests/oom/run` at the top).
 #![tactic(auto)]
 
-pub mod line_scenes;
 pub mod opening;
 pub mod scenes;
 pub mod script;
 
 use crate::scenes::play;
 use std::alloc::Global;
-use std::fs::Files;
 use std::io::{Read, Write};
 use std::process::ExitCode;
 use std::rt::Env;
 use std::sync::Wait;
-use std::thread::Threads;
 use std::{env, io};
 
 fn main(rt: HostRuntime) -> ExitCode {
@@ -31,7 +28,7 @@ fn main(rt: HostRuntime) -> ExitCode {
 /// Does the scene that the words of the command line name; whether it came to its end.
 fn run<H, R: Read, W: Write>(rt: &H, input: &mut R, output: &mut W) -> io::Result<bool>
 where
-    H: Alloc<A = Global> + Env + Files + Threads + Wait + Sync + Print,
+    H: Alloc<A = Global> + Env + Wait + Print,
 {
     let alloc = rt.alloc();
     let arguments: Vec<String> = env::args(rt)?.collect(alloc)?;
@@ -43,7 +40,7 @@ where
 }
 
 /// Does the scene that these words name behind the program's name; whether it came to its end.
-fn play_words<H: Files + Threads + Wait + Sync + Print, R: Read, W: Write>(
+fn play_words<H: Wait + Print, R: Read, W: Write>(
     rt: &H,
     alloc: Global,
     words: &[&str],

@@ -1,15 +1,13 @@
 //! The scenes by their names.
 use crate::opening::open;
-use crate::{line_scenes, script};
+use crate::script;
 use oom_support::engines::{self, Scene};
 use oom_support::live::Act;
 use oom_support::words::word_at;
 use oom_support::{cases, loaded, looks, scenes, small};
 use shell::{ReadCall, Request, read_request};
 use std::alloc::Global;
-use std::fs::Files;
 use std::sync::Wait;
-use std::thread::Threads;
 use volume::Volume;
 
 /// The call that a line asks for.
@@ -97,7 +95,7 @@ fn behind<R: Print + Wait>(
 }
 
 /// Does the scene that the words name, over what was read. None where they name none, or the opening cannot be had.
-pub fn play<R: Print + Files + Threads + Wait + Sync>(
+pub fn play<R: Print + Wait>(
     rt: &R,
     alloc: Global,
     words: &[&str],
@@ -110,8 +108,6 @@ pub fn play<R: Print + Files + Threads + Wait + Sync>(
         "list_costs" => cases::scene(rt, alloc, others, out),
         "load" => Some(loaded::scene(rt, alloc, false, text, out)),
         "bad_shape" => Some(loaded::scene(rt, alloc, true, text, out)),
-        "read_words" => Some(line_scenes::read(rt, alloc, others, out)),
-        "run_words" => Some(line_scenes::run(rt, alloc, others, text, out)),
         _ => behind(rt, alloc, words, text, out),
     }
 }
