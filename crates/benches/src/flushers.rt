@@ -60,11 +60,6 @@ impl Watch {
         self.stop.store(true, Ordering::SeqCst);
     }
 
-    /// Whether they have to stop.
-    fn is_ended(&self) -> bool {
-        self.stop.load(Ordering::SeqCst)
-    }
-
     /// The turns so far.
     pub fn turns(&self) -> Turns {
         Turns {
@@ -111,12 +106,6 @@ pub fn rest<R: Wait>(rt: &R) {
     Parker::new().park_timeout(rt, Duration::from_micros(REST));
 }
 
-/// A turn with its sleeps.
-fn turn<J: EngineId, H: Wait>(rt: &H, alloc: Global, flusher: &mut Flusher<J>, watch: &Watch) {
-    watch.note(flusher.turn(rt, alloc, &mut Rests { rt }));
-    rest(rt);
-}
-
 /// Starts a flusher in a thread of its own, if there is one.
 pub fn start<'s, E, J: EngineId + Send + Sync + 's, H: Wait + Sync>(
     scope: &Scope<'s, E>,
@@ -131,7 +120,7 @@ pub fn start<'s, E, J: EngineId + Send + Sync + 's, H: Wait + Sync>(
 /// Runs turns until it has to stop.
 fn flush<J: EngineId, H: Wait>(rt: &H, alloc: Global, mut flusher: Flusher<J>, watch: &Watch) {
     for _ in 0..u64::MAX {
-        if watch.is_ended() {
+        if watch.stop.load(Ordering::SeqCst) {
             return;
         }
         match watch.pace {
@@ -139,7 +128,10 @@ fn flush<J: EngineId, H: Wait>(rt: &H, alloc: Global, mut flusher: Flusher<J>, w
                 flusher.run_flusher(rt, alloc, TURNS);
                 watch.note_all(TURNS);
             }
-            Pace::Rests => turn(rt, alloc, &mut flusher, watch),
+            Pace::Rests => {
+                watch.note(flusher.turn(rt, alloc, &mut Rests { rt }));
+                rest(rt);
+            }
         }
     }
 }

@@ -2,7 +2,7 @@
 //!
 //! The first word chooses what: `benches tree` measures a tree (`tree.rt`), `benches clients` clients of an engine and a volume alone
 //! (`clients.rt`), `benches history` records the answers of clients (`history.rt`). The next words choose the work. Without them a
-//! little of the work is done, and without the first a little of each.
+//! little is done of clients' work, and without the first a little of both.
 #![tactic(auto)]
 
 use std::alloc::Global;
@@ -31,7 +31,6 @@ fn do_work<R: Threads + Wait + Clock + Print + Eprint + Sync>(
     let calls = word_at(words, 3);
     match word_at(words, 1) {
         "" => {
-            tree::do_work(rt, alloc, work)?;
             clients::do_work(rt, alloc, work)?;
             history::do_work(rt, alloc, work, calls)
         }

@@ -28,21 +28,16 @@ fn write(files: &mut Files, path: &Path, bytes: &[u8]) -> bool {
     }
 }
 
-/// Whether there is a file of bytes.
-fn stat(files: &Files, path: &Path) -> bool {
-    match files.get(path.key()) {
-        Some(file) => !file.is_empty(),
-        None => false,
-    }
-}
-
 /// Makes a call on the map. It has no directories.
 fn is_done(alloc: Global, files: &mut Files, call: &Call) -> bool {
     match call {
         Call::Mkdir(_) => true,
         Call::Create(path) => create(alloc, files, path),
         Call::Write(path, _, bytes) => write(files, path, bytes.as_slice()),
-        Call::Stat(path) => stat(files, path),
+        Call::Stat(path) => match files.get(path.key()) {
+            Some(file) => !file.is_empty(),
+            None => false,
+        },
         _ => false,
     }
 }

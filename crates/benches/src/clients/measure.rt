@@ -2,7 +2,7 @@
 ghost use Rattle.std.specs.Prelude.{◌≡◌, ◌≤◌};
 
 use crate::clients::map::Files;
-use crate::clients::work::{Kind, Relieved, Share, Store, calls_of, do_share};
+use crate::clients::work::{Alone, Kind, Share, Store, calls_of, do_share};
 use crate::flushers::{Pace, Watch, start};
 use engine::{Client, Engine, EngineBuilder, EngineId};
 use node::Shape;
@@ -106,26 +106,23 @@ fn new_volume(alloc: Global) -> Option<Volume> {
     Volume::new(alloc, SHAPE).ok()
 }
 
-/// A volume alone, which one thread calls.
+/// A volume that one thread calls, which may do one step after each call.
 pub fn volume_alone<R: Threads + Wait + Clock + Sync>(
     rt: &R,
     alloc: Global,
     files: u64,
+    is_relieved: bool,
 ) -> Option<Figures> {
     match new_volume(alloc) {
-        Some(volume) => alone(rt, alloc, volume, files),
-        None => None,
-    }
-}
-
-/// A volume that one thread calls, which does one step after each call.
-pub fn volume_relieved<R: Threads + Wait + Clock + Sync>(
-    rt: &R,
-    alloc: Global,
-    files: u64,
-) -> Option<Figures> {
-    match new_volume(alloc) {
-        Some(volume) => alone(rt, alloc, Relieved { volume }, files),
+        Some(volume) => alone(
+            rt,
+            alloc,
+            Alone {
+                volume,
+                is_relieved,
+            },
+            files,
+        ),
         None => None,
     }
 }

@@ -1,5 +1,5 @@
 //! The table of figures, and a little of the work.
-use crate::clients::measure::{Figures, engine_shared, map_shared, volume_alone, volume_relieved};
+use crate::clients::measure::{Figures, engine_shared, map_shared, volume_alone};
 use std::alloc::Global;
 use std::rt::Clock;
 use std::sync::Wait;
@@ -53,8 +53,8 @@ fn figures_of<R: Threads + Wait + Clock + Sync>(
     files: u64,
 ) -> Option<Figures> {
     match row {
-        Row::Volume => volume_alone(rt, alloc, files),
-        Row::Relieved => volume_relieved(rt, alloc, files),
+        Row::Volume => volume_alone(rt, alloc, files, false),
+        Row::Relieved => volume_alone(rt, alloc, files, true),
         Row::Map(threads) => map_shared(rt, alloc, files, threads),
         Row::Engine(clients, flushers) => {
             engine_shared(rt, alloc, files, clients.clamp(1, 64), flushers)

@@ -53,25 +53,22 @@ fn is_right(reply: &Reply) -> bool {
     }
 }
 
-impl Store for Volume {
-    fn is_done<R: Wait>(&mut self, _rt: &R, alloc: Global, call: &Call) -> bool {
-        let reply = self.call(alloc, call, 0);
-        is_right(&reply)
-    }
-}
-
-/// A volume that does one step after each call.
+/// A volume, which may do one step after each call.
 #[derive(Drop)]
-pub struct Relieved {
+pub struct Alone {
     /// The volume.
     pub volume: Volume,
+    /// Whether it does.
+    pub is_relieved: bool,
 }
 
-impl Store for Relieved {
-    fn is_done<R: Wait>(&mut self, rt: &R, alloc: Global, call: &Call) -> bool {
-        let is_done = self.volume.is_done(rt, alloc, call);
-        self.volume.compact_step(alloc);
-        is_done
+impl Store for Alone {
+    fn is_done<R: Wait>(&mut self, _rt: &R, alloc: Global, call: &Call) -> bool {
+        let reply = self.volume.call(alloc, call, 0);
+        if self.is_relieved {
+            self.volume.compact_step(alloc);
+        }
+        is_right(&reply)
     }
 }
 

@@ -47,12 +47,6 @@ impl Draw {
         }
     }
 
-    /// A mark that no client has written: the client's number in its first half, and a count in its second half.
-    fn mark(&mut self) -> u64 {
-        self.marks = self.marks.wrapping_add(1);
-        self.client.wrapping_mul(CLIENT).wrapping_add(self.marks)
-    }
-
     /// The number of an area's first path.
     fn area(&mut self) -> usize {
         let areas = if self.random.below(2) == 0 {
@@ -115,23 +109,12 @@ impl Draw {
         }
     }
 
-    /// A rename within one area.
-    fn rename(&mut self) -> PathRequest {
-        let area = self.area();
-        let (from, to) = self.moved();
-        PathRequest::Rename(area.wrapping_add(from), area.wrapping_add(to))
-    }
-
-    /// A write of a new mark to a file.
+    /// A write to a file of a mark that no client has written: the client's number in its first half, and a count in its second.
     fn patch(&mut self, path: usize) -> PathRequest {
         let offset = u64::from(self.random.below(OFFSETS)).wrapping_mul(OFFSETS_APART);
-        PathRequest::Write(path, FIRST_OFFSET.wrapping_add(offset), self.mark())
-    }
-
-    /// A write of a new mark.
-    fn write(&mut self) -> PathRequest {
-        let path = self.leaf_path();
-        self.patch(path)
+        self.marks = self.marks.wrapping_add(1);
+        let mark = self.client.wrapping_mul(CLIENT).wrapping_add(self.marks);
+        PathRequest::Write(path, FIRST_OFFSET.wrapping_add(offset), mark)
     }
 
     /// A truncate, one in four of them to length 0.
@@ -157,14 +140,21 @@ impl Draw {
     /// A call on paths that changes something.
     fn change(&mut self) -> PathRequest {
         match self.random.below(100) {
-            0..=35 => self.write(),
+            0..=35 => {
+                let path = self.leaf_path();
+                self.patch(path)
+            }
             36..=45 => self.truncate(),
             46..=64 => PathRequest::Create(self.leaf_path()),
             65..=82 => PathRequest::Mkdir(self.directory_path()),
             83..=85 => PathRequest::Unlink(self.leaf_path()),
             86..=90 => PathRequest::Rmdir(self.directory_path()),
             91 => PathRequest::Rmtree(self.directory_path()),
-            _ => self.rename(),
+            _ => {
+                let area = self.area();
+                let (from, to) = self.moved();
+                PathRequest::Rename(area.wrapping_add(from), area.wrapping_add(to))
+            }
         }
     }
 
@@ -201,15 +191,7 @@ impl Draw {
         }
     }
 
-    /// The call after another change of a path: a read of it.
-    fn behind_change(&mut self, path: usize) -> Option<Request> {
-        match self.random.below(4) {
-            0 => Some(Request::Path(PathRequest::Stat(path))),
-            _ => None,
-        }
-    }
-
-    /// The call after a call on paths.
+    /// The call after a call on paths: a read of what was changed.
     fn behind_path_call(&mut self, request: PathRequest) -> Option<Request> {
         match request {
             PathRequest::Write(path, _, _) => self.behind_write(path),
@@ -219,7 +201,10 @@ impl Draw {
             | PathRequest::Unlink(path)
             | PathRequest::Rmdir(path)
             | PathRequest::Rename(path, _)
-            | PathRequest::Rmtree(path) => self.behind_change(path),
+            | PathRequest::Rmtree(path) => match self.random.below(4) {
+                0 => Some(Request::Path(PathRequest::Stat(path))),
+                _ => None,
+            },
             PathRequest::Read(_) | PathRequest::Stat(_) | PathRequest::Readdir(_) => None,
         }
     }

@@ -55,16 +55,6 @@ fn put_entries(log: &mut String, entries: &[(Kind, Vec<u8>)]) -> bool {
     is_put
 }
 
-/// Adds the metadata of an entry.
-fn put_stat(log: &mut String, kind: Kind, len: u64, modified: u64) -> bool {
-    let word = if matches!(kind, Kind::Dir) {
-        "dir"
-    } else {
-        "file"
-    };
-    write!(log, "{word} {len} {modified}").is_ok()
-}
-
 /// Adds a word followed by a number.
 fn put_number(log: &mut String, word: &str, number: u64) -> bool {
     write!(log, "{word} {number}").is_ok()
@@ -76,15 +66,11 @@ fn put_reply(log: &mut String, reply: &Reply) -> bool {
         Reply::Done => put(log, "ok"),
         Reply::Count(count) => put_number(log, "count", *count),
         Reply::Data(bytes) => put(log, "bytes ") && put_hex(log, bytes.as_slice()),
-        Reply::Stat(kind, len, modified) => put_stat(log, *kind, *len, *modified),
+        Reply::Stat(Kind::Dir, len, modified) => write!(log, "dir {len} {modified}").is_ok(),
+        Reply::Stat(Kind::File, len, modified) => write!(log, "file {len} {modified}").is_ok(),
         Reply::Names(entries) => put_entries(log, entries.as_slice()),
         Reply::Fault(fault) => put(log, fault.name()),
     }
-}
-
-/// Adds a write.
-fn put_write(log: &mut String, path: &str, offset: u64, mark: &[u8]) -> bool {
-    put(log, "write ") && put_number(log, path, offset) && put(log, " ") && put_hex(log, mark)
 }
 
 /// Adds a word and a path.
@@ -97,7 +83,9 @@ fn put_call(log: &mut String, call: SampleCall) -> bool {
     match call {
         SampleCall::Mkdir(path) => put_on(log, "mkdir", path),
         SampleCall::Create(path) => put_on(log, "create", path),
-        SampleCall::Write(path, offset, mark) => put_write(log, path, offset, mark),
+        SampleCall::Write(path, offset, mark) => {
+            write!(log, "write {path} {offset} ").is_ok() && put_hex(log, mark)
+        }
         SampleCall::Truncate(path, len) => put(log, "truncate ") && put_number(log, path, len),
         SampleCall::Unlink(path) => put_on(log, "unlink", path),
         SampleCall::Rmdir(path) => put_on(log, "rmdir", path),

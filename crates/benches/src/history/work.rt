@@ -28,14 +28,6 @@ impl Course {
     }
 }
 
-/// The mark that a call writes; 0 if it writes none.
-fn mark_of(request: PathRequest) -> u64 {
-    match request {
-        PathRequest::Write(_, _, mark) => mark,
-        _ => 0,
-    }
-}
-
 /// The call, with the bytes of its mark.
 fn sample<'a>(names: &'a Names, request: PathRequest, mark: &'a [u8]) -> SampleCall<'a> {
     match request {
@@ -83,7 +75,10 @@ fn make_path_call<J: EngineId, R: Wait>(
     request: PathRequest,
     log: &mut Log,
 ) -> bool {
-    let mark = mark_of(request).to_be_bytes();
+    let mark = match request {
+        PathRequest::Write(_, _, mark) => mark.to_be_bytes(),
+        _ => [0; 8],
+    };
     make_on_paths(
         rt,
         alloc,
@@ -120,14 +115,6 @@ fn word_of(request: Request) -> (&'static str, usize) {
     }
 }
 
-/// The word for the result of a call that returns nothing.
-fn answer_of(outcome: Result<(), Errno>) -> &'static str {
-    match outcome {
-        Ok(()) => "ok",
-        Err(fault) => fault.name(),
-    }
-}
-
 /// Makes a snapshot call; `false` if logging it fails for lack of memory.
 fn make_on_snapshot<J: EngineId, R: Wait>(
     rt: &R,
@@ -144,7 +131,11 @@ fn make_on_snapshot<J: EngineId, R: Wait>(
             let begin = course.now();
             let result = ask_snapshot(rt, alloc, client, request, name);
             let end = course.now();
-            log.add_snapshot(begin, end, word, number, answer_of(result))
+            let answer = match result {
+                Ok(()) => "ok",
+                Err(fault) => fault.name(),
+            };
+            log.add_snapshot(begin, end, word, number, answer)
         }
         None => false,
     }

@@ -26,22 +26,12 @@ pub struct Numbers {
 impl Numbers {
     /// The key at an index of the order.
     fn key(self, alloc: Global, place: u64) -> Result<Key, NoMemory> {
-        let number = place.checked_rem(self.keys).unwrap_or(0);
-        key(alloc, self.first.wrapping_add(number))
-    }
-}
-
-/// The key with a number: eight bytes in which neighbours are far apart.
-fn key(alloc: Global, number: u64) -> Result<Key, NoMemory> {
-    let scattered = number.wrapping_mul(0x9E37_79B9_7F4A_7C15);
-    Key::from_bytes(alloc, &scattered.to_be_bytes())
-}
-
-/// The number of pending messages in the root.
-fn waiting(tree: &Tree<Set>) -> u128 {
-    match tree.root().slots() {
-        Some(slots) => pending_len(slots),
-        None => 0,
+        let number = self
+            .first
+            .wrapping_add(place.checked_rem(self.keys).unwrap_or(0));
+        // Eight bytes in which neighbours are far apart.
+        let scattered = number.wrapping_mul(0x9E37_79B9_7F4A_7C15);
+        Key::from_bytes(alloc, &scattered.to_be_bytes())
     }
 }
 
@@ -55,7 +45,11 @@ fn is_relieved(alloc: Global, tree: &mut Tree<Set>) -> bool {
 
 /// Does one compaction step if more than `limit` pieces are pending in the root.
 fn relieve_above(alloc: Global, tree: &mut Tree<Set>, limit: usize) -> Result<(), NoMemory> {
-    if waiting(tree) > limit as u128 && !is_relieved(alloc, tree) {
+    let waiting = match tree.root().slots() {
+        Some(slots) => pending_len(slots),
+        None => 0,
+    };
+    if waiting > limit as u128 && !is_relieved(alloc, tree) {
         return Err(NoMemory);
     }
     Ok(())
