@@ -156,6 +156,8 @@ MARKED = (
     "drop s",
 )
 LOOKS = ("read@v /f 0 10000", "stat@v /f", "stat@s /d/f150", "readdir@v /e", "readdir@s /d", "stat@s /v", "read@s /d 0 5")
+# Lines of all kinds behind a few files.
+FEW_FILES = ("create /f", f"write /f 0 {hexed(10_000)}", "mkdir /e", *(f"create /e/f{number:02}" for number in range(20)))
 SCRIPT = (
     "at 9",
     "mkdir /x",
@@ -252,7 +254,7 @@ def planting():
 
 
 def scripts():
-    yield Scene("scripts", ("script", *SCRIPT), WITH_FILES, judged="script")
+    yield Scene("scripts", ("betr", *SMALL), (*FEW_FILES, *SCRIPT), judged="script")
     yield Scene("scripts", ("run",), WITH_FILES, judged="run")
     yield Scene("scripts", ("transact",), WITH_FILES, wanted="ok")
     yield Scene("images", ("load",), FIRST_IMAGE)

@@ -7,7 +7,6 @@
 
 pub mod opening;
 pub mod scenes;
-pub mod script;
 
 use crate::scenes::play;
 use std::alloc::Global;

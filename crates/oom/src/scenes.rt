@@ -1,6 +1,5 @@
 //! The scenes by their names.
 use crate::opening::open;
-use crate::script;
 use oom_support::engines::{self, Scene};
 use oom_support::live::Act;
 use oom_support::words::word_at;
@@ -77,7 +76,6 @@ fn on_volume<R: Print + Wait>(
         "line" | "marked" | "client" | "look" => {
             line(rt, alloc, volume, name, word_at(others, 0)?, out)
         }
-        "script" => Some(script::scene(rt, alloc, volume, others, out)),
         _ => engines::on_volume(rt, alloc, volume, words, out),
     }
 }
