@@ -112,7 +112,7 @@ impl Between for Refuses {
 
 /// Builds the job, and does nothing else.
 #[derive(Drop)]
-struct Nothing;
+pub struct Nothing;
 
 impl Between for Nothing {
     fn between(&mut self) {}

@@ -1,19 +1,12 @@
 //! Tests that an engine that is opened with a volume that has marks has none.
 ghost use Rattle.std.specs.Prelude.{◌≡◌};
 
+use crate::between::Nothing;
 use crate::filled::marked_room;
-use engine::{Between, Engine, EngineBuilder, EngineId, Flusher, TurnReply};
+use engine::{Engine, EngineBuilder, EngineId, Flusher, TurnReply};
 use std::alloc::Global;
 use std::marker::Brand;
 use std::sync::Wait;
-
-/// Builds the job, and does nothing else.
-#[derive(Drop)]
-struct Nothing;
-
-impl Between for Nothing {
-    fn between(&mut self) {}
-}
 
 /// Whether a turn takes a job and installs it.
 fn installs<J: EngineId, R: Wait>(rt: &R, alloc: Global, mut flusher: Flusher<J>) -> bool {

@@ -65,18 +65,6 @@ enum Found {
     Other,
 }
 
-impl Found {
-    /// Whether a whole mark was written.
-    fn is_written(self) -> bool {
-        matches!(self, Found::Count(8))
-    }
-
-    /// Whether an allocation failed.
-    fn is_refused(self) -> bool {
-        matches!(self, Found::Fault(Errno::ENOMEM))
-    }
-}
-
 /// Sleeps for so short a time that others get the lock.
 pub fn rest<R: Wait>(rt: &R) {
     Parker::new().park_timeout(rt, Duration::from_micros(20));
@@ -288,7 +276,7 @@ fn writes<J: EngineId, R: Wait>(
     let count = own.files[file % FILES].written.wrapping_add(1);
     let found = writes_mark(rt, alloc, client, own.number(file), count);
     own.note_write(file, ended, tally.begun());
-    found.is_written()
+    matches!(found, Found::Count(8))
 }
 
 /// Reads one of its files.
@@ -334,7 +322,7 @@ fn shares<J: EngineId, R: Wait>(
     number: usize,
 ) -> bool {
     let found = asks(rt, alloc, client, SHARED[number % SHARED.len()]);
-    !found.is_refused()
+    !matches!(found, Found::Fault(Errno::ENOMEM))
 }
 
 /// The next call.

@@ -64,7 +64,7 @@ fn restores_one<J: EngineId, R: Wait>(
 /// Restores a snapshot, and reports when it begins and ends.
 fn restores<J: EngineId, R: Wait>(rt: &R, alloc: Global, client: &mut Client<J>, tally: &Tally) {
     tally.begin_restore();
-    let is_later = tally.has_later() && restores_one(rt, alloc, client, LATER);
+    let is_later = matches!(tally.course, Course::Later) && restores_one(rt, alloc, client, LATER);
     let is_done = is_later || restores_one(rt, alloc, client, FIRST);
     tally.end_restore(is_done);
 }

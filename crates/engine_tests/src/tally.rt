@@ -118,11 +118,6 @@ impl Tally {
         !matches!(self.course, Course::Rests)
     }
 
-    /// Whether there are restores of a snapshot that a client has taken meanwhile.
-    pub fn has_later(&self) -> bool {
-        matches!(self.course, Course::Later)
-    }
-
     /// Whether enough jobs were installed, and enough were stale.
     pub fn is_enough(&self) -> bool {
         !self.has_restores()
