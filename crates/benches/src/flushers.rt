@@ -106,6 +106,12 @@ pub fn rest<R: Wait>(rt: &R) {
     Parker::new().park_timeout(rt, Duration::from_micros(REST));
 }
 
+/// A turn with its sleeps.
+fn turn<J: EngineId, H: Wait>(rt: &H, alloc: Global, flusher: &mut Flusher<J>, watch: &Watch) {
+    watch.note(flusher.turn(rt, alloc, &mut Rests { rt }));
+    rest(rt);
+}
+
 /// Starts a flusher in a thread of its own, if there is one.
 pub fn start<'s, E, J: EngineId + Send + Sync + 's, H: Wait + Sync>(
     scope: &Scope<'s, E>,
@@ -128,10 +134,7 @@ fn flush<J: EngineId, H: Wait>(rt: &H, alloc: Global, mut flusher: Flusher<J>, w
                 flusher.run_flusher(rt, alloc, TURNS);
                 watch.note_all(TURNS);
             }
-            Pace::Rests => {
-                watch.note(flusher.turn(rt, alloc, &mut Rests { rt }));
-                rest(rt);
-            }
+            Pace::Rests => turn(rt, alloc, &mut flusher, watch),
         }
     }
 }

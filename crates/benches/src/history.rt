@@ -3,6 +3,7 @@
 //!
 //! `benches history SEED CALLS` makes about that many calls, and prints a line for each; without numbers it makes a few, and prints
 //! how many there were. `tests/history/run` checks whether one order explains them.
+use crate::flushers::Turns;
 use crate::history::log::Log;
 use crate::history::names::{AREAS, SNAPSHOTS};
 use crate::history::run::{CLIENTS, FLUSHERS, Outcome, run};
@@ -91,14 +92,18 @@ fn print_outcome<W: Write + Drop>(alloc: Global, outcome: &Outcome, out: W) -> a
     Ok(())
 }
 
-/// Prints a line with the parameters, the lines of all calls, and one of what flushers did.
+/// Prints the whole result of a workload.
 fn print_whole<W: Write>(out: &mut W, outcome: &Outcome) -> io::Result<()> {
+    print_all(out, outcome.logs.as_slice(), outcome.turns)?;
+    out.flush()
+}
+
+/// Prints a line with the parameters, the lines of all calls, and one of what flushers did.
+fn print_all<W: Write>(out: &mut W, logs: &[Log], turns: Turns) -> io::Result<()> {
     writeln!(out, "history {CLIENTS} {AREAS} {SNAPSHOTS}")?;
-    for log in outcome.logs.as_slice() {
+    for log in logs {
         out.write_all(log.text.as_bytes())?;
     }
-    let turns = outcome.turns;
     let (made, installed, stale) = (turns.made, turns.installed, turns.stale);
-    writeln!(out, "turns {made} {installed} {stale}")?;
-    out.flush()
+    writeln!(out, "turns {made} {installed} {stale}")
 }

@@ -53,6 +53,12 @@ fn is_right(reply: &Reply) -> bool {
     }
 }
 
+/// Whether a volume has the expected reply.
+fn has_answer(alloc: Global, volume: &mut Volume, call: &Call) -> bool {
+    let reply = volume.call(alloc, call, 0);
+    is_right(&reply)
+}
+
 /// A volume, which may do one step after each call.
 #[derive(Drop)]
 pub struct Alone {
@@ -64,11 +70,11 @@ pub struct Alone {
 
 impl Store for Alone {
     fn is_done<R: Wait>(&mut self, _rt: &R, alloc: Global, call: &Call) -> bool {
-        let reply = self.volume.call(alloc, call, 0);
+        let is_done = has_answer(alloc, &mut self.volume, call);
         if self.is_relieved {
             self.volume.compact_step(alloc);
         }
-        is_right(&reply)
+        is_done
     }
 }
 
