@@ -1,18 +1,11 @@
-//! An engine with two clients and two flushers.
-use engine::{Client, Clients, Engine, EngineId, Flusher, Report};
+//! An engine with two clients.
+use engine::{Client, Clients, Engine, EngineId, Report};
 use std::sync::Wait;
 
 /// The two clients of an engine that was opened with two.
 pub fn two_of<J: EngineId>(clients: &mut Clients<J>) -> Option<(Client<J>, Client<J>)> {
     let other = clients.pop()?;
     let one = clients.pop()?;
-    Some((one, other))
-}
-
-/// The two flushers of an engine.
-pub fn two_flushers<J: EngineId>(engine: &mut Engine<J>) -> Option<(Flusher<J>, Flusher<J>)> {
-    let one = engine.flusher().ok()?;
-    let other = engine.flusher().ok()?;
     Some((one, other))
 }
 

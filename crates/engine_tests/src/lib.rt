@@ -26,8 +26,6 @@ mod meeting;
 #[cfg(test)]
 mod own;
 #[cfg(test)]
-mod pairs;
-#[cfg(test)]
 mod requests;
 #[cfg(test)]
 mod scene;
