@@ -6,6 +6,7 @@
 #include "exit_report.h"
 #include "library.h"
 #include "memlimit.h"
+#include <assert.h>
 #include <errno.h>
 #include <stdio.h>
 #include <stdlib.h>
@@ -89,9 +90,14 @@ static int meet(struct replica *replica) {
 
 static void change_begins(struct replica *replica) { replica->depth++; }
 
-// Calls that were refused as a whole count for nothing.
+// Calls that were refused as a whole count for nothing. If one call was the record, the change is done, whatever failed
+// behind it.
 static int change_ends(struct replica *replica, int err) {
-    if (--replica->depth || err || replica->is_over || !replica->calls.length) return err;
+    if (--replica->depth) return err;
+    bool is_done = replica->has_met && replica->is_over;
+    if (is_done) replica->is_over = false;
+    if (is_done) return 0;
+    if (err || replica->is_over || !replica->calls.length) return err;
     if (replica->mode == APPLYING && !replica->has_met) return meet(replica);
     if (replica->mode != SPECULATING) return 0;
     replica->is_over = true;
@@ -153,9 +159,14 @@ static int call_noted(void *self) {
     return lacks_savepoint(replica) && is_record(replica) ? 0 : replica_savepoint(replica);
 }
 
+// What follows in the change of a call that is the record does nothing: the log has neither more of it nor what undoes it.
 static int call_ends(void *self, int err) {
     struct replica *replica = self;
-    if (!err && lacks_savepoint(replica)) meet(replica);
+    if (!err && lacks_savepoint(replica)) {
+        int other = meet(replica);
+        assert(!other); // `call_noted` took a savepoint for any other call
+        replica->is_over = !other;
+    }
     return change_ends(replica, err);
 }
 
