@@ -1,5 +1,5 @@
-// Memory that is wanting, for a program into which this is preloaded: of what its first thread asks for, the n-th piece is
-// refused. The file FAILING_MEMORY has n, as a number of 64 bits, which each piece takes one off: 0 refuses none.
+// Memory that is wanting, for a program into which this is preloaded: of what its first thread asks for, the n-th piece
+// is refused. The file FAILING_MEMORY has n, as a number of 64 bits, of which each piece takes one: 0 refuses none.
 #define _GNU_SOURCE
 #include <errno.h>
 #include <fcntl.h>

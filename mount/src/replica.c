@@ -159,7 +159,8 @@ static int call_noted(void *self) {
     return lacks_savepoint(replica) && is_record(replica) ? 0 : replica_savepoint(replica);
 }
 
-// What follows in the change of a call that is the record does nothing: the log has neither more of it nor what undoes it.
+// What follows in the change of a call that is the record does nothing: the log has neither more of it, nor what undoes
+// it.
 static int call_ends(void *self, int err) {
     struct replica *replica = self;
     if (!err && lacks_savepoint(replica)) {
