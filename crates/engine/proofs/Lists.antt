@@ -1,5 +1,5 @@
 -- Lists of calls: their entries, one more of them, and what a volume that does them says of the history.
-use Rattle.std.proofs.Common.{◌≡◌, ℕ, suc, ◌+◌, ◌<◌, ◌%◌, ◌^◌, List, [], ◌∷◌, ◌++◌, length, take, drop, refl, sym, ap, ◌∙◌, subst, arith, length-append, append_assoc}
+use Rattle.std.proofs.Common.{◌≡◌, ℕ, suc, ◌+◌, ◌<◌, ◌≤◌, ◌%◌, ◌^◌, List, [], ◌∷◌, ◌++◌, length, take, drop, refl, sym, ap, ◌∙◌, subst, arith, length-append, append_assoc}
 use Rattle.std.specs.Prelude.{Ok}
 use Rattle.std.specs.Global.{Vec}
 use Rattle.std.proofs.Math.Nat.{mod-add-mod}
@@ -54,6 +54,13 @@ replies-all [] [] all = refl
 replies-all [] (r ∷ rs) all = absurd all
 replies-all (c ∷ cs) [] all = absurd all
 replies-all (c ∷ cs) (r ∷ rs) all = ap suc (replies-all cs rs all.1)
+
+-- one call more of the client is recorded that it has announced
+pub announced-more : (h h' : List Entry) (by c c' : ℕ) (event : Event) (answer : Answer) (a a' : ℕ) → own c h ≤ a → h' ≡ h ++ entry by event answer ∷ [] → c' ≡ by → by ≡ c → a' ≡ a + 1 → own c' h' ≤ a'
+announced-more h h' by c c' event answer a a' le is mine same more =
+    let e : own c' h' ≡ own c h + 1 =
+    ap (λ (x : ℕ × List Entry). own x.0 x.1) (λ i. (mine i, is i)) ∙ own-append by h (entry by event answer ∷ []) ∙ ap (λ n. own by h + n) (own-one by event answer) ∙ ap (λ n. own n h + 1) same in
+    omega (arith, e, le, more)
 
 -- the call behind some of a list fits after them
 fits-behind : (w : World) (cs : List Timed) (rs : List Reply) (c : Timed) (r : Reply) (more : List Timed) (rest : List Reply) → length cs ≡ length rs → IsLegal w (timed_calls (cs ++ c ∷ more) (rs ++ r ∷ rest)) → Fits (after w (timed_calls cs rs)) (Ask c.0 c.1) (Replied r)

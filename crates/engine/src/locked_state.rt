@@ -136,8 +136,7 @@ impl<J: EngineId> LockedState<J> {
         learn::<J>(words, &mut client);
         match self.volume.transact(alloc, calls) {
             Ok(replies) => {
-                let client =
-                    record_all::<J>(alloc, words, &mut self.seat, client, calls, &replies);
+                let client = record_all::<J>(alloc, words, &mut self.seat, client, calls, &replies);
                 self.count = self.count.wrapping_add(calls.len() as u64);
                 (client, Ok(replies))
             }

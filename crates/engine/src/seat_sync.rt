@@ -204,8 +204,7 @@ pub fn record_all<J: EngineId>(
             call: &timed.0,
             at: timed.1,
         };
-        let recorded =
-            record_call::<J, FileCall>(words, engine, client, &call, &replies[number]);
+        let recorded = record_call::<J, FileCall>(words, engine, client, &call, &replies[number]);
         client = recorded.0;
     }
     client

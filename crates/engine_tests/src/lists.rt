@@ -94,10 +94,14 @@ fn succeeds(answer: &Option<Transacted>, wanted: &[ExpectedReply<'_>]) -> bool {
 /// Whether the call with this number failed with this error.
 fn fails_at(answer: &Option<Transacted>, number: usize, errno: Errno) -> bool {
     match answer {
-        Some(Err(FailedCall {
-            number: found,
-            errno: fault,
-        })) => *found == number && *fault == errno,
+        Some(
+            Err(
+                FailedCall {
+                    number: found,
+                    errno: fault,
+                },
+            ),
+        ) => *found == number && *fault == errno,
         _ => false,
     }
 }
@@ -203,7 +207,10 @@ fn in_room<J: EngineId + Send + Sync, R: Threads + Wait + Sync>(
     let (first, second) = two_flushers(&mut engine)?;
     let alone = one_by_one(rt, alloc, &mut one);
     let files = [SampleCall::Create("/a"), SampleCall::Create("/b")];
-    let ready = succeeds(&asks(rt, alloc, &mut one, &files), &[ExpectedReply::Done; 2]);
+    let ready = succeeds(
+        &asks(rt, alloc, &mut one, &files),
+        &[ExpectedReply::Done; 2],
+    );
     let (done, _) = join(
         rt,
         move || write_and_read(rt, alloc, one, other),

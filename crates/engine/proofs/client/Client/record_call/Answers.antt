@@ -1,4 +1,5 @@
-use Rattle.std.proofs.Common.{sym, ap, ◌∙◌}
+use Rattle.std.proofs.Common.{ℕ, List, [], ◌∷◌, sym, ap, ◌∙◌}
+use Rattle.engine.specs.Histories.{Entry, entry}
 use Rattle.engine.specs.Rule.{Seated}
 use Rattle.engine.proofs.Callers.{adds-after, greets-after, numbered-still, own-one}
 use Rattle.engine.proofs.client.Client.record_call.Goals as goal
@@ -12,11 +13,13 @@ invariant_of-self g c =
     let p = c.record_call-seat.ensures in
     let was = ap (λ b. b.views) (sym c.replace.ensures.value) ∙ c.into_seat-seat.ensures.2 in
     let now = c.into_badge.ensures in
-    (now.0 ∙ p.client.0, greets-after _ _ _ _ _ _ _ _ _ i.1 was p.makes.1 now.2 (own-one _ _ _) (ap (λ (m : Seated). m.0) p.client.1), numbered-still _ _ _ _ _ i.2 was p.makes.1.0 now.2)
+    let es : ℕ → List Entry = λ n. entry n (g.A.Operation.event c.args.execute.now) (g.A.Operation.answer c.record_call-seat.result.1) ∷ [] in
+    (now.0 ∙ p.client.0, greets-after _ _ _ _ _ es _ _ _ i.1 was p.makes.1 now.2 (own-one _ _ _) (ap (λ (m : Seated). m.0) p.client.1), numbered-still _ _ _ _ _ i.2 was p.makes.1.0 now.2)
 
 pub returns : goal.returns
 returns g c =
     let i = c.self.invariant in
     let p = c.record_call-seat.ensures in
     let was = ap (λ b. b.views) (sym c.replace.ensures.value) ∙ c.into_seat-seat.ensures.2 in
-    adds-after _ _ _ _ _ _ _ _ _ i.1 was p.makes.1 c.into_badge.ensures.2 _ c.self.view_is
+    let es : ℕ → List Entry = λ n. entry n (g.A.Operation.event c.args.execute.now) (g.A.Operation.answer c.record_call-seat.result.1) ∷ [] in
+    adds-after _ _ _ _ _ es _ _ _ i.1 was p.makes.1 c.into_badge.ensures.2 _ c.self.view_is
