@@ -1,5 +1,5 @@
 -- Lists of calls: their entries, one more of them, and what a volume that does them says of the history.
-use Rattle.std.proofs.Common.{◌≡◌, ℕ, suc, ◌+◌, ◌<◌, ◌≤◌, ◌%◌, ◌^◌, List, [], ◌∷◌, ◌++◌, length, take, drop, refl, sym, ap, ◌∙◌, subst, arith, length-append, append_assoc}
+use Rattle.std.proofs.Common.{◌≡◌, ℕ, suc, ◌+◌, ◌<◌, ◌≤◌, ◌%◌, ◌^◌, List, [], ◌∷◌, ◌++◌, length, refl, sym, ap, ◌∙◌, subst, arith, length-append}
 use Rattle.std.specs.Prelude.{Ok}
 use Rattle.std.specs.Global.{Vec}
 use Rattle.std.proofs.Math.Nat.{mod-add-mod}
@@ -16,7 +16,7 @@ use Rattle.engine.specs.Histories.{Entry, entry, calls, LegalFrom, FitsAfter, St
 use Rattle.engine.specs.Lists.{entries, AllSucceed, FitAllAfter, FailsFrom, FailsAfter}
 use Rattle.engine.specs.Seats.{Holds, Looks, Makes}
 use Rattle.engine.proofs.Callers.{own-one}
-use Rattle.engine.proofs.Histories.{own-append, calls-append, after-both, legal-both, starts-self}
+use Rattle.engine.proofs.Histories.{own-append, calls-append, after-both, legal-both}
 
 -- ---- the entries of a list
 

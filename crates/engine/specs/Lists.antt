@@ -1,5 +1,5 @@
 -- Lists of calls that a client makes in one hold of the lock: all of them, or none.
-use Rattle.std.specs.Prelude.{◌≡◌, List, [], ◌∷◌, ℕ, zero, suc, ⊤}
+use Rattle.std.specs.Prelude.{List, [], ◌∷◌, ℕ, zero, suc, ⊤}
 use Rattle.pathkey.specs.declared.errno.Errno.{Errno}
 use Rattle.reference.specs.Worlds.{World, History, Ask, Replied, Fits, IsLegal, next, after}
 use Rattle.reference.specs.declared.reply.Reply.{Reply}
