@@ -1,7 +1,7 @@
 //! Tests of lists of calls: a list is done whole or not at all, and no call of another client comes between its calls.
 ghost use Rattle.std.specs.Prelude.{◌≡◌};
 
-use crate::crew::{end, two_flushers, two_of};
+use crate::crew::{end, two_of};
 use crate::requests::{SMALL, answers, new_room};
 use engine::{Client, Engine, EngineBuilder, EngineId, FailedCall, Flusher, Transacted};
 use pathkey::Errno;
@@ -204,7 +204,8 @@ fn in_room<J: EngineId + Send + Sync, R: Threads + Wait + Sync>(
 {
     let (mut engine, mut clients) = Engine::<J>::open(alloc, room, 2).ok()?;
     let (mut one, other) = two_of(&mut clients)?;
-    let (first, second) = two_flushers(&mut engine)?;
+    let first = engine.flusher().ok()?;
+    let second = engine.flusher().ok()?;
     let alone = one_by_one(rt, alloc, &mut one);
     let files = [SampleCall::Create("/a"), SampleCall::Create("/b")];
     let ready = succeeds(

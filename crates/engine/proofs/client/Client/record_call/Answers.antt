@@ -14,7 +14,7 @@ invariant_of-self g c =
     let was = ap (λ b. b.views) (sym c.replace.ensures.value) ∙ c.into_seat-seat.ensures.2 in
     let now = c.into_badge.ensures in
     let es : ℕ → List Entry = λ n. entry n (g.A.Operation.event c.args.execute.now) (g.A.Operation.answer c.record_call-seat.result.1) ∷ [] in
-    (now.0 ∙ p.client.0, greets-after _ _ _ _ _ es _ _ _ i.1 was p.makes.1 now.2 (own-one _ _ _) (ap (λ (m : Seated). m.0) p.client.1), numbered-still _ _ _ _ _ i.2 was p.makes.1.0 now.2)
+    (now.0 ∙ p.client.0, greets-after _ _ _ _ _ es _ _ _ i.1 was p.makes.1 now.2 (own-one c.into_seat-seat.result.me.0.client (g.A.Operation.event c.args.execute.now) (g.A.Operation.answer c.record_call-seat.result.1)) (ap (λ (m : Seated). m.0) p.client.1), numbered-still _ _ _ _ _ i.2 was p.makes.1.0 now.2)
 
 pub returns : goal.returns
 returns g c =
