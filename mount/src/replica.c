@@ -94,9 +94,10 @@ static void change_begins(struct replica *replica) { replica->depth++; }
 // behind it.
 static int change_ends(struct replica *replica, int err) {
     if (--replica->depth) return err;
-    bool is_done = replica->has_met && replica->is_over;
-    if (is_done) replica->is_over = false;
-    if (is_done) return 0;
+    if (replica->has_met && replica->is_over) {
+        replica->is_over = false;
+        return 0;
+    }
     if (err || replica->is_over || !replica->calls.length) return err;
     if (replica->mode == APPLYING && !replica->has_met) return meet(replica);
     if (replica->mode != SPECULATING) return 0;
@@ -166,7 +167,7 @@ static int call_ends(void *self, int err) {
     if (!err && lacks_savepoint(replica)) {
         int other = meet(replica);
         assert(!other); // `call_noted` took a savepoint for any other call
-        replica->is_over = !other;
+        if (!other) replica->is_over = true;
     }
     return change_ends(replica, err);
 }
