@@ -166,17 +166,22 @@ fn read_both<J: EngineId, R: Wait>(
     (client, is_right)
 }
 
+/// Runs turns.
+fn flush<J: EngineId, R: Wait>(rt: &R, alloc: Global, mut flusher: Flusher<J>) {
+    flusher.run_flusher(rt, alloc, LISTS);
+}
+
 /// Runs turns by each of two flushers.
 fn flush_both<J: EngineId + Send + Sync, R: Threads + Wait + Sync>(
     rt: &R,
     alloc: Global,
-    mut one: Flusher<J>,
-    mut other: Flusher<J>,
+    one: Flusher<J>,
+    other: Flusher<J>,
 ) {
     join(
         rt,
-        move || one.run_flusher(rt, alloc, LISTS),
-        move || other.run_flusher(rt, alloc, LISTS),
+        move || flush(rt, alloc, one),
+        move || flush(rt, alloc, other),
     );
 }
 
