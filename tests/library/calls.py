@@ -55,6 +55,12 @@ def told(name: str, *words, capacity: int = CAPACITY):
     return number or out.raw[: size.value]
 
 
+def stat_of(name: str, tree: Pointer, path: bytes):
+    """Kind, length and mtime, or the number of the error."""
+    kind, length, modified = ctypes.c_uint8(), ctypes.c_uint64(), ctypes.c_uint64()
+    return ask(name, tree, path, kind, length, modified) or (kind.value, length.value, modified.value)
+
+
 def given_up(name: str, it: Pointer) -> None:
     """Calls a symbol that takes a pointer by value."""
     getattr(library, f"doorvervain_raw_{name}")(ctypes.c_void_p(it.ptr))
@@ -94,6 +100,4 @@ class Volume:
         return text
 
     def stat(self, path: bytes):
-        """Kind, length and mtime, or the number of the error."""
-        kind, length, modified = ctypes.c_uint8(), ctypes.c_uint64(), ctypes.c_uint64()
-        return self.ask("stat", path, kind, length, modified) or (kind.value, length.value, modified.value)
+        return stat_of("stat", self.fs, path)

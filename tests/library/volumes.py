@@ -2,7 +2,7 @@
 import ctypes
 from collections.abc import Callable
 
-from calls import EINVAL, EISDIR, ENOENT, ENOTDIR, SMALL, USUAL, Pointer, Volume, ask, given_up, told
+from calls import EINVAL, EISDIR, ENOENT, ENOTDIR, SMALL, USUAL, Pointer, Volume, ask, given_up, stat_of, told
 
 # ---- holes
 
@@ -69,12 +69,10 @@ def extents(next_extent: Callable) -> list:
 
 def file_of(tree: Pointer) -> tuple:
     """Bytes, kind, length and mtime, and stored extents."""
-    kind, length, modified = ctypes.c_uint8(), ctypes.c_uint64(), ctypes.c_uint64()
-    data = told("frozen_read", tree, b"/f", 0)
-    done(ask("frozen_stat", tree, b"/f", kind, length, modified))
+    data, entry = told("frozen_read", tree, b"/f", 0), stat_of("frozen_stat", tree, b"/f")
     found = extents(lambda *words: ask("frozen_next_extent", tree, *words))
     given_up("frozen_close", tree)
-    return data, (kind.value, length.value, modified.value), found
+    return data, entry, found
 
 
 def punched(holes: list) -> tuple:
@@ -130,10 +128,10 @@ def has_long(volume: Volume) -> bool:
     return volume.stat(b"/f") == (2, 10_002, 3) and volume.told("read", b"/f", 2) == LONG
 
 
-def copied(volume: Volume, source: bytes, offset: int, target: bytes, place: int, count: int):
+def copied(volume: Volume, source: bytes, offset: int, target: bytes, place: int, count: int, at: int = 4):
     """How many bytes are copied, or the number of the error."""
     got = ctypes.c_uint64(99)
-    number = volume.ask("copy_range", source, offset, target, place, count, 4, got)
+    number = volume.ask("copy_range", source, offset, target, place, count, at, got)
     return -number if number else got.value
 
 
