@@ -1,5 +1,4 @@
 //! Tests of small trees in which none of the steps that compaction tries fits, although another choice of steps would.
-use crate::changes::{Change, outcome};
 use crate::requests::{SMALL, answers, new_volume};
 use std::alloc::Global;
 use test_support::{ExpectedReply, SampleCall};
@@ -53,19 +52,15 @@ fn arrive(alloc: Global, volume: &mut Volume, arrival: &Arrival) -> bool {
     true
 }
 
-/// Whether all files are created, and then one is renamed.
-fn arrive_all(alloc: Global, volume: &mut Volume) -> bool {
+/// Whether all files are created and then one is renamed, and a few hundred steps then flush everything that is pending.
+fn becomes_idle(alloc: Global, volume: &mut Volume) -> bool {
     for arrival in ARRIVALS {
         if !arrive(alloc, volume, arrival) {
             return false;
         }
     }
-    outcome(alloc, volume, "/g710", Change::Rename("/a"), 0).is_ok()
-}
-
-/// Whether a few hundred steps then flush everything that is pending.
-fn becomes_idle(alloc: Global, volume: &mut Volume) -> bool {
-    let is_done = arrive_all(alloc, volume);
+    let moved = SampleCall::Rename("/g710", "/a");
+    let is_done = answers(alloc, volume, moved, ExpectedReply::Done);
     relieve(alloc, volume, 400);
     is_done && volume.compact_step(alloc).is_none()
 }

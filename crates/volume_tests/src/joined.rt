@@ -1,179 +1,237 @@
-//! Tests of pending lists of blocks: updates of one block are condensed into one message.
-
-use crate::blocks::SampleUpdate;
-use crate::metadata::key_of;
-use block_index::BlockUpdate;
-use message::Msg;
-use pathkey::Key;
-use pending::Pending;
+//! Tests of how many messages are pending in each index after calls, since updates of one block or of one entry are joined into one
+//! message; and of the index that compaction then chooses.
+use crate::requests::{USUAL, answers, creates, new_volume};
 use std::alloc::Global;
-use test_support::{Holds, all_hold};
+use test_support::{ExpectedReply, SampleCall};
+use volume::{Index, Volume};
 
-/// The message of an update at a key; `None` if an allocation fails.
-fn edit(alloc: Global, key: &Key, update: BlockUpdate) -> Option<Msg<BlockUpdate>> {
-    match key.copy(alloc) {
-        Ok(key) => Some(Msg::Edit(key, update)),
-        Err(_) => None,
-    }
+/// Whether that many messages are pending in an index, according to each report of it.
+fn waits(volume: &Volume, index: Index, wanted: u128) -> bool {
+    volume.pending(index) == wanted
+        && volume.shape_report(index).pending == wanted
+        && volume.heaviest(index).is_some() == (wanted > 0)
 }
 
-/// The message of a row's update at a key; `None` if an allocation fails.
-fn message(alloc: Global, key: &Key, row: SampleUpdate) -> Option<Msg<BlockUpdate>> {
-    match row.update(alloc) {
-        Some(update) => edit(alloc, key, update),
-        None => None,
-    }
+/// A call on the file.
+#[derive(Clone, Copy)]
+enum Ask {
+    Write(u64, &'static [u8]),
+    Cut(u64),
+    /// A read of all its bytes.
+    Read(&'static [u8]),
 }
 
-/// Appends an update at a key to a list, and returns how many messages are pending then; `None` if an allocation fails.
-fn push(
-    alloc: Global,
-    list: &mut Pending<BlockUpdate>,
-    key: &Key,
-    row: SampleUpdate,
-) -> Option<usize> {
-    if list.reserve(1).is_err() {
-        return None;
+/// Whether a call has its reply.
+fn does(alloc: Global, volume: &mut Volume, ask: Ask) -> bool {
+    let (ask, reported) = match ask {
+        Ask::Write(offset, bytes) => (
+            SampleCall::Write("/f", offset, bytes),
+            ExpectedReply::Count(bytes.len() as u64),
+        ),
+        Ask::Cut(length) => (SampleCall::Truncate("/f", length), ExpectedReply::Done),
+        Ask::Read(bytes) => (SampleCall::Read("/f", 0, 99), ExpectedReply::Data(bytes)),
+    };
+    answers(alloc, volume, ask, reported)
+}
+
+/// Calls on a new file, the numbers of messages that are pending in the metadata and in the blocks then, and the index of the next
+/// compaction step.
+type Case = (&'static [Ask], u128, u128, Index);
+
+/// The root and the file are pending in the metadata, and each block in the other index; a cut is one message more, for the range of the
+/// blocks after it.
+const CASES: &[Case] = &[
+    (&[], 2, 0, Index::Meta),
+    (&[Ask::Write(0, b"\xaa")], 2, 1, Index::Meta),
+    (&[Ask::Write(0, &[0xaa; 4_096])], 2, 1, Index::Meta),
+    (&[Ask::Write(0, &[0xaa; 8_192])], 2, 2, Index::Meta),
+    (&[Ask::Write(0, &[0xaa; 8_193])], 2, 3, Index::Block),
+    (
+        &[
+            Ask::Write(4, b"\xaa\xbb"),
+            Ask::Write(2, b"\xcc"),
+            Ask::Write(3, b"\xdd"),
+            Ask::Read(b"\0\0\xcc\xdd\xaa\xbb"),
+        ],
+        2,
+        1,
+        Index::Meta,
+    ),
+    (
+        &[
+            Ask::Write(2, b"\xcc"),
+            Ask::Write(4, b"\xaa\xbb"),
+            Ask::Write(3, b"\xdd"),
+            Ask::Read(b"\0\0\xcc\xdd\xaa\xbb"),
+        ],
+        2,
+        1,
+        Index::Meta,
+    ),
+    (
+        &[
+            Ask::Write(0, b"aaa"),
+            Ask::Write(1, b"b"),
+            Ask::Write(9, b"c"),
+            Ask::Read(b"aba\0\0\0\0\0\0c"),
+        ],
+        2,
+        1,
+        Index::Meta,
+    ),
+    (
+        &[
+            Ask::Write(8, b"ab"),
+            Ask::Write(0, b"cd"),
+            Ask::Write(4, b"ef"),
+            Ask::Write(1, b"ghijklmn"),
+            Ask::Read(b"cghijklmnb"),
+        ],
+        2,
+        1,
+        Index::Meta,
+    ),
+    (
+        &[
+            Ask::Write(6, b"ab"),
+            Ask::Write(0, b"c"),
+            Ask::Cut(7),
+            Ask::Write(3, b"d"),
+            Ask::Read(b"c\0\0d\0\0a"),
+        ],
+        2,
+        2,
+        Index::Meta,
+    ),
+    (
+        &[
+            Ask::Write(6, b"ab"),
+            Ask::Cut(2),
+            Ask::Write(4, b"c"),
+            Ask::Read(b"\0\0\0\0c"),
+        ],
+        2,
+        2,
+        Index::Meta,
+    ),
+];
+
+/// Whether the calls of a case leave the messages that it says.
+fn leaves(alloc: Global, volume: &mut Volume, case: &Case) -> bool {
+    if !answers(alloc, volume, SampleCall::Create("/f"), ExpectedReply::Done) {
+        return false;
     }
-    match message(alloc, key, row) {
-        Some(message) => {
-            list.push_reserved(message);
-            Some(list.len())
+    for ask in case.0 {
+        if !does(alloc, volume, *ask) {
+            return false;
         }
-        None => None,
+    }
+    waits(volume, Index::Meta, case.1)
+        && waits(volume, Index::Block, case.2)
+        && matches!(volume.compact_step(alloc), Some(relief) if relief.step.index == case.3)
+}
+
+/// The same in a new volume.
+fn leaves_in_new(alloc: Global, case: &Case) -> bool {
+    match new_volume(alloc, USUAL) {
+        Ok(mut volume) => leaves(alloc, &mut volume, case),
+        Err(_) => false,
     }
 }
 
-/// Whether one message is pending after each update of the rows.
-fn push_all(
-    alloc: Global,
-    list: &mut Pending<BlockUpdate>,
-    key: &Key,
-    rows: &[SampleUpdate],
-) -> bool {
-    for row in rows {
-        if push(alloc, list, key, *row) != Some(1) {
+#[test]
+fn one_message_waits_for_a_block_and_for_an_entry(rt: HostRuntime) {
+    for (number, case) in CASES.iter().enumerate() {
+        assert!(rt; leaves_in_new(rt.alloc(), case), "row {number}");
+    }
+}
+
+/// How many bytes are written one by one, the distance between two of them, and the number of messages that they become in the blocks. A
+/// message has at most 128 patches, of which no two touch.
+type Bytes = (u64, u64, u128);
+
+const BYTES: &[Bytes] = &[(1_000, 1, 1), (128, 2, 1), (129, 2, 2), (255, 2, 2)];
+
+/// Whether a file is created and bytes are written one by one.
+fn writes(alloc: Global, volume: &mut Volume, count: u64, distance: u64) -> bool {
+    if !answers(alloc, volume, SampleCall::Create("/f"), ExpectedReply::Done) {
+        return false;
+    }
+    for number in 0..count {
+        let byte = SampleCall::Write("/f", number.saturating_mul(distance), b"x");
+        if !answers(alloc, volume, byte, ExpectedReply::Count(1)) {
             return false;
         }
     }
     true
 }
 
-/// Whether a list gives these bytes for an absent block.
-fn makes(alloc: Global, list: &Pending<BlockUpdate>, key: &Key, wanted: &[u8]) -> bool {
-    match list.value_after(alloc, key, None) {
-        Ok(Some(block)) => block.as_slice() == wanted,
-        _ => false,
-    }
-}
-
-/// Whether updates at a key leave one message, and these bytes.
-fn update(alloc: Global, key: &Key, rows: &[SampleUpdate], wanted: &[u8]) -> bool {
-    let mut list = Pending::new(alloc);
-    push_all(alloc, &mut list, key, rows) && makes(alloc, &list, key, wanted)
-}
-
-/// Updates of one block, and the bytes that they give for an absent one.
-struct Updates(&'static [SampleUpdate], &'static [u8]);
-
-impl Holds for Updates {
-    fn holds(&self, alloc: Global) -> bool {
-        match key_of(alloc, "/f") {
-            Some(key) => update(alloc, &key, self.0, self.1),
-            None => false,
+/// Whether so many writes of a byte leave that many messages in a new volume, and one for the file besides that of the root directory.
+fn are_joined(alloc: Global, row: &Bytes) -> bool {
+    match new_volume(alloc, USUAL) {
+        Ok(mut volume) => {
+            writes(alloc, &mut volume, row.0, row.1)
+                && waits(&volume, Index::Meta, 2)
+                && waits(&volume, Index::Block, row.2)
         }
+        Err(_) => false,
     }
 }
-
-const UPDATES: &[Updates] = &[
-    Updates(
-        &[
-            SampleUpdate::Patch(4, b"\xaa\xbb"),
-            SampleUpdate::Patch(2, b"\xcc"),
-            SampleUpdate::Patch(3, b"\xdd"),
-        ],
-        b"\0\0\xcc\xdd\xaa\xbb",
-    ),
-    Updates(
-        &[
-            SampleUpdate::Patch(2, b"\xcc"),
-            SampleUpdate::Patch(4, b"\xaa\xbb"),
-            SampleUpdate::Patch(3, b"\xdd"),
-        ],
-        b"\0\0\xcc\xdd\xaa\xbb",
-    ),
-    Updates(
-        &[
-            SampleUpdate::Patch(0, b"aaa"),
-            SampleUpdate::Patch(1, b"b"),
-            SampleUpdate::Patch(9, b"c"),
-        ],
-        b"aba\0\0\0\0\0\0c",
-    ),
-    Updates(
-        &[
-            SampleUpdate::Patch(8, b"ab"),
-            SampleUpdate::Patch(0, b"cd"),
-            SampleUpdate::Patch(4, b"ef"),
-            SampleUpdate::Patch(1, b"ghijklmn"),
-        ],
-        b"cghijklmnb",
-    ),
-    Updates(
-        &[
-            SampleUpdate::Patch(6, b"ab"),
-            SampleUpdate::Patch(0, b"c"),
-            SampleUpdate::CutTo(7),
-            SampleUpdate::Patch(3, b"d"),
-        ],
-        b"c\0\0d\0\0a",
-    ),
-    Updates(
-        &[
-            SampleUpdate::Patch(6, b"ab"),
-            SampleUpdate::CutTo(2),
-            SampleUpdate::Patch(4, b"c"),
-        ],
-        b"\0\0\0\0c",
-    ),
-];
 
 #[test]
-fn one_message_waits_for_a_block(rt: HostRuntime) -> Result<(), usize> {
-    all_hold(rt.alloc(), UPDATES)
-}
-
-/// The number of pending messages after that many patches of one byte, of which no two touch; `None` if an allocation
-/// fails.
-fn waiting(alloc: Global, key: &Key, count: u8) -> Option<usize> {
-    let mut list = Pending::new(alloc);
-    let mut waiting = Some(0);
-    for number in 0..count {
-        waiting = push(
-            alloc,
-            &mut list,
-            key,
-            SampleUpdate::Patch(number as u16 * 2, b"a"),
-        );
+fn writes_of_a_byte_wait_as_few_messages(rt: HostRuntime) {
+    for row in BYTES {
+        assert!(rt; are_joined(rt.alloc(), row), "{row:?}");
     }
-    waiting
 }
 
-/// A number of patches of one byte, and the number of messages that they become: a message has at most 128.
-struct Counted(u8, usize);
-
-impl Holds for Counted {
-    fn holds(&self, alloc: Global) -> bool {
-        match key_of(alloc, "/f") {
-            Some(key) => waiting(alloc, &key, self.0) == Some(self.1),
-            None => false,
+/// Compacts a volume, by at most that many steps; returns whether nothing is pending in the metadata then.
+fn settles(alloc: Global, volume: &mut Volume) -> bool {
+    for _ in 0..100 {
+        if volume.compact_step(alloc).is_none() {
+            return waits(volume, Index::Meta, 0);
         }
     }
+    false
 }
 
-const COUNTED: &[Counted] = &[Counted(128, 1), Counted(129, 2), Counted(255, 2)];
+/// Whether a thousand files are created in one directory, the first at timestamp 0 and each other `later` after the one
+/// before.
+fn create_all(alloc: Global, volume: &mut Volume, later: u64) -> bool {
+    for number in 0..1_000 {
+        let at = u64::from(number).saturating_mul(later);
+        if !creates(alloc, volume, "/a", number, at) {
+            return false;
+        }
+    }
+    true
+}
+
+/// Whether that many messages are pending in a new volume then: one for each file, and none or one for their directory, which is in a
+/// leaf.
+fn fills(alloc: Global, later: u64, wanted: u128) -> bool {
+    match new_volume(alloc, USUAL) {
+        Ok(mut volume) => {
+            answers(
+                alloc,
+                &mut volume,
+                SampleCall::Mkdir("/a"),
+                ExpectedReply::Done,
+            ) && settles(alloc, &mut volume)
+                && create_all(alloc, &mut volume, later)
+                && waits(&volume, Index::Meta, wanted)
+                && waits(&volume, Index::Block, 0)
+        }
+        Err(_) => false,
+    }
+}
 
 #[test]
-fn a_message_has_so_many_patches(rt: HostRuntime) -> Result<(), usize> {
-    all_hold(rt.alloc(), COUNTED)
+fn a_thousand_files_leave_one_touch_of_their_directory(rt: HostRuntime) {
+    assert!(rt; fills(rt.alloc(), 1, 1_001));
+}
+
+#[test]
+fn a_directory_that_has_the_moment_is_not_touched(rt: HostRuntime) {
+    assert!(rt; fills(rt.alloc(), 0, 1_000));
 }

@@ -3,11 +3,11 @@
 //!
 //! The measure is a new volume with the same entries. No function here has a postcondition, so that the proofs of the tests do not
 //! unfold the contract of a volume.
-use crate::changes::{Change, outcome};
-use crate::requests::new_volume;
+use crate::requests::{answers, new_volume};
 use node::Shape;
 use std::alloc::Global;
-use volume::{Index, PathCall, Volume};
+use test_support::{ExpectedReply, SampleCall};
+use volume::{Index, Volume};
 
 /// The number of files.
 const FILES: u32 = 4_000;
@@ -21,11 +21,44 @@ const FEW: usize = 40;
 /// The distance between two consecutive numbers in the pseudo-random order. It is a prime.
 const STRIDE: usize = 7_919;
 
+/// A change of the file with a number.
+#[derive(Clone, Copy)]
+enum Change {
+    Create,
+    Write,
+    Unlink,
+    Mkdir,
+    Rmdir,
+    /// It is renamed to the next number.
+    Rename,
+}
+
+/// The call of a change at a path, and whether it is done; the path of the next number is given too.
+fn does(alloc: Global, volume: &mut Volume, change: Change, text: &str, next: &str) -> bool {
+    let (ask, reported) = match change {
+        Change::Create => (SampleCall::Create(text), ExpectedReply::Done),
+        Change::Write => (SampleCall::Write(text, 0, b"x"), ExpectedReply::Count(1)),
+        Change::Unlink => (SampleCall::Unlink(text), ExpectedReply::Done),
+        Change::Mkdir => (SampleCall::Mkdir(text), ExpectedReply::Done),
+        Change::Rmdir => (SampleCall::Rmdir(text), ExpectedReply::Done),
+        Change::Rename => (SampleCall::Rename(text, next), ExpectedReply::Done),
+    };
+    answers(alloc, volume, ask, reported)
+}
+
+/// The path of the file with a number.
+fn text_of(alloc: Global, number: u32) -> Option<String> {
+    format!(in alloc; "/d/f{number:05}").ok()
+}
+
 /// Makes a change of the file with a number, and a compaction step for each tree.
-fn change(alloc: Global, volume: &mut Volume, number: u32, change: Change<'_>) -> bool {
-    let is_done = match format!(in alloc; "/d/f{number:05}") {
-        Ok(text) => outcome(alloc, volume, text.as_str(), change, 0).is_ok(),
-        Err(_) => false,
+fn make_change(alloc: Global, volume: &mut Volume, number: u32, change: Change) -> bool {
+    let is_done = match (
+        text_of(alloc, number),
+        text_of(alloc, number.saturating_add(1)),
+    ) {
+        (Some(text), Some(next)) => does(alloc, volume, change, text.as_str(), next.as_str()),
+        _ => false,
     };
     volume.compact_step(alloc);
     volume.compact_step(alloc);
@@ -33,23 +66,9 @@ fn change(alloc: Global, volume: &mut Volume, number: u32, change: Change<'_>) -
 }
 
 /// Makes a change of each of these files.
-fn change_all(alloc: Global, volume: &mut Volume, numbers: &[u32], of_each: Change<'_>) -> bool {
+fn change_all(alloc: Global, volume: &mut Volume, numbers: &[u32], of_each: Change) -> bool {
     for number in numbers {
-        if !change(alloc, volume, *number, of_each) {
-            return false;
-        }
-    }
-    true
-}
-
-/// Renames the file with each number to the next one.
-fn move_all(alloc: Global, volume: &mut Volume, numbers: &[u32]) -> bool {
-    for number in numbers {
-        let is_done = match format!(in alloc; "/d/f{:05}", number.saturating_add(1)) {
-            Ok(over) => change(alloc, volume, *number, Change::Rename(over.as_str())),
-            Err(_) => false,
-        };
-        if !is_done {
+        if !make_change(alloc, volume, *number, of_each) {
             return false;
         }
     }
@@ -73,9 +92,9 @@ fn nodes(volume: &Volume, index: Index) -> u128 {
 
 /// Creates the directory and these files, each with a block.
 fn make(alloc: Global, volume: &mut Volume, numbers: &[u32]) -> bool {
-    outcome(alloc, volume, "/d", Change::Path(PathCall::Mkdir), 0).is_ok()
-        && change_all(alloc, volume, numbers, Change::Path(PathCall::Create))
-        && change_all(alloc, volume, numbers, Change::Write(0, "x"))
+    answers(alloc, volume, SampleCall::Mkdir("/d"), ExpectedReply::Done)
+        && change_all(alloc, volume, numbers, Change::Create)
+        && change_all(alloc, volume, numbers, Change::Write)
 }
 
 /// Whether no tree of the volume has many more nodes than that of the other one.
@@ -120,16 +139,16 @@ fn mixed(alloc: Global, numbers: &[u32]) -> Option<Vec<u32>> {
 /// Removes these files except for a few, and then those, and counts the nodes each time.
 fn remove_all(alloc: Global, volume: &mut Volume, shape: Shape, files: &[u32]) -> bool {
     let (most, last) = files.split_at(files.len().saturating_sub(FEW));
-    change_all(alloc, volume, most, Change::Path(PathCall::Unlink))
+    change_all(alloc, volume, most, Change::Unlink)
         && is_small(alloc, volume, shape, last)
-        && change_all(alloc, volume, last, Change::Path(PathCall::Unlink))
+        && change_all(alloc, volume, last, Change::Unlink)
         && is_small(alloc, volume, shape, &[])
 }
 
 /// Removes the files of the first half in order, and then the others in a pseudo-random order.
 fn remove(alloc: Global, volume: &mut Volume, shape: Shape, files: &[u32]) -> bool {
     let (first, others) = files.split_at(files.len() / 2);
-    if !change_all(alloc, volume, first, Change::Path(PathCall::Unlink))
+    if !change_all(alloc, volume, first, Change::Unlink)
         || !is_small(alloc, volume, shape, others)
     {
         return false;
@@ -145,13 +164,8 @@ fn create_and_remove(alloc: Global, volume: &mut Volume, shape: Shape) -> bool {
     match (every_second(alloc, 0), every_second(alloc, 1)) {
         (Some(moved), Some(left)) => {
             make(alloc, volume, moved.as_slice())
-                && change_all(
-                    alloc,
-                    volume,
-                    left.as_slice(),
-                    Change::Path(PathCall::Create),
-                )
-                && move_all(alloc, volume, moved.as_slice())
+                && change_all(alloc, volume, left.as_slice(), Change::Create)
+                && change_all(alloc, volume, moved.as_slice(), Change::Rename)
                 && is_small(alloc, volume, shape, left.as_slice())
                 && remove(alloc, volume, shape, left.as_slice())
         }
@@ -163,17 +177,9 @@ fn create_and_remove(alloc: Global, volume: &mut Volume, shape: Shape) -> bool {
 fn remove_directories(alloc: Global, volume: &mut Volume, shape: Shape) -> bool {
     match every_second(alloc, 0) {
         Some(numbers) => {
-            change_all(
-                alloc,
-                volume,
-                numbers.as_slice(),
-                Change::Path(PathCall::Mkdir),
-            ) && change_all(
-                alloc,
-                volume,
-                numbers.as_slice(),
-                Change::Path(PathCall::Rmdir),
-            ) && is_small(alloc, volume, shape, &[])
+            change_all(alloc, volume, numbers.as_slice(), Change::Mkdir)
+                && change_all(alloc, volume, numbers.as_slice(), Change::Rmdir)
+                && is_small(alloc, volume, shape, &[])
         }
         None => false,
     }

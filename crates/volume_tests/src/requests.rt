@@ -6,7 +6,7 @@ use pathkey::{Errno, NoMemory, SnapName};
 use reference::{Call, Reply};
 use std::alloc::Global;
 use test_support::{ExpectedReply, SampleCall};
-use volume::{Frozen, Index, Volume};
+use volume::{Frozen, Volume};
 
 /// The shape that `betr` uses.
 pub const USUAL: Shape = Shape::USUAL;
@@ -34,11 +34,6 @@ pub fn new_volume(alloc: Global, shape: Shape) -> Result<Volume, Errno> {
 /// The live tree.
 pub fn freeze(volume: &Volume) -> Result<Frozen, NoMemory> {
     volume.freeze()
-}
-
-/// The number of pending messages in an index.
-pub fn waiting(volume: &Volume, index: Index) -> u128 {
-    volume.shape_report(index).pending
 }
 
 /// The name with a text.
@@ -84,35 +79,17 @@ pub fn answers_at(
     }
 }
 
-/// The reply of a frozen tree to a call that reads.
-fn reply_of(alloc: Global, frozen: &Frozen, call: &Call) -> Reply {
-    match call {
-        Call::Read(path, offset, count) => frozen.read(alloc, path, *offset, *count),
-        Call::Stat(path) => frozen.stat(alloc, path),
-        Call::Readdir(path) => frozen.readdir(alloc, path),
-        _ => Reply::Done,
-    }
-}
+/// A timestamp, a file call, and its reply.
+pub type Timed = (u64, SampleCall<'static>, ExpectedReply<'static>);
 
-/// Whether a frozen tree has this reply.
-pub fn replies_frozen(
-    alloc: Global,
-    frozen: &Frozen,
-    ask: SampleCall<'_>,
-    reported: ExpectedReply<'_>,
-) -> bool {
-    match ask.call(alloc) {
-        Ok(call) => reported.is(&reply_of(alloc, frozen, &call)),
-        Err(_) => false,
+/// Whether each file call has its reply, in this order.
+pub fn all_answer(alloc: Global, volume: &mut Volume, rows: &[Timed]) -> bool {
+    for (at, ask, reported) in rows {
+        if !answers_at(alloc, volume, *ask, *at, *reported) {
+            return false;
+        }
     }
-}
-
-/// The tree of a snapshot.
-pub fn frozen(alloc: Global, volume: &Volume, text: &str) -> Result<Frozen, Errno> {
-    match snap_name(alloc, text) {
-        Ok(name) => volume.frozen(&name),
-        Err(fault) => Err(fault),
-    }
+    true
 }
 
 /// Whether a file is created at a timestamp: the one with this number in this directory.

@@ -1,8 +1,7 @@
 //! Tests of runs of events, in a form that constant tables can contain.
-use crate::reported::{at_first_slot, first_leaf};
 use crate::requests::{SMALL, Snap, new_volume, snap_name};
 use jobs::Ticket;
-use node::{StepKind, StepReply};
+use node::{Place, StepKind, StepReply, TreeStep};
 use pathkey::{Errno, SnapName};
 use std::alloc::Global;
 use test_support::{ExpectedReply, SampleCall};
@@ -38,6 +37,15 @@ pub enum Turn<'a> {
     Take(Index, u8, TakeAnswer),
     /// Finishes the job with this ticket.
     Finish(u64, FinishAnswer),
+}
+
+/// A step of this kind at the root's first slot.
+fn at_first_slot(index: Index, kind: StepKind) -> Step {
+    let at = Place::root();
+    Step {
+        index,
+        step: TreeStep { kind, at, slot: 0 },
+    }
 }
 
 /// The event of a snapshot call.
@@ -82,7 +90,7 @@ impl<'a> Turn<'a> {
         match self {
             Turn::Live(ask, _) => Act::Live(*ask, 0),
             Turn::Snap(snap, _) => Act::Snap(*snap),
-            Turn::Flush(index, _) => Act::Step(first_leaf(*index)),
+            Turn::Flush(index, _) => Act::Step(at_first_slot(*index, StepKind::FlushLeaf)),
             Turn::Step(index, kind, _, _) => Act::Step(at_first_slot(*index, *kind)),
             Turn::Take(index, slot, _) => Act::Take(*index, *slot),
             Turn::Finish(number, _) => Act::Finish(*number),

@@ -201,21 +201,9 @@ fn lists_are_done_whole_or_not_at_all(rt: HostRuntime) {
 /// The paths of calls by chance.
 const PATHS: [&str; 6] = ["/a", "/b", "/a/x", "/a/y", "/b/x", "/a/x/z"];
 
-/// One of them.
-fn any_path(random: &mut Random) -> &'static str {
-    match random.below(6) {
-        0 => PATHS[0],
-        1 => PATHS[1],
-        2 => PATHS[2],
-        3 => PATHS[3],
-        4 => PATHS[4],
-        _ => PATHS[5],
-    }
-}
-
 /// Any call.
 fn any_call(random: &mut Random) -> SampleCall<'static> {
-    let path = any_path(random);
+    let path = PATHS[random.below(6) as usize];
     match random.below(11) {
         0 | 1 => SampleCall::Mkdir(path),
         2 | 3 => SampleCall::Create(path),
@@ -223,7 +211,7 @@ fn any_call(random: &mut Random) -> SampleCall<'static> {
         5 => SampleCall::Truncate(path, random.below(9000) as u64),
         6 => SampleCall::Unlink(path),
         7 => SampleCall::Rmdir(path),
-        8 => SampleCall::Rename(path, any_path(random)),
+        8 => SampleCall::Rename(path, PATHS[random.below(6) as usize]),
         9 => SampleCall::Rmtree(path),
         _ => SampleCall::Readdir(path),
     }
