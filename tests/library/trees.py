@@ -553,6 +553,14 @@ def beside_many_names() -> tuple:
     return volume.told("readdir", b"/"), len(volume.told("readdir", b"/a")), volume.ask("rmdir", b"/a", 0), volume.ask("rmdir", b"/b", 0)
 
 
+def removed_and_made() -> tuple:
+    """The listing of a directory that went with 300 files and was made again with one, before and after steps; and whether there are any."""
+    volume = Volume(SMALL)
+    done(volume.ask("mkdir", b"/d", 0), *(volume.ask("create", b"/d/f%03d" % number, 0) for number in range(300)))
+    done(volume.ask("rmtree", b"/d", 0), volume.ask("mkdir", b"/d", 0), volume.ask("create", b"/d/n", 0))
+    return volume.told("readdir", b"/d"), volume.ask("compact", 1_000) > 0, volume.told("readdir", b"/d")
+
+
 def long_read() -> bytes:
     """The greatest read of a file of which the last byte alone is not 0, from its second byte on."""
     volume = Volume()
@@ -588,6 +596,7 @@ def each():
     for seed in range(4):
         yield f"copies by chance, from {seed} on", first_unlike(any_acts(seed, 60)), None
     yield "many names below another", beside_many_names(), (b"da\0db\0", 2_000 * 6, ERRORS["ENOTEMPTY"], 0)
+    yield "a directory is made again", removed_and_made(), (b"fn\0", True, b"fn\0")
     yield "a long read", long_read(), bytes(2**20 - 1) + b"\1"
     yield "a frozen tree stays", frozen_before(), (b"", b"ff\0", b"\xaa")
     yield "a snapshot that is not there", Volume(SMALL).ask("open_snapshot", b"s", Pointer()), ENOENT

@@ -13,14 +13,10 @@ use test_support::{ExpectedReply, SampleCall};
 use volume::{Done, FinishAnswer, Index, InstallReply, TakeAnswer, TakeReply, Volume};
 
 /// Takes a job at the first slot of the metadata's root, where none can be taken.
-pub const TAKES_NOTHING: Turn<'static> = Turn::Take(Index::Meta, 0, TakeAnswer::NotThere);
+const TAKES_NOTHING: Turn<'static> = Turn::Take(Index::Meta, 0, TakeAnswer::NotThere);
 
 /// Takes the first job at the first slot of the metadata's root.
-pub const TAKES: Turn<'static> = Turn::Take(
-    Index::Meta,
-    0,
-    TakeAnswer::Taken(Ticket { number: 0 }),
-);
+const TAKES: Turn<'static> = Turn::Take(Index::Meta, 0, TakeAnswer::Taken(Ticket { number: 0 }));
 
 /// Takes the second job there.
 const TAKES_AGAIN: Turn<'static> = Turn::Take(
@@ -30,17 +26,17 @@ const TAKES_AGAIN: Turn<'static> = Turn::Take(
 );
 
 /// Finishes the first job.
-pub const INSTALLS: Turn<'static> = Turn::Finish(0, FinishAnswer::Installed);
+const INSTALLS: Turn<'static> = Turn::Finish(0, FinishAnswer::Installed);
 
 /// Finishes the first job, whose mark was removed.
 const IS_STALE: Turn<'static> = Turn::Finish(0, FinishAnswer::Stale);
 
 /// Finishes the first job, which the run does not hold.
-pub const HAS_NO_JOB: Turn<'static> = Turn::Finish(0, FinishAnswer::NotThere);
+const HAS_NO_JOB: Turn<'static> = Turn::Finish(0, FinishAnswer::NotThere);
 
 /// A snapshot of only the root; then five directories, all flushed below a root with one slot over an inner node, and a sixth that
 /// is pending there. A leaf receives four messages at once, so the second flush brings down the last of five.
-pub const OPENING: &[Turn<'static>] = &[
+const OPENING: &[Turn<'static>] = &[
     Turn::Snap(Snap::Keep("s"), None),
     Turn::Live(SampleCall::Mkdir("/a"), ExpectedReply::Done),
     Turn::Live(SampleCall::Mkdir("/b"), ExpectedReply::Done),
@@ -58,7 +54,7 @@ pub const OPENING: &[Turn<'static>] = &[
 ];
 
 /// A file of five blocks, all flushed below a root with one slot over an inner node, and a sixth that is pending there.
-const BLOCKS: &[Turn<'static>] = &[
+pub const BLOCKS: &[Turn<'static>] = &[
     Turn::Live(SampleCall::Create("/x"), ExpectedReply::Done),
     Turn::Live(SampleCall::Write("/x", 0, b"\xa0"), ExpectedReply::Count(1)),
     Turn::Live(
@@ -97,7 +93,7 @@ const SIX: ExpectedReply<'static> = ExpectedReply::Names(&[
 ]);
 
 /// The entries of the root after one more call.
-pub const SEVEN: ExpectedReply<'static> = ExpectedReply::Names(&[
+const SEVEN: ExpectedReply<'static> = ExpectedReply::Names(&[
     (Kind::Dir, "a"),
     (Kind::Dir, "b"),
     (Kind::Dir, "c"),

@@ -1,6 +1,9 @@
 //! Tests of how many messages are pending in each index after calls, since updates of one block or of one entry are joined into one
 //! message; and of the index that compaction then chooses.
-use crate::requests::{USUAL, answers, creates, new_volume};
+use crate::job_rows::BLOCKS;
+use crate::requests::{SMALL, USUAL, answers, creates, new_volume};
+use crate::runs::{Turn, follows};
+use node::StepKind;
 use std::alloc::Global;
 use test_support::{ExpectedReply, SampleCall};
 use volume::{Index, Volume};
@@ -234,4 +237,43 @@ fn a_thousand_files_leave_one_touch_of_their_directory(rt: HostRuntime) {
 #[test]
 fn a_directory_that_has_the_moment_is_not_touched(rt: HostRuntime) {
     assert!(rt; fills(rt.alloc(), 0, 1_000));
+}
+
+/// Two patches of the sixth block go down as one message, and then two others, which become one with it there.
+const LAYERS: &[Turn<'static>] = &[
+    Turn::Live(
+        SampleCall::Write("/x", 20_484, b"\xb1"),
+        ExpectedReply::Count(1),
+    ),
+    Turn::Step(Index::Block, StepKind::FlushInner, 1, 1),
+    Turn::Live(
+        SampleCall::Write("/x", 20_482, b"\xb2"),
+        ExpectedReply::Count(1),
+    ),
+    Turn::Live(
+        SampleCall::Write("/x", 20_488, b"\xb3"),
+        ExpectedReply::Count(1),
+    ),
+    Turn::Step(Index::Block, StepKind::FlushInner, 1, 1),
+    Turn::Live(
+        SampleCall::Read("/x", 20_480, 99),
+        ExpectedReply::Data(b"\xa5\0\xb2\0\xb1\0\0\0\xb3"),
+    ),
+];
+
+/// Whether messages of several patches join in an inner node.
+fn layers_join(alloc: Global) -> bool {
+    match new_volume(alloc, SMALL) {
+        Ok(mut volume) => {
+            follows(alloc, &mut volume, BLOCKS)
+                && follows(alloc, &mut volume, LAYERS)
+                && waits(&volume, Index::Block, 1)
+        }
+        Err(_) => false,
+    }
+}
+
+#[test]
+fn messages_of_several_patches_join(rt: HostRuntime) {
+    assert!(rt; layers_join(rt.alloc()));
 }

@@ -39,52 +39,59 @@ const EMPTIED: &[Timed] = &[(10, SampleCall::Rmtree("/a"), ExpectedReply::Done)]
 /// An entry: the text of its path, and its metadata.
 type Entry = (&'static str, Meta);
 
-/// All entries, in the order of their keys.
-const ENTRIES: [Entry; 7] = [
-    ("/", Meta::Dir { modified: 9 }),
-    ("/a", Meta::Dir { modified: 3 }),
-    (
-        "/a/f",
-        Meta::File {
-            len: 8197,
-            modified: 7,
-        },
-    ),
-    (
-        "/a/g",
-        Meta::File {
-            len: 0,
-            modified: 3,
-        },
-    ),
-    (
-        "/a-",
-        Meta::File {
-            len: 0,
-            modified: 9,
-        },
-    ),
-    ("/b", Meta::Dir { modified: 4 }),
-    (
-        "/c",
-        Meta::File {
-            len: 4100,
-            modified: 8,
-        },
-    ),
-];
+const ROOT: Entry = ("/", Meta::Dir { modified: 9 });
 
-/// The path where a walk begins, its limit, and which of all entries are its first and its end.
-type Walk = (&'static str, usize, usize, usize);
+const DIRECTORY: Entry = ("/a", Meta::Dir { modified: 3 });
+
+const FILE: Entry = (
+    "/a/f",
+    Meta::File {
+        len: 8197,
+        modified: 7,
+    },
+);
+
+const NO_BLOCK: Entry = (
+    "/a/g",
+    Meta::File {
+        len: 0,
+        modified: 3,
+    },
+);
+
+const EMPTY: Entry = (
+    "/a-",
+    Meta::File {
+        len: 0,
+        modified: 9,
+    },
+);
+
+const NO_ENTRY: Entry = ("/b", Meta::Dir { modified: 4 });
+
+const ONE_BLOCK: Entry = (
+    "/c",
+    Meta::File {
+        len: 4100,
+        modified: 8,
+    },
+);
+
+/// The path where a walk begins, its limit, and its entries.
+type Walk = (&'static str, usize, &'static [Entry]);
 
 const WALKS: &[Walk] = &[
-    ("/", usize::MAX, 0, 7),
-    ("/", 2, 0, 2),
-    ("/", 0, 0, 0),
-    ("/a/f", 9, 2, 7),
-    ("/a/b", 1, 2, 3),
-    ("/a/h", 1, 4, 5),
-    ("/d", 4, 7, 7),
+    (
+        "/",
+        usize::MAX,
+        &[ROOT, DIRECTORY, FILE, NO_BLOCK, EMPTY, NO_ENTRY, ONE_BLOCK],
+    ),
+    ("/", 2, &[ROOT, DIRECTORY]),
+    ("/", 0, &[]),
+    ("/a/f", 9, &[FILE, NO_BLOCK, EMPTY, NO_ENTRY, ONE_BLOCK]),
+    ("/a/b", 1, &[FILE]),
+    ("/a/h", 1, &[EMPTY]),
+    ("/d", 4, &[]),
 ];
 
 /// Whether these are the entries.
@@ -115,20 +122,19 @@ fn entries(
     tree.entries(alloc, from, limit)
 }
 
-/// Whether a walk from a path on has these entries.
-fn is_walked(alloc: Global, tree: &Frozen, from: &Path, limit: usize, wanted: &[Entry]) -> bool {
-    match entries(alloc, tree, from, limit) {
-        Ok(listed) => are_entries(alloc, listed.as_slice(), wanted),
+/// Whether a walk has its entries.
+fn is_walked(alloc: Global, tree: &Frozen, from: &Path, walk: Walk) -> bool {
+    match entries(alloc, tree, from, walk.1) {
+        Ok(listed) => are_entries(alloc, listed.as_slice(), walk.2),
         Err(_) => false,
     }
 }
 
 /// Whether all walks have their entries.
 fn are_walked(alloc: Global, tree: &Frozen) -> bool {
-    for (text, limit, first, end) in WALKS {
-        let wanted = ENTRIES.as_slice().get(*first..*end).unwrap_or(&[]);
-        let is_there = match path(alloc, text) {
-            Ok(from) => is_walked(alloc, tree, &from, *limit, wanted),
+    for walk in WALKS {
+        let is_there = match path(alloc, walk.0) {
+            Ok(from) => is_walked(alloc, tree, &from, *walk),
             Err(_) => false,
         };
         if !is_there {
@@ -142,14 +148,14 @@ fn are_walked(alloc: Global, tree: &Frozen) -> bool {
 type Stored = (u32, &'static str);
 
 /// Whether this is the block.
-fn is_block(block: &(u32, Block), wanted: &Stored) -> bool {
+fn is_block(block: &(u32, Block), wanted: Stored) -> bool {
     block.0 == wanted.0 && block.1.as_slice() == wanted.1.as_bytes()
 }
 
 /// Whether these are the blocks.
 fn are_blocks(blocks: &[(u32, Block)], wanted: &[Stored]) -> bool {
     for (block, wanted) in blocks.iter().zip(wanted) {
-        if !is_block(block, wanted) {
+        if !is_block(block, *wanted) {
             return false;
         }
     }
@@ -189,7 +195,7 @@ const LISTINGS: &[Listing] = &[
 ];
 
 /// Whether a file has the blocks of its listing.
-fn is_listed(alloc: Global, tree: &Frozen, of: &Path, listing: &Listing) -> bool {
+fn is_listed(alloc: Global, tree: &Frozen, of: &Path, listing: Listing) -> bool {
     match blocks(alloc, tree, of, listing.1, listing.2) {
         Ok(listed) => are_blocks(listed.as_slice(), listing.3),
         Err(_) => false,
@@ -200,7 +206,7 @@ fn is_listed(alloc: Global, tree: &Frozen, of: &Path, listing: &Listing) -> bool
 fn are_listed(alloc: Global, tree: &Frozen) -> bool {
     for listing in LISTINGS {
         let is_there = match path(alloc, listing.0) {
-            Ok(of) => is_listed(alloc, tree, &of, listing),
+            Ok(of) => is_listed(alloc, tree, &of, *listing),
             Err(_) => false,
         };
         if !is_there {
@@ -245,9 +251,9 @@ fn next(
 }
 
 /// Whether a walk gives the block of a step.
-fn gives(alloc: Global, walk: &mut BlockWalk, of: &Path, step: &Step) -> bool {
+fn gives(alloc: Global, walk: &mut BlockWalk, of: &Path, step: Step) -> bool {
     match (next(alloc, walk, of, step.1), step.2) {
-        (Ok(Some(block)), Some(wanted)) => is_block(&block, &wanted),
+        (Ok(Some(block)), Some(wanted)) => is_block(&block, wanted),
         (Ok(None), None) => true,
         _ => false,
     }
@@ -258,7 +264,7 @@ fn gives_all(alloc: Global, tree: &Frozen) -> bool {
     let mut walk = BlockWalk::new(alloc, tree);
     for step in STEPS {
         let is_there = match path(alloc, step.0) {
-            Ok(of) => gives(alloc, &mut walk, &of, step),
+            Ok(of) => gives(alloc, &mut walk, &of, *step),
             Err(_) => false,
         };
         if !is_there {
