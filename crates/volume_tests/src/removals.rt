@@ -33,32 +33,42 @@ enum Change {
     Rename,
 }
 
-/// The call of a change at a path, and whether it is done; the path of the next number is given too.
-fn does(alloc: Global, volume: &mut Volume, change: Change, text: &str, next: &str) -> bool {
+/// The path of the file with a number.
+fn text_of(alloc: Global, number: u32) -> Option<String> {
+    format!(in alloc; "/d/f{number:05}").ok()
+}
+
+/// Renames what is at a path to the file with a number.
+fn moves(alloc: Global, volume: &mut Volume, text: &str, to: u32) -> bool {
+    match text_of(alloc, to) {
+        Some(to) => answers(
+            alloc,
+            volume,
+            SampleCall::Rename(text, to.as_str()),
+            ExpectedReply::Done,
+        ),
+        None => false,
+    }
+}
+
+/// Makes a change at the path of a number, and returns whether it is done.
+fn does(alloc: Global, volume: &mut Volume, text: &str, number: u32, change: Change) -> bool {
     let (ask, reported) = match change {
         Change::Create => (SampleCall::Create(text), ExpectedReply::Done),
         Change::Write => (SampleCall::Write(text, 0, b"x"), ExpectedReply::Count(1)),
         Change::Unlink => (SampleCall::Unlink(text), ExpectedReply::Done),
         Change::Mkdir => (SampleCall::Mkdir(text), ExpectedReply::Done),
         Change::Rmdir => (SampleCall::Rmdir(text), ExpectedReply::Done),
-        Change::Rename => (SampleCall::Rename(text, next), ExpectedReply::Done),
+        Change::Rename => return moves(alloc, volume, text, number.saturating_add(1)),
     };
     answers(alloc, volume, ask, reported)
 }
 
-/// The path of the file with a number.
-fn text_of(alloc: Global, number: u32) -> Option<String> {
-    format!(in alloc; "/d/f{number:05}").ok()
-}
-
 /// Makes a change of the file with a number, and a compaction step for each tree.
 fn make_change(alloc: Global, volume: &mut Volume, number: u32, change: Change) -> bool {
-    let is_done = match (
-        text_of(alloc, number),
-        text_of(alloc, number.saturating_add(1)),
-    ) {
-        (Some(text), Some(next)) => does(alloc, volume, change, text.as_str(), next.as_str()),
-        _ => false,
+    let is_done = match text_of(alloc, number) {
+        Some(text) => does(alloc, volume, text.as_str(), number, change),
+        None => false,
     };
     volume.compact_step(alloc);
     volume.compact_step(alloc);
