@@ -4,8 +4,8 @@ use Rattle.engine.specs.Lists.{entries}
 use Rattle.engine.specs.Seats.{IsClientSeat, IsEngineSeat}
 use Rattle.engine.proofs.seat_sync.record_all.Given as goal
 
-abbrev pub invariant-loop-timed : goal.invariant-loop-timed
-invariant-loop-timed g l = record {
+abbrev pub invariant-loop-number : goal.invariant-loop-number
+invariant-loop-number g l = record {
   engine : IsEngineSeat g.J.EngineId.table g.J.EngineId.opening l.engine;
   takings : l.engine.me.0.takings ≡ l.fn.engine.me.0.takings;
   history : l.engine.me.0.history ≡ l.fn.engine.me.0.history ++ entries l.fn.client.me.0.client (take l.number l.calls) (take l.number l.replies);
