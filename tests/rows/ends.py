@@ -237,6 +237,7 @@ def answers_before_it_reads(betr: str) -> str:
 
 
 def each() -> Iterator[End]:
+    shim()  # It is built once, before threads ask for it.
     for words in [], ["--steps", "1"]:
         yield f"a read fails: {words}", lambda betr, words=words: stops_at_each_read(betr, words)
         yield f"a write fails: {words}", lambda betr, words=words: stops_at_each_write(betr, words, SCRIPT, TOLD)
