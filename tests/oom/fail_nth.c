@@ -1,5 +1,6 @@
 /* Makes a program's allocations fail. Preloaded into it, it counts its calls of malloc, calloc, realloc, aligned_alloc and
- * posix_memalign: those between a line "asked" and a line "told" on standard output, or with REFUSE_WHOLE set those of the whole run.
+ * posix_memalign: those between a line "asked" and a line "told" on standard output, as long as there is no line "again", or with
+ * REFUSE_WHOLE set those of the whole run.
  * REFUSE is the number of the allocation that fails, or "all". When the program ends it prints on standard error how many allocations
  * it saw, and how many failed.
  *
@@ -19,6 +20,7 @@ extern void *__libc_realloc(void *block, size_t size);
 extern void *__libc_memalign(size_t alignment, size_t size);
 
 static int counts;
+static int ended;
 static int refuses_all;
 static long wanted;
 static long seen;
@@ -78,8 +80,10 @@ ssize_t write(int file, const void *bytes, size_t length)
     if (file == STDOUT_FILENO && is_line("told\n", bytes, length))
         counts = 0;
     written = syscall(SYS_write, file, bytes, length);
+    if (file == STDOUT_FILENO && is_line("again\n", bytes, length))
+        ended = 1;
     if (file == STDOUT_FILENO && is_line("asked\n", bytes, length))
-        counts = 1;
+        counts = !ended;
     return written;
 }
 

@@ -1,7 +1,8 @@
 """The scenes: what each one is called, what stands before it, what is asked, and how it is judged.
 
 A scene runs `oom` with its words and its opening on standard input, or the whole of `betr`. `free` ones must do as ever with every
-request refused; of the others each request is refused once. Of those of lists nothing is refused: their requests are counted.
+request refused; of the others each request is refused once. Of those of lists nothing is refused: their requests are counted. What
+the C library can be asked is in library_scenes.py.
 """
 import dataclasses
 from collections.abc import Callable
@@ -14,12 +15,14 @@ class Scene:
     group: str
     words: tuple[str, ...]
     opening: tuple[str, ...]
-    # How it is judged: `call`, `script`, `run`, `text`, `count` or `more`.
+    # How it is judged: `call`, `script`, `run`, `count` or `more`.
     judged: str = "call"
     # Whether it takes no memory, so that it does as ever with every request refused.
     free: bool = False
-    # What the answer begins with where nothing is refused.
-    wanted: str = ""
+    # What the first answers begin with where nothing is refused.
+    wanted: tuple[str, ...] = ()
+    # How many requests it makes at most, if that is said.
+    most: int | None = None
     # What is printed behind a deed on lists of so many messages of a kind.
     left: Callable[[int], tuple[str, ...]] = lambda _: ()
     # How many messages of a kind the deed's long lists have, and how many requests are then too many.
@@ -117,12 +120,12 @@ REFUSED = (
     ("truncate /f/x 0", "ENOTDIR"),
     ("truncate /f 1099511627777", "EFBIG"),
     ("unlink /v", "ENOENT"),
-    ("unlink /d", ""),
+    ("unlink /d", "EPERM"),
     ("unlink /f/x", "ENOTDIR"),
     ("rmdir /v", "ENOENT"),
     ("rmdir /e", "ENOTEMPTY"),
     ("rmdir /f", "ENOTDIR"),
-    ("rmdir /", ""),
+    ("rmdir /", "EBUSY"),
     ("rename /v /x", "ENOENT"),
     ("rename /f /v/x", "ENOENT"),
     ("rename /f /h/x", "ENOTDIR"),
@@ -131,7 +134,7 @@ REFUSED = (
     ("rename /e /f", "ENOTDIR"),
     ("rename /d /e", "ENOTEMPTY"),
     ("rmtree /v", "ENOENT"),
-    ("rmtree /", ""),
+    ("rmtree /", "EBUSY"),
     ("read /v 0 5", "ENOENT"),
     ("read /d 0 5", "EISDIR"),
     ("stat /v", "ENOENT"),
@@ -141,11 +144,11 @@ REFUSED = (
 )
 
 SNAPSHOTS = ("snapshot u", "restore s", "restore t")
-FAULTS = (("snapshot s", "EEXIST"), ("drop v", "ENOENT"), ("restore v", "ENOENT"))
-MARKED = (
+# Events between taking and finishing a job, by the names that `oom` knows.
+BESIDE = (
     "mkdir /x",
-    f"write /f 2000 {hexed(10_000)}",
-    "truncate /f 5000",
+    "write /f",
+    "truncate /f",
     "rename /f /h",
     "rename /e /g",
     "rmtree /e",
@@ -154,6 +157,20 @@ MARKED = (
     "snapshot u",
     "restore s",
     "drop s",
+)
+OF_BLOCKS = ("write /f", "truncate /f", "rename /f /h", "unlink /h")
+# Ten events of all kinds.
+EVENTS = (
+    "mkdir /x",
+    "take meta 0",
+    "create /x/y",
+    "write /x/y",
+    "finish 0",
+    "snapshot u",
+    "meta root_up",
+    "drop s",
+    "restore t",
+    "rmtree /x",
 )
 LOOKS = ("read@v /f 0 10000", "stat@v /f", "stat@s /d/f150", "readdir@v /e", "readdir@s /d", "stat@s /v", "read@s /d 0 5")
 # Lines of all kinds behind a few files.
@@ -174,22 +191,21 @@ SCRIPT = (
     "drop u",
     "stat /x/y",
 )
-# Steps that can be done: in which index, of which kind, behind which opening, at which node (`-` is the root) and slot.
+# Steps that can be done, and behind which opening. A root is raised before it is to be lowered.
 STEPS = (
-    ("meta", "flush_inner", WITH_BLOCKS, "-", "0"),
-    ("block", "flush_inner", WITH_DEEP_BLOCKS, "-", "0"),
-    ("block", "flush_leaf", WITH_BLOCKS, "-", "0"),
-    ("meta", "split_inner", WITH_BLOCKS, "-", "1"),
-    ("block", "merge_leaves", WITH_FEW_BLOCKS, "000", "0"),
-    ("meta", "merge_inner", WITH_BLOCKS, "0", "0"),
-    ("meta", "root_up", WITH_BLOCKS, "-", "0"),
-    ("block", "root_up", WITH_SETTLED_BLOCKS, "-", "0"),
-    ("meta", "root_down", WITH_BLOCKS, "-", "0"),
-    ("block", "root_down", WITH_DEEP_BLOCKS, "-", "0"),
-    ("meta", "drop_covered", WITH_COVERED, "10", "0"),
+    ("meta flush_inner", WITH_BLOCKS),
+    ("block flush_inner", WITH_DEEP_BLOCKS),
+    ("block flush_leaf", WITH_BLOCKS),
+    ("meta split_inner", WITH_BLOCKS),
+    ("block merge_leaves", WITH_FEW_BLOCKS),
+    ("meta merge_inner", WITH_BLOCKS),
+    ("meta root_up", WITH_BLOCKS),
+    ("block root_up", WITH_SETTLED_BLOCKS),
+    ("meta drop_covered", WITH_COVERED),
 )
-# The same of a tree that shares its nodes.
-TREE_STEPS = (("flush_inner", "-", "0"), ("split_inner", "-", "1"), ("merge_inner", "0", "0"), ("root_up", "-", "0"))
+LOWERED = (("meta", WITH_BLOCKS), ("block", WITH_DEEP_BLOCKS))
+# The kinds of steps that have a slot.
+AT_SLOTS = ("flush_inner", "flush_leaf", "split_inner", "merge_leaves", "merge_inner", "drop_covered")
 # A script of 200 lines with one line of answer each, for a whole run.
 WHOLE = tuple(
     line
@@ -217,49 +233,26 @@ DEEDS = (
 )
 
 
-def calls():
-    for line in DONE:
-        yield Scene("calls", ("line", line), WITH_FILES)
-    for line, fault in REFUSED:
-        yield Scene("refusals of calls", ("line", line), WITH_FILES, wanted=f"fault {fault}")
-    yield Scene("calls", ("line", "rename /a /b"), WITH_CHAIN, wanted="ok")
-    yield Scene("refusals of calls", ("line", "rename /a /abcd"), WITH_CHAIN, wanted="fault ENAMETOOLONG")
-    for line in MARKED:
-        yield Scene("calls beside jobs", ("marked", line), WITH_BLOCKS)
+def event(group: str, name: str, opening: tuple[str, ...], wanted: str, most: int | None = None) -> Scene:
+    """A run of one event."""
+    return Scene(group, ("run", name), opening, wanted=(wanted,), most=most)
 
 
-def snapshots():
-    for line in SNAPSHOTS:
-        yield Scene("snapshots", ("line", line), WITH_FILES, wanted="ok")
-    yield Scene("snapshots", ("line", "drop s"), WITH_FILES, free=True, wanted="ok")
-    for line, fault in FAULTS:
-        yield Scene("snapshots", ("line", line), WITH_FILES, free=True, wanted=f"fault {fault}")
-
-
-def frozen():
-    yield Scene("trees that stand still", ("freeze",), WITH_FILES)
-    yield Scene("trees that stand still", ("frozen", "s"), WITH_FILES)
-    yield Scene("trees that stand still", ("frozen", "v"), WITH_FILES, free=True, wanted="fault ENOENT")
-    for line in LOOKS:
-        yield Scene("trees that stand still", ("look", line), WITH_FILES)
-    yield Scene("trees that stand still", ("look", "stat@s /"), WITH_FILES, free=True, wanted="dir 0 0")
-    yield Scene("trees that stand still", ("image",), WITH_FILES, judged="text")
+def events(group: str, names: tuple[str, ...], opening: tuple[str, ...], *wanted: str) -> Scene:
+    """A run of several events, each of which is done or lacks memory."""
+    return Scene(group, ("run", *names), opening, judged="run", wanted=wanted)
 
 
 def planting():
     for words in (("/x", "d"), ("/x", "5000"), ("/e/x", "d"), ("/", "d")):
-        yield Scene("planting", ("plant", *words), WITH_FILES, wanted="ok")
+        yield Scene("planting", ("plant", *words), WITH_FILES, wanted=("Ok",))
     for words, fault in ((("/", "5000"), "EEXIST"), (("/d", "d"), "EEXIST"), (("/v/x", "d"), "ENOENT"), (("/f/x", "d"), "ENOTDIR"), (("/x", "1099511627777"), "EFBIG")):
-        yield Scene("planting", ("plant", *words), WITH_FILES, wanted=f"fault {fault}")
+        yield Scene("planting", ("plant", *words), WITH_FILES, wanted=(f"Err({fault})",))
 
 
 def scripts():
     yield Scene("scripts", ("betr", *SMALL), (*FEW_FILES, *SCRIPT), judged="script")
-    yield Scene("scripts", ("run",), WITH_FILES, judged="run")
-    yield Scene("scripts", ("transact",), WITH_FILES, wanted="ok")
-    yield Scene("images", ("load",), FIRST_IMAGE)
-    yield Scene("images", ("load",), IMAGE)
-    yield Scene("images", ("bad_shape",), IMAGE, free=True, wanted="bad shape")
+    yield events("scripts", EVENTS, WITH_FILES, "Done", "Taken")
     yield Scene("whole runs", ("betr", *SMALL), WHOLE, judged="script")
     yield Scene("whole runs", ("betr", "--explain", *SMALL), WHOLE, judged="script")
     yield Scene("whole runs", ("betr", "--load", "IMAGE", *SMALL), WHOLE[:10], judged="script")
@@ -271,49 +264,53 @@ def scripts():
 
 def jobs():
     for index, opening in (("meta", WITH_BLOCKS), ("block", WITH_DEEP_BLOCKS)):
-        for name in ("take", "build", "install"):
-            yield Scene("jobs", (name, index, "0"), opening)
-        for name in ("stale", "tickets", "cancel", "cancel_all"):
-            yield Scene("jobs", (name, index, "0"), opening, free=True)
-        yield Scene("jobs", ("take", index, "200"), opening, free=True, wanted="not there")
-        yield Scene("measures", ("measure", index), opening, free=True)
+        take = f"take {index} 0"
+        yield event("jobs", take, opening, "Taken")
+        # What cannot be built or installed for want of memory is finished again.
+        yield events("jobs", (take, "finish 0", "finish 0"), opening, "Taken", "Installed", "NotThere")
+        yield events("jobs", (take, "restore s", "finish 0"), opening, "Taken", "Ok", "Stale")
+        # Only the lists of the run take memory.
+        yield event("jobs", f"take {index} none", opening, "NotThere", most=2)
+        yield Scene("measures", ("free", index), opening, free=True, wanted=("count",))
+    for name in BESIDE:
+        yield events("calls beside jobs", ("take meta 0", name, "finish 0"), WITH_BLOCKS, "Taken")
+    for name in OF_BLOCKS:
+        yield events("calls beside jobs", ("take block 0", name, "finish 0"), WITH_DEEP_BLOCKS, "Taken")
 
 
 def steps():
-    for index, kind, opening, at, slot in STEPS:
-        yield Scene("steps", ("step", index, kind, at, slot), opening, wanted="did")
-    for kind in dict.fromkeys(it[1] for it in STEPS if it[1] not in ("root_up", "root_down")):
+    for name, opening in STEPS:
+        yield event("steps", name, opening, "Did")
+    for index, opening in LOWERED:
+        yield events("steps", (f"{index} root_up", f"{index} root_down"), opening, "Did", "Did")
+    for kind in AT_SLOTS:
         for index in ("meta", "block"):
-            yield Scene("steps", ("step", index, kind, "-", "200"), WITH_BLOCKS, free=True, wanted="not there")
-    for kind, at, slot in TREE_STEPS:
-        yield Scene("trees", ("tree", "step", kind, at, slot), WITH_BLOCKS, wanted="did")
-    yield Scene("trees", ("tree", "step", "drop_covered", "10", "0"), WITH_COVERED, wanted="did")
-    yield Scene("steps", ("relieve",), BASE, wanted="did")
-    yield Scene("steps", ("relieve",), WITH_BLOCKS, wanted="did")
-    for name in ("append", "share", "relieve"):
-        yield Scene("trees", ("tree", name), WITH_FILES)
+            yield event("steps", f"{index} {kind} none", WITH_BLOCKS, "NotThere", most=1)
+    # The same on nodes that a snapshot shares.
+    for name, opening in STEPS:
+        yield events("steps behind a snapshot", ("snapshot u", name), opening, "Ok", "Did")
 
 
 def engines():
-    yield Scene("engines", ("room",), WITH_FILES, wanted="made")
-    yield Scene("engines", ("engine",), WITH_FILES, wanted="opened")
-    yield Scene("engines", ("flusher",), WITH_FILES, wanted="made")
+    yield Scene("engines", ("room",), WITH_FILES, wanted=("made",))
+    yield Scene("engines", ("engine",), WITH_FILES, wanted=("opened",))
+    yield Scene("engines", ("flusher",), WITH_FILES, wanted=("made",))
     for line in (*DONE, *SNAPSHOTS):
         yield Scene("clients", ("client", line), WITH_FILES)
     for line, fault in REFUSED[:4]:
-        yield Scene("clients", ("client", line), WITH_FILES, wanted=f"fault {fault}")
-    yield Scene("clients", ("client", "drop s"), WITH_FILES, wanted="ok")
-    yield Scene("clients", ("client_transact",), WITH_FILES, wanted="ok")
-    yield Scene("clients", ("client_freeze",), WITH_FILES)
-    yield Scene("clients", ("client_frozen", "s"), WITH_FILES)
-    yield Scene("clients", ("client_frozen", "v"), WITH_FILES, wanted="fault ENOENT")
-    yield Scene("clients", ("client_made",), WITH_FILES, free=True, wanted="made 0")
-    yield Scene("engines", ("close",), WITH_FILES, wanted="closed")
-    yield Scene("flushers", ("turn", "0"), WITH_BLOCKS, wanted="installed")
-    yield Scene("flushers", ("turn", "0"), ("mkdir /x", "mkdir /y"), wanted="idle")
-    yield Scene("flushers", ("turn", "0"), (), wanted="did")
-    yield Scene("flushers", ("turn", "3"), (), wanted="idle")
-    yield Scene("flushers", ("stale_turn", "s"), WITH_BLOCKS, wanted="stale")
+        yield Scene("clients", ("client", line), WITH_FILES, wanted=(f"Fault({fault})",))
+    yield Scene("clients", ("client", "drop s"), WITH_FILES, wanted=("Ok",))
+    yield Scene("clients", ("client_transact",), WITH_FILES, wanted=("Done",))
+    yield Scene("clients", ("client_freeze",), WITH_FILES, wanted=("tree",))
+    yield Scene("clients", ("client_frozen", "s"), WITH_FILES, wanted=("tree",))
+    yield Scene("clients", ("client_frozen", "v"), WITH_FILES, wanted=("Fault(ENOENT)",))
+    yield Scene("clients", ("client_made",), WITH_FILES, free=True, wanted=("made 0",))
+    yield Scene("engines", ("close",), WITH_FILES, wanted=("closed",))
+    yield Scene("flushers", ("turn", "0"), WITH_BLOCKS, wanted=("Installed",))
+    yield Scene("flushers", ("turn", "0"), ("mkdir /x", "mkdir /y"), wanted=("Idle",))
+    yield Scene("flushers", ("turn", "0"), (), wanted=("Stepped(Did",))
+    yield Scene("flushers", ("turn", "3"), (), wanted=("Idle",))
+    yield Scene("flushers", ("stale_turn", "s"), WITH_BLOCKS, wanted=("Stale",))
 
 
 def lists():
@@ -334,5 +331,5 @@ def lists():
 def all_scenes():
     """All of them, the small ones first."""
     yield Scene("small calls", ("small",), (), free=True)
-    for some in (lists, calls, snapshots, frozen, planting, scripts, jobs, steps, engines):
+    for some in (lists, planting, scripts, jobs, steps, engines):
         yield from some()

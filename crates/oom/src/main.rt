@@ -5,8 +5,18 @@
 //! which requests for memory are the call's, and can refuse them (`tests/oom/run` at the top).
 #![tactic(auto)]
 
+pub mod cases;
+pub mod clients;
+pub mod engines;
+pub mod harness;
+pub mod lists;
 pub mod opening;
+pub mod runs;
 pub mod scenes;
+pub mod small;
+pub mod standing;
+pub mod volumes;
+pub mod window;
 
 use crate::scenes::play;
 use std::alloc::Global;

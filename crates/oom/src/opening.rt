@@ -1,9 +1,15 @@
 //! The volume that stands before a call: a script is run over a new volume of the smallest shape, with a step after each line.
-use oom_support::print::put;
-use oom_support::trees::SMALL;
+use crate::harness::put;
 use shell::{Tidy, run_script};
 use std::alloc::Global;
-use volume::Volume;
+use volume::{Shape, Volume};
+
+/// The smallest shape, which the trees of all scenes have.
+pub const SMALL: Shape = Shape {
+    fanout: 4,
+    pending: 4,
+    leaf: 4,
+};
 
 /// Runs a script with a step after each line; whether it came to its end.
 fn run(alloc: Global, volume: &mut Volume, script: &[u8], out: &mut Vec<u8>) -> bool {
