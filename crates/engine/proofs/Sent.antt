@@ -38,6 +38,10 @@ use Rattle.std.proofs.sync.Mutex.TheSendSync as mutexes
 use Rattle.std.proofs.option.Option.TheSendSync as options
 use Rattle.volume.specs.contracts.fs_root.FsRoot as rooted
 use Rattle.volume.specs.contracts.snapshots.Snapshots as snapshots
+use Rattle.change_log.specs.contracts.key_log.KeyLog as key_log
+use Rattle.change_log.specs.contracts.key_log.LogPosition as log_position
+use Rattle.change_log.specs.contracts.change_log.SnapshotPosition as snapshot_position
+use Rattle.change_log.specs.contracts.change_log.ChangeLog as change_log
 
 meta_node_send : IsSend (node.the_row meta_update.the_row meta.the_row)
 meta_node_send = search (both_send-Node, keys.the_send, keys.the_sync, pendings.the_send, pendings.the_sync, meta_updates.the_send, meta_updates.the_sync, metas_cross.the_send, metas_cross.the_sync, sendable, crosses) depth 20
@@ -81,8 +85,21 @@ marks_send = search (keys.the_send, sendable, crosses) depth 20
 live_send : IsSend live.the_row
 live_send = search (indexes_field_send, marks_send, sendable, crosses) depth 20
 
+key_log_send : IsSend key_log.the_row
+key_log_send = search (keys.the_send, sendable, crosses) depth 20
+
+position_field_send : IsSend log_position.the_field.row
+position_field_send = search (sendable, crosses) depth 20
+
+snapshot_position_send : IsSend snapshot_position.the_row
+snapshot_position_send = recorded_send snapshot_position.the_field.row _ _ snapshot_position.the_type.to_one
+    (struct_send (shape snapshot_position.the_type) (names.the_send, (position_field_send, (position_field_send, tt))))
+
+change_log_send : IsSend change_log.the_row
+change_log_send = search (key_log_send, snapshot_position_send, sendable, crosses) depth 20
+
 pub volume_send : IsSend volume.the_row
-volume_send = search (live_send, snapshots_send, sendable, crosses) depth 20
+volume_send = search (live_send, snapshots_send, change_log_send, sendable, crosses) depth 20
 
 module _ (J : RattleType) (g : naming.Ghosts J.Denot) where
   desk_inside_send : IsSend (desk_inside.the_row J g)

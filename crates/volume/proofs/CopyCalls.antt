@@ -1,32 +1,32 @@
 -- From what a copy was compiled to, and sent, to what became of the volume.
-use Rattle.std.proofs.Common.{arith, ◌≡◌, ℕ, Bool, false, cond, take, drop, refl, sym, ap, subst, ◌∙◌, inr, Ok, Err}
-use Rattle.std.specs.Prelude.{Result, ◌&&◌}
+use Rattle.std.proofs.Common.{arith, ◌≡◌, ℕ, Bool, false, take, drop, refl, sym, ap, subst, ◌∙◌, inr, Ok, Err}
+use Rattle.std.specs.Prelude.{Result}
 use Rattle.block_index.specs.Updates.{means as block_means}
 use Rattle.block_index.specs.declared.index.BlockIndex.{BlockIndex}
 use Rattle.call_compiler.specs.Compiled.{Messages, MeanTree, no_messages, touches_root}
-use Rattle.call_compiler.specs.Copied.{IsCopied, SendsCopied, copying, copying_of}
+use Rattle.call_compiler.specs.Copied.{IsCopied, copying, copying_of}
 use Rattle.call_compiler.proofs.Appending.{meant_after}
 use Rattle.call_compiler.proofs.Faults.{read_refused}
 use Rattle.meta_index.specs.Updates.{means as meta_means}
 use Rattle.meta_index.specs.declared.index.MetaIndex.{MetaIndex}
 use Rattle.pathkey.specs.Names.{Path}
 use Rattle.pathkey.specs.declared.errno.Errno.TheVariants.{EISDIR, ENOENT, ENOMEM, ENOTDIR}
-use Rattle.reference.specs.Calls.{does, faults_of_file, first_fault, is_done}
+use Rattle.reference.specs.Calls.{does, faults_of_file, first_fault}
 use Rattle.reference.specs.Tree.{At, Found, Missing, Blocked, Tree, Dir, File, entry_at}
 use Rattle.reference.specs.Worlds.{World, Fits, Replied, next}
 use Rattle.reference.specs.declared.call.Call.{Call}
 use Rattle.reference.specs.declared.call.Call.TheVariants.{Write}
 use Rattle.reference.specs.declared.reply.Reply.{Reply}
-use Rattle.reference.specs.declared.reply.Reply.TheVariants.{Count, Fault}
+use Rattle.reference.specs.declared.reply.Reply.TheVariants.{Fault}
 use Rattle.reference.proofs.Unique.{one_meaning}
-use Rattle.volume.specs.Changes.{Does}
+use Rattle.volume.specs.Changes.{AppendsLive, Does}
 use Rattle.volume.specs.Copies.{Copies, copy_in}
 use Rattle.volume.specs.Marked.{PLive, KeepMarkedLists, KeepsMarks, Stands}
 use Rattle.volume.specs.FsRoot.{after_call, reply_to}
 use Rattle.volume.specs.Typed.{IsCount}
 use Rattle.volume.specs.Volumes.{PVolume, IsVolume, Means, live_of}
 use Rattle.volume.proofs.HoleCalls.{root_stays}
-use Rattle.volume.proofs.Leading.{Arriving, volume, called, kept_same, nothing_comes, same_live}
+use Rattle.volume.proofs.Leading.{volume, called, kept_same, nothing_comes, same_live}
 use Rattle.volume.proofs.Trees.{Appends, nothing_appended, receives}
 use Rattle.volume.proofs.Typing.{of_kind}
 
@@ -95,7 +95,7 @@ module _ (v : PVolume) (is : IsVolume v) (p : Path) (off : ℕ) (q : Path) (targ
     }
 
   -- what is replied
-  pub answered_copy : {T E : Type 0} (r : Reply) (msgs : Messages) (a : Result T E) → IsCopied v.live.indexes p off q target n at r msgs → Arriving msgs a (live_of v) l → Copies p off q target n at (reply_to a r) v new
+  pub answered_copy : {T E : Type 0} (r : Reply) (msgs : Messages) (a : Result T E) → IsCopied v.live.indexes p off q target n at r msgs → AppendsLive msgs a (live_of v) l → Copies p off q target n at (reply_to a r) v new
   answered_copy r msgs (Ok x) made h = copied r msgs made (record { taken = h.taken; no_meta = h.no_meta; no_block = h.no_block }) h.lists h.marks h.kept
   answered_copy r msgs (Err e) made h = lacks_copy v p off q target n at l h.err
 

@@ -18,13 +18,13 @@ use Rattle.reference.specs.declared.call.Call.{Call}
 use Rattle.reference.specs.declared.reply.Reply.{Reply}
 use Rattle.reference.specs.declared.reply.Reply.TheVariants.{Fault}
 use Rattle.reference.proofs.Unique.{one_meaning}
-use Rattle.volume.specs.Changes.{Does}
+use Rattle.volume.specs.Changes.{AppendsLive, Does}
 use Rattle.volume.specs.Holes.{Punches, hole_in}
 use Rattle.volume.specs.Marked.{PLive, KeepMarkedLists, KeepsMarks, Stands}
 use Rattle.volume.specs.FsRoot.{after_call, reply_to}
 use Rattle.volume.specs.Typed.{IsCount}
 use Rattle.volume.specs.Volumes.{PVolume, IsVolume, Means, live_of}
-use Rattle.volume.proofs.Leading.{Arriving, volume, called, kept_same, nothing_comes, same_live}
+use Rattle.volume.proofs.Leading.{volume, called, kept_same, nothing_comes, same_live}
 use Rattle.volume.proofs.Trees.{Appends, nothing_appended, receives}
 use Rattle.volume.proofs.Typing.{of_kind}
 
@@ -85,7 +85,7 @@ module _ (v : PVolume) (is : IsVolume v) (p : Path) (off n at : ℕ) (l : PLive)
     }
 
   -- the reply
-  pub answered_hole : {T E : Type 0} (r : Reply) (msgs : Messages) (a : Result T E) → IsPunched v.live.indexes p off n at r msgs → Arriving msgs a (live_of v) l → Punches p off n at (reply_to a r) v new
+  pub answered_hole : {T E : Type 0} (r : Reply) (msgs : Messages) (a : Result T E) → IsPunched v.live.indexes p off n at r msgs → AppendsLive msgs a (live_of v) l → Punches p off n at (reply_to a r) v new
   answered_hole r msgs (Ok x) made h = punched r msgs made (record { taken = h.taken; no_meta = h.no_meta; no_block = h.no_block }) h.lists h.marks h.kept
   answered_hole r msgs (Err e) made h = lacks_hole v p off n at l h.err
 

@@ -1,7 +1,7 @@
 -- From what a call did to a volume to its world: the answer fits each world of the old volume, and the new volume
 -- abstracts to the next one.
 use Rattle.std.proofs.Common.{◌≡◌, ℕ, ◌+◌, ◌<◌, ◌≤◌, List, Bool, true, false, cond, refl, sym, ap, subst, ◌∙◌, inl, inr, Option, Some, None, Ok, Err, arith, ◌-◌, []}
-use Rattle.std.specs.Prelude.{◌&&◌, Result, IsOk, OnErr, IfSome, IfNone, OnOk}
+use Rattle.std.specs.Prelude.{◌&&◌, Result, IsOk, IfSome, IfNone}
 use Rattle.std.specs.Result.{IsErrAnd}
 use Rattle.std.specs.FinMap as finite
 use Rattle.std.proofs.lemmas.Bool.{lt-leb, le-leb}
@@ -46,7 +46,7 @@ use Rattle.call_compiler.proofs.Compiling.{nothing_sent}
 use Rattle.volume.specs.FsRoot.{after_call, reply_to}
 use Rattle.volume.specs.Volumes.{Kept, PVolume, Alike, MeanRooted, Means, IsVolume, live_of}
 use Rattle.volume.specs.declared.fs_root.FsRoot.{FsRoot}
-use Rattle.volume.specs.Changes.{Leads, Does, Batched, Called, Settles, KeptAs, Dropped, Restored, StepsLive, Stepped}
+use Rattle.volume.specs.Changes.{AppendsLive, Leads, Does, Batched, Called, Settles, KeptAs, Dropped, Restored, StepsLive, Stepped}
 use Rattle.volume.proofs.Pairs.{same_names, alike_insert, alike_remove, found_alike, same_len}
 use Rattle.volume.proofs.Trees.{Appends, compiled_batched, compiled_does, nothing_appended, tree_kept, tree_same_values, step_same}
 
@@ -134,24 +134,14 @@ call_done v c at r l does_it refused batch marks snapshot_root = record {
   kept = snapshot_root;
 }
 
--- the effect on live indexes to which messages were to be appended
-pub record Arriving {T E : Type 0} (msgs : Messages) (a : Result T E) (old new : PLive) : Type 0 where
-  pub taken : OnOk a (HaveTaken msgs old.indexes new.indexes)
-  pub no_meta : msgs.meta ≡ [] → new.indexes.meta ≡ old.indexes.meta
-  pub no_block : msgs.block ≡ [] → new.indexes.block ≡ old.indexes.block
-  pub lists : OnOk a (KeepMarkedLists msgs old new)
-  pub err : OnErr a (new ≡ old)
-  pub marks : new.marks ≡ old.marks
-  pub kept : KeepsMarks old new
-
-pub answered : {T E : Type 0} (v : PVolume) (c : Call) (at : ℕ) (r : Reply) (msgs : Messages) (a : Result T E) (l : PLive) → IsCompiled v.live.indexes c at r msgs → Arriving msgs a (live_of v) l → Called c at (reply_to a r) v (volume l (after_call (touches_root c) (reply_to a r) at v.live.modified) v.snapshots)
+pub answered : {T E : Type 0} (v : PVolume) (c : Call) (at : ℕ) (r : Reply) (msgs : Messages) (a : Result T E) (l : PLive) → IsCompiled v.live.indexes c at r msgs → AppendsLive msgs a (live_of v) l → Called c at (reply_to a r) v (volume l (after_call (touches_root c) (reply_to a r) at v.live.modified) v.snapshots)
 answered v c at r msgs (Ok x) l made h =
     let appends : Appends msgs v.live.indexes l.indexes = record { taken = h.taken; no_meta = h.no_meta; no_block = h.no_block } in
     call_done v c at r l (compiled_does v.live.indexes l.indexes c at r msgs made h.taken) (λ e f. nothing_appended v.live.indexes l.indexes msgs (made.fault e f) appends)
     (compiled_batched (live_of v) l c at r msgs made appends h.lists) h.marks h.kept
 answered v c at r msgs (Err e) l made h = lacks_call v c at l h.err
 
-pub answered_lasts : {T E : Type 0} (v : PVolume) (c : Call) (at : ℕ) (r : Reply) (msgs : Messages) (a : Result T E) (l : PLive) → IsVolume v → IsCompiled v.live.indexes c at r msgs → Arriving msgs a (live_of v) l → Stands l → IsVolume (volume l (after_call (touches_root c) (reply_to a r) at v.live.modified) v.snapshots)
+pub answered_lasts : {T E : Type 0} (v : PVolume) (c : Call) (at : ℕ) (r : Reply) (msgs : Messages) (a : Result T E) (l : PLive) → IsVolume v → IsCompiled v.live.indexes c at r msgs → AppendsLive msgs a (live_of v) l → Stands l → IsVolume (volume l (after_call (touches_root c) (reply_to a r) at v.live.modified) v.snapshots)
 answered_lasts v c at r msgs a l is made h assert_invariant =
     lasts v (volume l (after_call (touches_root c) (reply_to a r) at v.live.modified) v.snapshots) (Ask c at) (Replied (reply_to a r)) is (answered v c at r msgs a l made h).leads is.few assert_invariant
 

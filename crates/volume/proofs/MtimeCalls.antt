@@ -1,7 +1,6 @@
 -- From what setting an mtime was compiled to, and sent, to its effect on the volume.
 use Rattle.std.proofs.Common.{arith, ◌≡◌, ℕ, [], Option, None, Some, cond, refl, sym, ap, subst, ◌∙◌, inl, inr, Ok, Err}
 use Rattle.std.specs.Prelude.{Result, ◌&&◌, ◌∷◌, ◌⊎◌}
-use Rattle.block_index.specs.declared.index.BlockIndex.{BlockIndex}
 use Rattle.call_compiler.specs.Compiled.{Messages, no_messages}
 use Rattle.call_compiler.specs.Mtimes.{SetsMtime as CompilesMtime, mtime_set}
 use Rattle.call_compiler.proofs.Appending.{meant_after}
@@ -16,12 +15,13 @@ use Rattle.reference.specs.Tree.{Tree, entry_at, moment, touched}
 use Rattle.reference.specs.Worlds.{World}
 use Rattle.reference.specs.declared.reply.Reply.{Reply}
 use Rattle.reference.specs.declared.reply.Reply.TheVariants.{Done, Fault}
+use Rattle.volume.specs.Changes.{AppendsLive}
 use Rattle.volume.specs.FsRoot.{after_call, reply_to}
 use Rattle.volume.specs.Marked.{PLive, KeepMarkedLists, KeepsMarks, Stands}
 use Rattle.volume.specs.Mtimes.{SetsMtime, Sets, with_mtime}
 use Rattle.volume.specs.Typed.{IsSettled}
 use Rattle.volume.specs.Volumes.{PVolume, IsVolume, Means, live_of}
-use Rattle.volume.proofs.Leading.{Arriving, volume, kept_same, nothing_comes, same_live}
+use Rattle.volume.proofs.Leading.{volume, kept_same, nothing_comes, same_live}
 use Rattle.volume.proofs.Trees.{Appends, nothing_appended, receives}
 
 -- the mtime that is stored beside the indexes is that of the root after it
@@ -88,7 +88,7 @@ module _ (v : PVolume) (is : IsVolume v) (p : Path) (at : ℕ) (l : PLive) where
     }
 
   -- the reply
-  pub answered_mtime : {T E : Type 0} (r : Reply) (msgs : Messages) (a : Result T E) → CompilesMtime v.live.indexes p at r msgs → Arriving msgs a (live_of v) l → SetsMtime p at (reply_to a r) v (after (reply_to a r))
+  pub answered_mtime : {T E : Type 0} (r : Reply) (msgs : Messages) (a : Result T E) → CompilesMtime v.live.indexes p at r msgs → AppendsLive msgs a (live_of v) l → SetsMtime p at (reply_to a r) v (after (reply_to a r))
   answered_mtime r msgs (Ok x) made h = done r msgs made (record { taken = h.taken; no_meta = h.no_meta; no_block = h.no_block }) h.lists h.marks h.kept
   answered_mtime r msgs (Err e) made h = lacks_mtime v p at l h.err
 

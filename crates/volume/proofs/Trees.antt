@@ -85,7 +85,18 @@ value_kept means RootUp p i r a b s = s.value_kept
 value_kept means RootDown p i r a b s = s.value_kept
 value_kept means DropCovered p i r a b s = s.value_kept
 
--- so the indexes abstract to the same tree
+-- so no step changes one in either index
+pub step_values : (x : Index) (step : TreeStep) (r : StepReply) (a b : Indexes) → StepsIn x step r a b → SameValues a b
+step_values Meta step r a b s = record {
+  meta = value_kept meta_means step.kind (way step.at) step.slot r a.meta.tree b.meta.tree s.0;
+  block = λ k. ap (λ (d : BlockIndex). blocks d k) s.1;
+}
+step_values Block step r a b s = record {
+  meta = λ k. ap (λ (d : MetaIndex). metadata d k) s.1;
+  block = value_kept block_means step.kind (way step.at) step.slot r a.block.tree b.block.tree s.0;
+}
+
+-- and the indexes abstract to the same tree
 pub tree_kept : (x : Index) (step : TreeStep) (r : StepReply) (a b : Indexes) → StepsIn x step r a b → (t : Tree) → MeanTree a t → MeanTree b t
 tree_kept Meta step r a b s t m = record {
   tree = m.tree;

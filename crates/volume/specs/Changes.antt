@@ -1,8 +1,9 @@
 -- What each call does to a volume.
-use Rattle.std.specs.Prelude.{◌≡◌, ℕ, List, [], ◌∷◌, Option, Some, IfOk, IfErr}
+use Rattle.std.specs.Prelude.{◌≡◌, ℕ, List, [], ◌∷◌, Option, Some, Result, IfOk, IfErr, OnErr, OnOk}
 use Rattle.std.specs.FinMap as finite
 use Rattle.block_index.specs.Updates.{means as block_means}
 use Rattle.call_compiler.specs.Compiled.{Messages, MeanTree, Sends}
+use Rattle.call_compiler.specs.Laws.{HaveTaken}
 use Rattle.call_compiler.specs.declared.indexes.Indexes.{Indexes}
 use Rattle.message.specs.declared.msg.Msg.{Msg}
 use Rattle.meta_index.specs.Updates.{means as meta_means}
@@ -31,6 +32,17 @@ abbrev pub Leads : Event → Answer → PVolume → PVolume → Type 0
 Leads e a old new = (w : World) → Means old w → Fits w e a × Means new (next w e a)
 
 -- ---- file calls
+
+-- live indexes to which messages were to be appended: each index received its half, or nothing changed; marked lists keep what
+-- they had at their front, and all marks stay
+pub record AppendsLive {T E : Type 0} (msgs : Messages) (r : Result T E) (old new : PLive) : Type 0 where
+  pub taken : OnOk r (HaveTaken msgs old.indexes new.indexes)
+  pub no_meta : msgs.meta ≡ [] → new.indexes.meta ≡ old.indexes.meta
+  pub no_block : msgs.block ≡ [] → new.indexes.block ≡ old.indexes.block
+  pub lists : OnOk r (KeepMarkedLists msgs old new)
+  pub err : OnErr r (new ≡ old)
+  pub marks : new.marks ≡ old.marks
+  pub kept : KeepsMarks old new
 
 -- a tree to which the messages were appended; no messages change nothing
 abbrev pub Receives : {U V : Type 0} → (U → Option V → Option V) → List (Msg U V) → PTree U V → PTree U V → Type 0

@@ -9,12 +9,16 @@ ghost use Rattle.pathkey.specs.declared.errno.Errno.{Errno as Refusal};
 ghost use Rattle.reference.specs.Calls.{faults_of_new, first_fault, is_root};
 ghost use Rattle.reference.specs.Plant.{faults_of_plant, is_too_long};
 ghost use Rattle.reference.specs.Tree.{Tree};
+ghost use Rattle.volume.specs.Differences.{Tracks};
 ghost use Rattle.volume.specs.Marked.{KeepMarkedLists, KeepsMarks};
 ghost use Rattle.volume.specs.Plants.{PlantsIn, is_directory, one_put};
+ghost use Rattle.volume.specs.Volumes.{Kept};
 
+use crate::append_noted::append_noted;
 use crate::fs_root::mtime_of;
 use crate::live_indexes::LiveIndexes;
 use call_compiler::Batch;
+use change_log::ChangeLog;
 use message::Msg;
 use meta_index::MetaIndex;
 use pathkey::{Errno, NoMemory, Path};
@@ -25,6 +29,7 @@ use std::alloc::Global;
 pub(crate) fn plant(
     alloc: Global,
     live: &mut LiveIndexes,
+    changes: &mut ChangeLog,
     path: &Path,
     meta: Meta,
 ) -> Result<(), Errno>
@@ -32,6 +37,7 @@ pub(crate) fn plant(
     ensures lists { IfOk result (λ _. KeepMarkedLists (one_put path.now meta) live.old live.new) }
     ensures marks { live.new.marks ≡ live.old.marks }
     ensures kept { KeepsMarks live.old live.new }
+    ensures noted { (snapshots : Kept) → Tracks changes.old snapshots live.old.indexes → Tracks changes.new snapshots live.new.indexes }
 {
     if let Some(fault) = fault_of_plant(alloc, &live.indexes().meta, path, meta)? {
         return Err(fault);
@@ -39,7 +45,7 @@ pub(crate) fn plant(
     // The postcondition of `mtime_of` states that this is a timestamp.
     let _early = mtime_of(meta);
     let batch = one_put(alloc, path, meta)?;
-    live.append(alloc, batch)?;
+    append_noted(alloc, live, changes, batch)?;
     Ok(())
 }
 

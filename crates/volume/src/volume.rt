@@ -12,6 +12,7 @@ ghost use Rattle.reference.specs.Worlds.{World, TakeSnapshot, DropSnapshot, Rest
 ghost use Rattle.volume.specs.Changes.{Called, Settles, KeptAs, Dropped, Restored, Stepped};
 ghost use Rattle.volume.specs.Forks.{IsForkOf, RestoresTree};
 ghost use Rattle.volume.specs.Plants.{Plants};
+ghost use Rattle.volume.specs.Differences.{AgreeBeside};
 ghost use Rattle.volume.specs.Copies.{Compiles as CopyCompiles, Copies};
 ghost use Rattle.volume.specs.Holes.{Compiles as HoleCompiles, Punches};
 ghost use Rattle.volume.specs.Mtimes.{Asks as AsksMtime, SetsMtime};
@@ -22,6 +23,7 @@ ghost use Rattle.volume.specs.Volumes.{AreNames, IsNew, IsVolume, MeanRooted, Me
 ghost use Rattle.volume.specs.Typed.{Asks, Compiles, IsCount, IsOfKind, IsSettled};
 ghost use Rattle.volume.specs.HistoryOf.{Finds, HeaviestIn, busier, pending_in, report_in};
 
+use crate::append_noted::append_noted;
 use crate::event::{CompactStep, Index, Step, in_tree};
 use crate::frozen::Frozen;
 use crate::fs_root::{FsRoot, after_call, after_planting, share};
@@ -31,6 +33,7 @@ use crate::plant::plant;
 use crate::snapshots::Snapshots;
 use call_compiler::dir_mtime::touches_root;
 use call_compiler::{Batch, Call, Indexes, Reply, compile};
+use change_log::{ChangeLog, Changes};
 use jobs::{Backlog, Ticket};
 use node::{Shape, ShapeReport, StepReply, TreeStep};
 use pathkey::{Errno, NoMemory, Path, SnapName};
@@ -43,6 +46,7 @@ pub struct Volume {
     live: LiveIndexes,
     modified: u64,
     snapshots: Snapshots,
+    changes: ChangeLog,
 }
 
 // Written out, as that of `pathkey::Key`.
@@ -52,12 +56,14 @@ impl Drop for Volume {
             live: _,
             modified: _,
             snapshots: _,
+            changes: _,
         } = self;
     }
 }
 
 impl Model for Volume {
     ghost use Rattle.volume.specs.Codes.{coded_volume};
+    ghost use Rattle.volume.specs.Differences.{Tracks};
     ghost use Rattle.volume.specs.Volumes.{PVolume, IsVolume};
 
     ghost Value = { PVolume };
@@ -66,7 +72,7 @@ impl Model for Volume {
 
     ghost view = { λ v. record { live = record { indexes = v.live.indexes; modified = v.modified }; snapshots = v.snapshots; marks = v.live.marks } };
 
-    ghost invariant = { λ v. IsVolume (record { live = record { indexes = v.live.indexes; modified = v.modified }; snapshots = v.snapshots; marks = v.live.marks }) };
+    ghost invariant = { λ v. IsVolume (record { live = record { indexes = v.live.indexes; modified = v.modified }; snapshots = v.snapshots; marks = v.live.marks }) × Tracks v.changes v.snapshots v.live.indexes };
 }
 
 /// The reply of a call whose messages were to be appended; ENOMEM if an allocation failed.
@@ -96,6 +102,7 @@ impl Volume {
             live,
             modified: 0,
             snapshots: Snapshots::new(alloc),
+            changes: ChangeLog::new(alloc),
         })
     }
 
@@ -127,7 +134,7 @@ impl Volume {
         let Ok((reply, batch)) = compiled else {
             return Reply::Fault(Errno::ENOMEM);
         };
-        let appended = self.live.append(alloc, batch);
+        let appended = append_noted(alloc, &mut self.live, &mut self.changes, batch);
         self.live.assert_invariant();
         let reply = reply_to(appended, reply);
         self.modified = after_call(&reply, in_root, at, self.modified);
@@ -147,7 +154,7 @@ impl Volume {
         let Ok((reply, batch)) = compiled else {
             return Reply::Fault(Errno::ENOMEM);
         };
-        let punched = self.live.append(alloc, batch);
+        let punched = append_noted(alloc, &mut self.live, &mut self.changes, batch);
         self.live.assert_invariant();
         reply_to(punched, reply)
     }
@@ -165,7 +172,7 @@ impl Volume {
         let Ok((reply, batch)) = compiled else {
             return Reply::Fault(Errno::ENOMEM);
         };
-        let copied = self.live.append(alloc, batch);
+        let copied = append_noted(alloc, &mut self.live, &mut self.changes, batch);
         self.live.assert_invariant();
         reply_to(copied, reply)
     }
@@ -185,7 +192,7 @@ impl Volume {
         let Ok((reply, batch)) = compiled else {
             return Reply::Fault(Errno::ENOMEM);
         };
-        let sent = self.live.append(alloc, batch);
+        let sent = append_noted(alloc, &mut self.live, &mut self.changes, batch);
         self.live.assert_invariant();
         let reply = reply_to(sent, reply);
         self.modified = after_call(&reply, is_root, at, self.modified);
@@ -199,7 +206,7 @@ impl Volume {
     pub fn plant_entry(&mut self, alloc: Global, path: &Path, meta: Meta) -> Result<(), Errno>
         ensures { Plants path.now meta result self.old self.new }
     {
-        let answer = plant(alloc, &mut self.live, path, meta);
+        let answer = plant(alloc, &mut self.live, &mut self.changes, path, meta);
         self.live.assert_invariant();
         self.modified = after_planting(&answer, path, meta, self.modified);
         answer
@@ -219,6 +226,7 @@ impl Volume {
         }
         let copy = share(self.live.indexes(), self.modified)?;
         self.snapshots.add(alloc, name, copy)?;
+        self.changes.begin(alloc, name);
         Ok(())
     }
 
@@ -230,6 +238,7 @@ impl Volume {
             return Err(Errno::ENOENT);
         }
         self.snapshots.remove(name);
+        self.changes.forget(name);
         Ok(())
     }
 
@@ -246,6 +255,7 @@ impl Volume {
         self.live.replace(copy);
         self.live.assert_invariant();
         self.modified = modified;
+        self.changes.restore(name);
         Ok(())
     }
 
@@ -260,6 +270,7 @@ impl Volume {
         self.live.replace(restored);
         self.live.assert_invariant();
         self.modified = tree.modified();
+        self.changes.forget_all();
         Ok(())
     }
 
@@ -309,6 +320,7 @@ impl Volume {
         } = before;
         self.live.put_back(indexes);
         self.modified = mtime;
+        self.changes.forget_all();
     }
 
     /// The tree of the snapshot of that name; ENOENT if there is none, ENOMEM if a node already has 2^64 - 1 references.
@@ -344,6 +356,7 @@ impl Volume {
             live,
             modified,
             snapshots,
+            changes: ChangeLog::new(alloc),
         }
     }
 
@@ -359,6 +372,19 @@ impl Volume {
         ensures { option_copied result ≡ finite.get self.now.snapshots name.now }
     {
         self.snapshots.get(name)
+    }
+
+    /// The keys at which the live tree may have other values than the snapshot of that name: all keys, or those that were
+    /// touched since it was taken. ENOENT if there is none of that name, ENOMEM if an allocation fails.
+    pub fn changed_since(&self, alloc: Global, name: &SnapName) -> Result<Changes, Errno>
+        ensures agree { IfOk result (λ changes. (r : FsRoot) → finite.get self.now.snapshots name.now ≡ Some r → AgreeBeside changes r.indexes self.now.live.indexes) }
+        ensures none { (result ≡ Err Errno.ENOENT) ↔ (finite.get self.now.snapshots name.now ≡ None) }
+    {
+        if !self.snapshots.has(name) {
+            return Err(Errno::ENOENT);
+        }
+        let changes = self.changes.since(alloc, name)?;
+        Ok(changes)
     }
 
     /// The name of a snapshot by its number, which counts from 0 in byte order of names; `None` past the last. It allocates

@@ -8,7 +8,7 @@ use Rattle.volume.proofs.volume.Volume.fork.Goals as goal
 pub from_root-requires : goal.from_root-requires
 from_root-requires c =
     let same = c.in_ok-root.ensures ∙ ap (λ (i : Indexes). record { indexes = i; modified = c.self.inside.modified }) c.indexes.ensures in
-    subst (λ (r : FsRoot). MeanSome r) (sym same) (record { tree = c.self.invariant.world.live; means = c.self.invariant.means.live })
+    subst (λ (r : FsRoot). MeanSome r) (sym same) (record { tree = c.self.invariant.0.world.live; means = c.self.invariant.0.means.live })
 
 pub returns : goal.returns
 returns c =

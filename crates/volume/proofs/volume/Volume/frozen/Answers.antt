@@ -11,8 +11,8 @@ use Rattle.volume.proofs.volume.Volume.frozen.Goals as goal
 pub new-requires : goal.new-requires
 new-requires c =
     let there : finite.get c.self.inside.snapshots c.args.name.now ≡ Some c.in-Some.snapshot_root.now = sym c.get.ensures ∙ ap option_copied c.in-Some.is in
-    let f : (t : Tree) × (finite.get c.self.invariant.world.snapshots c.args.name.now ≡ Some t) × MeanRooted c.in-Some.snapshot_root.now t =
-    found_alike MeanRooted c.self.inside.snapshots c.self.invariant.world.snapshots c.args.name.now c.in-Some.snapshot_root.now c.self.invariant.means.snapshots there in
+    let f : (t : Tree) × (finite.get c.self.invariant.0.world.snapshots c.args.name.now ≡ Some t) × MeanRooted c.in-Some.snapshot_root.now t =
+    found_alike MeanRooted c.self.inside.snapshots c.self.invariant.0.world.snapshots c.args.name.now c.in-Some.snapshot_root.now c.self.invariant.0.means.snapshots there in
     subst MeanSome (sym c.in_ok-share.ensures) (record { tree = f.0; means = f.2 })
 
 pub returns-clause-means : goal.returns-clause-means

@@ -7,17 +7,13 @@ use Rattle.volume.specs.FsRoot.{after_call, reply_to}
 use Rattle.volume.specs.Mtimes.{Asks, Compiles, SetsMtime}
 use Rattle.volume.specs.Typed.{IsSettled}
 use Rattle.volume.specs.Volumes.{PVolume, IsVolume, live_of}
-use Rattle.volume.proofs.Leading.{Arriving, volume}
+use Rattle.volume.proofs.Leading.{volume}
 use Rattle.volume.proofs.MtimeCalls.{answered_mtime, lacks_mtime, mtime_lasts, mtime_settled}
 use Rattle.volume.proofs.volume.Volume.send_mtime.Goals as goal
 use Rattle.volume.proofs.volume.Volume.send_mtime.Goals.{After-self-1}
 
 abbrev old : After-self-1 → PVolume
 old c = volume c.self.inside.live c.self.inside.modified c.self.inside.snapshots
-
--- the effect on the live indexes
-arriving : (c : After-self-1) → Arriving (messages c.in-Ok.batch) c.append-sent.result (live_of (old c)) c.append-sent.new.self
-arriving c = let e = c.append-sent.ensures in record { taken = e.done; no_meta = e.no_meta; no_block = e.no_block; lists = e.lists; err = e.err; marks = e.marks; kept = e.kept }
 
 -- what was requested
 asked : (c : After-self-1) (p : Path) → Asks c.args.self.now.live.indexes p c.args.at c.args.compiled c.args.is_root → Asks (old c).live.indexes p c.args.at c.args.compiled c.args.is_root
@@ -29,33 +25,35 @@ made c p h = subst (Compiles (old c).live.indexes p c.args.at) c.in-Ok.is h
 
 pub invariant_of-self : goal.invariant_of-self
 invariant_of-self c =
-    let l = c.append-sent.new.self in
+    let l = c.append_noted-sent.new.live in
     let p : Path = c.requires.0 in
     let asks : Asks (old c).live.indexes p c.args.at c.args.compiled c.args.is_root = asked c p c.requires.1 in
-    let r : Reply = reply_to c.append-sent.result c.in-Ok.reply in
-    subst (λ n. IsVolume (volume l n c.self.inside.snapshots))
-    (ap (λ (b : Bool). after_call b r c.args.at c.self.inside.modified) (sym asks.is_root)
-    ∙ ap (λ (q : Reply). after_call c.args.is_root q c.args.at c.self.inside.modified) (sym c.reply_to-reply.ensures)
-    ∙ sym c.after_call-self-inside.ensures)
-    (mtime_lasts (old c) c.self.invariant p c.args.at l r
-    (answered_mtime (old c) c.self.invariant p c.args.at l c.in-Ok.reply _ c.append-sent.result (made c p asks.compiles) (arriving c)) c.assert_invariant.ensures)
+    let r : Reply = reply_to c.append_noted-sent.result c.in-Ok.reply in (
+      subst (λ n. IsVolume (volume l n c.self.inside.snapshots))
+          (ap (λ (b : Bool). after_call b r c.args.at c.self.inside.modified) (sym asks.is_root)
+          ∙ ap (λ (q : Reply). after_call c.args.is_root q c.args.at c.self.inside.modified) (sym c.reply_to-reply.ensures)
+          ∙ sym c.after_call-self-inside.ensures)
+          (mtime_lasts (old c) c.self.invariant.0 p c.args.at l r
+          (answered_mtime (old c) c.self.invariant.0 p c.args.at l c.in-Ok.reply _ c.append_noted-sent.result (made c p asks.compiles) c.append_noted-sent.ensures.appended) c.assert_invariant.ensures),
+      c.append_noted-sent.ensures.noted c.self.inside.snapshots c.self.invariant.1,
+    )
 
 pub returns-clause-sets : goal.returns-clause-sets
 returns-clause-sets c = λ p given.
-    let l = c.append-sent.new.self in
+    let l = c.append_noted-sent.new.live in
     let asks : Asks (old c).live.indexes p c.args.at c.args.compiled c.args.is_root = asked c p given in
     subst (λ (v : PVolume). SetsMtime p c.args.at c.reply_to-reply.result v (volume l c.after_call-self-inside.result c.self.inside.snapshots)) c.self.view_is
     (subst (λ n. SetsMtime p c.args.at c.reply_to-reply.result (old c) (volume l n c.self.inside.snapshots))
     (ap (λ (b : Bool). after_call b c.reply_to-reply.result c.args.at c.self.inside.modified) (sym asks.is_root) ∙ sym c.after_call-self-inside.ensures)
     (subst (λ (r : Reply). SetsMtime p c.args.at r (old c) (volume l (after_call (is_root p) r c.args.at c.self.inside.modified) c.self.inside.snapshots)) (sym c.reply_to-reply.ensures)
-    (answered_mtime (old c) c.self.invariant p c.args.at l c.in-Ok.reply _ c.append-sent.result (made c p asks.compiles) (arriving c))))
+    (answered_mtime (old c) c.self.invariant.0 p c.args.at l c.in-Ok.reply _ c.append_noted-sent.result (made c p asks.compiles) c.append_noted-sent.ensures.appended)))
 
 pub returns-clause-settled : goal.returns-clause-settled
 returns-clause-settled c =
     let (p, given) = c.requires in
     let asks : Asks (old c).live.indexes p c.args.at c.args.compiled c.args.is_root = asked c p given in
     subst IsSettled (sym c.reply_to-reply.ensures)
-    (mtime_settled (old c) c.self.invariant p c.args.at c.append-sent.new.self c.in-Ok.reply _ c.append-sent.result (made c p asks.compiles))
+    (mtime_settled (old c) c.self.invariant.0 p c.args.at c.append_noted-sent.new.live c.in-Ok.reply _ c.append_noted-sent.result (made c p asks.compiles))
 
 pub returns-in_default-clause-sets : goal.returns-in_default-clause-sets
 returns-in_default-clause-sets c = λ p given. lacks_mtime c.args.self.now p c.args.at (live_of c.args.self.now) refl

@@ -6,6 +6,7 @@ use Rattle.reference.specs.Worlds.{Snapped, TakeSnapshot}
 use Rattle.volume.specs.Changes.{Settles, KeptAs}
 use Rattle.volume.specs.Volumes.{PVolume}
 use Rattle.volume.specs.declared.fs_root.FsRoot.{FsRoot}
+use Rattle.volume.proofs.Differing.{tracks_begun}
 use Rattle.volume.proofs.Leading.{volume, snapshot_taken, snapshot_lasts, snapshot_full, snapshot_lacks, refused_as}
 use Rattle.volume.proofs.volume.Volume.snapshot.Goals as goal
 
@@ -35,8 +36,10 @@ returns-in_err-add c =
 pub invariant_of-self-2 : goal.invariant_of-self-2
 invariant_of-self-2 c =
     let old : PVolume = volume c.self.inside.live c.self.inside.modified c.self.inside.snapshots in
-    let e : c.add.new.self ≡ finite.insert c.self.inside.snapshots c.args.name.now old.live = c.in_ok-add.ensures.kept ∙ ap (λ (r : FsRoot). finite.insert c.self.inside.snapshots c.args.name.now r) (c.in_ok-copy.ensures ∙ ap (λ (i : Indexes). record { indexes = i; modified = c.self.inside.modified }) c.indexes.ensures) in
-    snapshot_lasts old c.args.name.now c.add.new.self c.self.invariant (sym c.has.ensures ∙ c.if-has.false) (c.is_full.ensures.room c.if-is_full.false) e
+    let e : c.add.new.self ≡ finite.insert c.self.inside.snapshots c.args.name.now old.live = c.in_ok-add.ensures.kept ∙ ap (λ (r : FsRoot). finite.insert c.self.inside.snapshots c.args.name.now r) (c.in_ok-copy.ensures ∙ ap (λ (i : Indexes). record { indexes = i; modified = c.self.inside.modified }) c.indexes.ensures) in (
+      snapshot_lasts old c.args.name.now c.add.new.self c.self.invariant.0 (sym c.has.ensures ∙ c.if-has.false) (c.is_full.ensures.room c.if-is_full.false) e,
+      tracks_begun c.self.inside.changes c.begin.new.self c.self.inside.snapshots c.add.new.self c.args.name.now old.live (sym c.has.ensures ∙ c.if-has.false) e c.begin.ensures c.self.invariant.1,
+    )
 
 pub returns : goal.returns
 returns c =

@@ -1,0 +1,4 @@
+pub mod Touched
+pub mod KeyLogs
+pub mod Codes
+pub mod Snapshots
