@@ -180,6 +180,8 @@ uint8_t doorvervain_raw_snapshot_name(
 uint8_t doorvervain_raw_freeze(struct doorvervain *fs, struct doorvervain_frozen *out);
 uint8_t doorvervain_raw_fork(struct doorvervain *fs, struct doorvervain *out);
 uint8_t doorvervain_raw_frozen_fork(struct doorvervain_frozen *tree, struct doorvervain *out);
+void doorvervain_raw_make_sharable(struct doorvervain *fs);
+void doorvervain_raw_condense(struct doorvervain *fs);
 uint8_t doorvervain_raw_restore_frozen(struct doorvervain *fs, struct doorvervain_frozen *tree);
 uint8_t doorvervain_raw_open_snapshot(
     struct doorvervain *fs, const uint8_t *name, size_t length, struct doorvervain_frozen *out);
@@ -500,7 +502,9 @@ static inline uint8_t doorvervain_readdir(
 // volume has 64 snapshots, with EBUSY if a transaction is open, and with ENOMEM.
 static inline uint8_t doorvervain_snapshot(struct doorvervain *fs, const char *name, size_t length) {
     uint8_t err = doorvervain_busy_args(fs, name, length);
-    return err ? err : doorvervain_raw_snapshot(fs, doorvervain_in(name), length);
+    if (err) return err;
+    doorvervain_raw_make_sharable(fs);
+    return doorvervain_raw_snapshot(fs, doorvervain_in(name), length);
 }
 
 // Drops the snapshot of that name. Fails with ENOENT if there is none, and with EBUSY if a transaction is open.
@@ -653,17 +657,19 @@ static inline void doorvervain_frozen_close(struct doorvervain_frozen *tree) {
 // Begins a transaction, in constant time. Calls change the volume as before, and later ones see their changes, until doorvervain_commit
 // or doorvervain_rollback ends the transaction. While it is open, calls that take, drop or restore a snapshot, restore a frozen tree, or
 // apply a delta or a log fail with EBUSY, and doorvervain_compact does nothing. A fork or a frozen tree that is made meanwhile has the
-// changes so far, and no transaction. The first changes copy parts of the tree, as those after a snapshot do. Fails with EBUSY if a
+// changes so far, and no transaction. Its changes copy parts of the tree, as those after a snapshot do. Fails with EBUSY if a
 // transaction is open, and with ENOMEM.
 static inline uint8_t doorvervain_begin(struct doorvervain *fs) {
     uint8_t err = doorvervain_busy_args(fs, NULL, 0);
     struct doorvervain_frozen before = {NULL};
-    if (!err) err = doorvervain_raw_freeze(fs, &before);
+    if (err) return err;
+    doorvervain_raw_make_sharable(fs);
+    err = doorvervain_raw_freeze(fs, &before);
     if (!err) fs->before = before.ptr;
     return err;
 }
 
-// Ends a transaction, and keeps its changes. It asks for no memory. Fails with EINVAL if none is open.
+// Ends a transaction, and keeps its changes. It does not fail for lack of memory. Fails with EINVAL if none is open.
 static inline uint8_t doorvervain_commit(struct doorvervain *fs) {
     uint8_t err = doorvervain_bad_args(fs, NULL, 0);
     if (err) return err;
@@ -671,11 +677,12 @@ static inline uint8_t doorvervain_commit(struct doorvervain *fs) {
     const struct doorvervain_frozen before = {fs->before};
     doorvervain_raw_frozen_close(before);
     fs->before = NULL;
+    doorvervain_raw_condense(fs);
     return DOORVERVAIN_DONE;
 }
 
-// Ends a transaction, and undoes its changes: the tree is again as it was at the beginning. It asks for no memory. Fails with EINVAL if
-// none is open. It could fail with ENOMEM, and the transaction stay open, only if the tree had 2^64 - 1 references.
+// Ends a transaction, and undoes its changes: the tree is again as it was at the beginning. It does not fail for lack of memory.
+// Fails with EINVAL if none is open. It could fail with ENOMEM, and the transaction stay open, only if the tree had 2^64 - 1 references.
 static inline uint8_t doorvervain_rollback(struct doorvervain *fs) {
     uint8_t err = doorvervain_bad_args(fs, NULL, 0);
     if (err) return err;

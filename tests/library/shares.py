@@ -64,6 +64,8 @@ def rounds(seed: int):
     draw, (volume, model) = random.Random(seed), filled()
     at, snapshots = 10, {}
     for number in range(ROUNDS):
+        if draw.random() < 0.8:
+            volume.ask("make_sharable")
         share, before, fork = volume.tree(), dict(model), Pointer()
         done(volume.ask("fork", fork))
         if number % 6 == 5:
@@ -81,6 +83,7 @@ def rounds(seed: int):
             model = dict(before)
         yield f"{name}: the volume", unlike(content("", volume.fs), model), []
         given_up("frozen_close", share)
+        volume.ask("condense")
         done(ask("truncate", fork, b"/d/f00001", 1, 5)) if b"/d/f00001" in before else None
         yield f"{name}: the volume beside a change of the fork", unlike(content("", volume.fs), model), []
         given_up("close", fork)

@@ -86,6 +86,8 @@ def stands(name: str, *words) -> Callable[[World], None]:
 
 
 def both(world: World) -> None:
+    """They share the lists of pending messages."""
+    calls.ask("make_sharable", world.fs)
     stands("freeze")(world)
     stands("fork")(world)
 

@@ -80,6 +80,8 @@ extern "C" {
     fn doorvervain_raw_load_finish(loader: RawHandle, line: *mut u64, out: *mut RawHandle) -> u8;
     fn doorvervain_raw_load_abort(loader: RawHandle);
     fn doorvervain_raw_freeze(fs: *mut RawHandle, out: *mut RawHandle) -> u8;
+    fn doorvervain_raw_make_sharable(fs: *mut RawHandle);
+    fn doorvervain_raw_condense(fs: *mut RawHandle);
     fn doorvervain_raw_fork(fs: *mut RawHandle, out: *mut RawHandle) -> u8;
     fn doorvervain_raw_frozen_fork(tree: *mut RawHandle, out: *mut RawHandle) -> u8;
     fn doorvervain_raw_restore_frozen(fs: *mut RawHandle, tree: *mut RawHandle) -> u8;
@@ -365,15 +367,20 @@ impl VolumeHandle {
             return Err(Errno::EBUSY);
         }
         // SAFETY: the volume is there, and nobody else is in it; the out-parameter can be written.
-        done(unsafe { doorvervain_raw_freeze(&mut self.held.raw(), &mut out) })?;
+        done(unsafe {
+            doorvervain_raw_make_sharable(&mut self.held.raw());
+            doorvervain_raw_freeze(&mut self.held.raw(), &mut out)
+        })?;
         *before = Some(Held::new(&out).map(FrozenHandle)?);
         Ok(())
     }
 
     /// Ends a transaction, and keeps its changes.
     pub(crate) fn commit(&self) {
-        let before = self.alone().take();
-        drop(before);
+        let mut before = self.alone();
+        drop(before.take());
+        // SAFETY: the volume is there, and nobody else is in it.
+        unsafe { doorvervain_raw_condense(&mut self.held.raw()) };
     }
 
     /// Ends a transaction, and restores the tree with which it began.

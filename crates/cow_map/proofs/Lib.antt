@@ -1,6 +1,8 @@
+mod Behind
 mod Cuts
 mod Entries
 mod Joins
+mod Kept
 mod Lifts
 mod Nearest
 pub mod Parts

@@ -1,5 +1,5 @@
 -- A sorted map as a list of chunks.
-use Rattle.std.specs.Prelude.{ℕ, suc, ◌<◌, ◌≤◌, Bool, false, List, [], ◌∷◌, ◌++◌, length, if◌then◌else◌}
+use Rattle.std.specs.Prelude.{◌≡◌, ℕ, suc, ◌<◌, ◌≤◌, Bool, false, List, [], ◌∷◌, ◌++◌, drop, length, Option, Some, None, if◌then◌else◌}
 use Rattle.cow_map.specs.Places.{Rises, reaches}
 
 module _ {X : Type 0} where
@@ -17,6 +17,27 @@ module _ {X : Type 0} where
   pub record AreRows (rs : List (List (List ℕ × X))) : Type 0 where
     pub rises : Rises (joined rs)
     pub sized : AreSized rs
+
+  -- the chunks without the first n entries of the first one
+  abbrev pub behind : ℕ → List (List (List ℕ × X)) → List (List (List ℕ × X))
+  behind n [] = []
+  behind n (r ∷ rs) = drop n r ∷ rs
+
+  -- the first chunk has more than n entries; if there is none, n is 0
+  abbrev pub IsBehind : ℕ → List (List (List ℕ × X)) → Type 0
+  IsBehind n [] = n ≡ 0
+  IsBehind n (r ∷ rs) = n < length r
+
+  -- of shared chunks a map has those behind the first m, without the first n entries
+  pub record IsKept (m n : ℕ) (rs : List (List (List ℕ × X))) : Type 0 where
+    pub skipped : m ≤ length rs
+    pub rows : AreRows (drop m rs)
+    pub left : IsBehind n (drop m rs)
+
+  -- the chunks of a map: its own ones, or those that it shares
+  abbrev pub kept : List (List (List ℕ × X)) → Option (List (List (List ℕ × X))) → List (List (List ℕ × X))
+  kept own None = own
+  kept own (Some rs) = rs
 
   -- the first key of a chunk
   abbrev pub first_key : List (List ℕ × X) → List ℕ

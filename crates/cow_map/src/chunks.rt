@@ -5,7 +5,7 @@
 ghost use Rattle.std.specs.Prelude.{◌≡◌, ◌+◌, ◌-◌, ◌<◌, ◌≤◌, ◌^◌, ◌++◌, ◌∷◌, [], length, take, drop, None, Some, OnOk, OnErr, IfOk, IfErr, IfNone, IfSome, true, false, vec_len, vec_capacity};
 ghost use Rattle.std.specs.List.{insert, remove_range, slice_get, slice_index_or, slice_set};
 ghost use Rattle.cow_map.specs.Places.{AreBefore, AreFrom};
-ghost use Rattle.cow_map.specs.CowMap.{joined, row_number, chunk_index, AreRows, AreSized};
+ghost use Rattle.cow_map.specs.CowMap.{joined, row_number, chunk_index, behind, AreRows, IsBehind};
 ghost use Rattle.cow_map.specs.Changes.{IsRowChanged};
 
 use crate::chunk::Chunk;
@@ -393,20 +393,53 @@ fn put_at<T: CopyValue>(rows: &mut Vec<Chunk<T>>, m: usize, row: Chunk<T>)
     };
 }
 
-/// Whether the chunks have no entries.
-pub(crate) fn has_none<T: CopyValue>(rows: &[Chunk<T>]) -> bool
-    requires { AreSized rows.now }
-    ensures yes { result ≡ true → joined rows.now ≡ [] }
-    ensures no { result ≡ false → 0 < length (joined rows.now) }
+/// The entries of the chunk at this index, without the first `left` of the first chunk.
+#[inline(always)]
+pub(crate) fn entries_at<'a, T: CopyValue>(
+    rows: &'a [Chunk<T>],
+    left: usize,
+    n: usize,
+) -> Option<&'a [SharedEntry<T>]>
+    requires { IsBehind left rows.now }
+    ensures bound { IfSome result (λ es. n < length rows.now) }
+    ensures entries { IfSome result (λ es. es.now ≡ slice_index_or (behind left rows.now) n []) }
+    ensures none { IfNone result (length rows.now ≤ n) }
 {
-    match rows.first() {
+    let Some(row) = rows.get(n) else {
+        return None;
+    };
+    if n == 0 {
+        return Some(&row.entries()[left..]);
+    }
+    Some(row.entries())
+}
+
+/// Whether the chunks have no entries.
+pub(crate) fn has_none<T: CopyValue>(rows: &[Chunk<T>], left: usize) -> bool
+    requires { IsBehind left rows.now }
+    ensures yes { result ≡ true → joined (behind left rows.now) ≡ [] }
+    ensures no { result ≡ false → 0 < length (joined (behind left rows.now)) }
+{
+    match entries_at(rows, left, 0) {
         None => true,
         Some(_) => false,
     }
 }
 
+/// The total number of entries of the chunks, without the first `left` of the first one.
+pub(crate) fn entries_in<T: CopyValue>(rows: &[Chunk<T>], left: usize) -> usize
+    requires left { IsBehind left rows.now }
+    requires len { length (joined (behind left rows.now)) < 2 ^ 64 }
+    ensures { result ≡ length (joined (behind left rows.now)) }
+{
+    match rows.split_first() {
+        None => 0,
+        Some((row, later)) => (row.entries().len() - left) + count_entries(later),
+    }
+}
+
 /// The total number of entries of the chunks.
-pub(crate) fn entries_in<T: CopyValue>(rows: &[Chunk<T>]) -> usize
+fn count_entries<T: CopyValue>(rows: &[Chunk<T>]) -> usize
     requires { length (joined rows.now) < 2 ^ 64 }
     ensures { result ≡ length (joined rows.now) }
 {

@@ -8,14 +8,17 @@
 //! - the entries of all chunks, concatenated, are that list;
 //! - no chunk is empty, and none has more than 64 entries;
 //! - a chunk is changed only by its sole owner: a shared chunk is copied first. Only the first entries of a chunk can be
-//! dropped without a copy: the chunk then begins after them.
+//! dropped without a copy: the chunk then begins after them;
+//! - the same holds of the list of chunks of a long map.
 //!
 //! `chunk` is one chunk, `chunk_edit` has the changes of its entries, and `search` finds a key among them. `strides` is a
 //! search for any sorted slice, which the crates above use. `chunks` has the list of chunks: which of them has a key, the only
-//! way to change one, and how chunks are split and merged. `extract` extracts a range, and `neighbours` finds the entries next
-//! to a key. `map` is the public interface, and `cursor` iterates over a map.
+//! way to change one, and how chunks are split and merged. `changes` puts, edits, moves and drops entries of the list, `extract`
+//! extracts a range, and `neighbours` finds the entries next to a key. `shared_rows` is a list that several maps share. `map` is
+//! the public interface, and `cursor` iterates over a map.
 #![tactic(auto)]
 
+pub(crate) mod changes;
 pub(crate) mod chunk;
 pub(crate) mod chunk_edit;
 pub(crate) mod chunks;
@@ -26,6 +29,7 @@ pub mod map;
 pub(crate) mod neighbours;
 pub(crate) mod search;
 pub(crate) mod shared_entry;
+pub(crate) mod shared_rows;
 pub mod stored;
 pub mod strides;
 

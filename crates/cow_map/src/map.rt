@@ -1,38 +1,44 @@
 //! The map, as callers see it.
 //!
+//! A map has a list of chunks of its own, which a clone copies. [`CowMap::make_sharable`] puts the list where clones share it, so that
+//! they take constant time, and the first change of either copies it.
+//!
 //! Invariant: that of its chunks (`chunks`), so the entries are sorted by key without duplicates.
-ghost use Rattle.std.specs.Prelude.{◌≡◌, ◌+◌, ◌^◌, ◌<◌, ◌≤◌, ◌++◌, ◌∷◌, [], not, true, false, length, take, drop, OnOk, OnErr, IfOk, IfNone, IfSome};
+ghost use Rattle.std.specs.Prelude.{◌≡◌, ◌+◌, ◌^◌, ◌<◌, ◌≤◌, ◌++◌, ◌∷◌, [], None, not, true, false, length, take, drop, OnOk, OnErr, IfOk, IfNone, IfSome, IsSome};
 ghost use Rattle.std.specs.Option.{option_copied, option_map};
 ghost use Rattle.std.specs.List.{filter, slice_get};
 ghost use Rattle.pathkey.specs.Keys.{is_in};
 ghost use Rattle.cow_map.specs.Places.{Rises, at_key, last_of, place, place_past, AreBefore, AreFrom};
-ghost use Rattle.cow_map.specs.CowMap.{joined, AreRows};
+ghost use Rattle.cow_map.specs.CowMap.{joined, behind, kept, AreRows, IsBehind};
 ghost use Rattle.cow_map.specs.Changes.{IsPut, IsEdited};
 ghost use Rattle.cow_map.specs.Moves.{IsFirstMoved};
 
+use crate::changes::{drop_among, edit_among, move_first_among, put_among};
 use crate::chunk::Chunk;
-use crate::chunk_edit::{EditEntry, Put, PutEntry};
-use crate::chunks::{
-    begin, begin_item, chunk_index, drop_front_of_first, edit_chunk, entries_in, has_none,
-    share_rows, split_chunks_at, split_full, whole_rows,
-};
+use crate::chunks::{entries_in, has_none, share_rows, split_chunks_at};
 use crate::cursor::Cursor;
 use crate::edit::{Edit, Edited};
 use crate::extract::extract_range;
 use crate::neighbours::{
-    last_before_among, last_by_among, last_in, walk_from_among, walk_past_among,
+    last_before_among, last_by_among, last_in, value_among, walk_all, walk_from_among,
+    walk_past_among,
 };
-use crate::search::value_at;
-use crate::shared_entry::SharedEntry;
+use crate::shared_rows::SharedRows;
 use crate::stored::CopyValue;
 use pathkey::{Key, KeyRange, NoMemory};
 use std::alloc::Global;
 use std::marker::Model;
 
+/// The least number of chunks in a list that clones share.
+const LONG: usize = 2;
+
 /// A sorted map in shared chunks. Contracts see the list of its entries, sorted by key.
 #[derive(Drop)]
 pub struct CowMap<T> {
+    /// The chunks, unless they are in `shared`.
     rows: Vec<Chunk<T>>,
+    /// The chunks, if clones share their list.
+    shared: Option<SharedRows<T>>,
 }
 
 impl<T> Model for CowMap<T> {
@@ -40,11 +46,11 @@ impl<T> Model for CowMap<T> {
 
     ghost Value = { List (List ℕ × T) };
 
-    ghost use Rattle.cow_map.specs.CowMap.{joined, AreRows};
+    ghost use Rattle.cow_map.specs.CowMap.{joined, kept, AreRows};
 
-    ghost view = { λ r. joined r.rows.items };
+    ghost view = { λ r. joined (kept r.rows.items r.shared) };
 
-    ghost invariant = { λ r. AreRows r.rows.items };
+    ghost invariant = { λ r. AreRows (kept r.rows.items r.shared) };
 }
 
 impl<T: CopyValue> CowMap<T> {
@@ -54,6 +60,29 @@ impl<T: CopyValue> CowMap<T> {
     {
         CowMap {
             rows: Vec::new(alloc),
+            shared: None,
+        }
+    }
+
+    /// Its chunks, and how many entries of the first are dropped.
+    #[inline(always)]
+    fn chunks(&self) -> (&[Chunk<T>], usize)
+        ensures rows { AreRows result.0.now }
+        ensures left { IsBehind result.1 result.0.now }
+        ensures entries { joined (behind result.1 result.0.now) ≡ self.now }
+    {
+        match &self.shared {
+            None => (self.rows.as_slice(), 0),
+            Some(shared) => shared.parts(),
+        }
+    }
+
+    /// Whether a clone shares the list of chunks, which the next change then copies. No claim depends on it.
+    #[inline(always)]
+    pub fn is_shared(&self) -> bool {
+        match &self.shared {
+            None => false,
+            Some(shared) => shared.is_shared(),
         }
     }
 
@@ -69,7 +98,8 @@ impl<T: CopyValue> CowMap<T> {
         ensures yes { result ≡ true → self.now ≡ [] }
         ensures no { result ≡ false → 0 < length self.now }
     {
-        has_none(self.rows.as_slice())
+        let (rows, left) = self.chunks();
+        has_none(rows, left)
     }
 
     /// The number of entries, if it is known to fit in a `usize`. It visits each chunk.
@@ -77,14 +107,16 @@ impl<T: CopyValue> CowMap<T> {
         requires { length self.now < 2 ^ 64 }
         ensures { result ≡ length self.now }
     {
-        entries_in(self.rows.as_slice())
+        let (rows, left) = self.chunks();
+        entries_in(rows, left)
     }
 
     /// The value at the key.
     pub fn get(&self, key: &Key) -> Option<&T>
         ensures { option_copied result ≡ at_key key.now self.now }
     {
-        get_among(self.rows.as_slice(), key)
+        let (rows, left) = self.chunks();
+        value_among(rows, left, key)
     }
 
     /// Puts a value at the key, and returns the previous one. If an allocation fails the key and the value are returned, and
@@ -93,17 +125,10 @@ impl<T: CopyValue> CowMap<T> {
     pub fn put(&mut self, key: Key, value: T) -> Result<Option<T>, (Key, T)>
         ensures { IsPut key value self.old self.new result }
     {
-        if self.rows.is_empty() {
-            begin(&mut self.rows, key, value)?;
-            return Ok(None);
-        }
-        let Some(n) = split_full(&mut self.rows, &key) else {
+        let Ok(()) = own(&mut self.rows, &mut self.shared) else {
             return Err((key, value));
         };
-        match edit_chunk(&mut self.rows, n, Put { key, value }) {
-            Ok(answer) => answer,
-            Err(Put { key, value }) => Err((key, value)),
-        }
+        put_among(&mut self.rows, key, value)
     }
 
     /// Edits the value at the key in place.
@@ -111,56 +136,58 @@ impl<T: CopyValue> CowMap<T> {
     pub fn edit<E: Edit<T>>(&mut self, key: &Key, edit: E) -> Edited<E::Answer, E>
         ensures { IsEdited (E.does edit) key.now edit self.old self.new result }
     {
-        let n = chunk_index(self.rows.as_slice(), key);
-        if n >= self.rows.len() {
-            return Edited::Absent(edit);
-        }
-        match edit_chunk(&mut self.rows, n, EditEntry { key, edit }) {
-            Ok(answer) => answer,
-            Err(EditEntry { key: _, edit }) => Edited::Refused(edit),
-        }
+        let Ok(()) = own(&mut self.rows, &mut self.shared) else {
+            return Edited::Refused(edit);
+        };
+        edit_among(&mut self.rows, key, edit)
     }
 
     /// All entries, in key order.
     pub fn cursor(&self) -> Cursor<'_, T>
         ensures { result ≡ self.now }
     {
-        Cursor::of(&[], self.rows.as_slice())
+        let (rows, left) = self.chunks();
+        walk_all(rows, left)
     }
 
     /// The entries at or after the key.
     pub fn lower_bound(&self, key: &Key) -> Cursor<'_, T>
         ensures { result ≡ drop (place key.now self.now) self.now }
     {
-        walk_from_among(self.rows.as_slice(), key)
+        let (rows, left) = self.chunks();
+        walk_from_among(rows, left, key)
     }
 
     /// The entries after the key.
     pub fn upper_bound(&self, key: &Key) -> Cursor<'_, T>
         ensures { result ≡ drop (place_past key.now self.now) self.now }
     {
-        walk_past_among(self.rows.as_slice(), key)
+        let (rows, left) = self.chunks();
+        walk_past_among(rows, left, key)
     }
 
     /// The last entry.
     pub fn last(&self) -> Option<(&Key, &T)>
         ensures { option_map (λ p. (p.0.now, p.1.now)) result ≡ last_of self.now }
     {
-        last_in(self.rows.as_slice())
+        let (rows, left) = self.chunks();
+        last_in(rows, left)
     }
 
     /// The last entry before the key.
     pub fn last_before(&self, key: &Key) -> Option<(&Key, &T)>
         ensures { option_map (λ p. (p.0.now, p.1.now)) result ≡ last_of (take (place key.now self.now) self.now) }
     {
-        last_before_among(self.rows.as_slice(), key)
+        let (rows, left) = self.chunks();
+        last_before_among(rows, left, key)
     }
 
     /// The last entry at or before the key.
     pub fn last_at_or_before(&self, key: &Key) -> Option<(&Key, &T)>
         ensures { option_map (λ p. (p.0.now, p.1.now)) result ≡ last_of (take (place_past key.now self.now) self.now) }
     {
-        last_by_among(self.rows.as_slice(), key)
+        let (rows, left) = self.chunks();
+        last_by_among(rows, left, key)
     }
 
     /// Splits off the entries at or after the key. If an allocation fails the map is unchanged.
@@ -170,8 +197,9 @@ impl<T: CopyValue> CowMap<T> {
         ensures back { IfOk result (λ back. AreFrom key.now back) }
         ensures err { OnErr result (self.new ≡ self.old) }
     {
+        own(&mut self.rows, &mut self.shared)?;
         let rows = split_chunks_at(&mut self.rows, key)?;
-        Ok(CowMap { rows })
+        Ok(CowMap { rows, shared: None })
     }
 
     /// Extracts the entries in the range. If an allocation fails the map is unchanged.
@@ -180,8 +208,9 @@ impl<T: CopyValue> CowMap<T> {
         ensures taken { IfOk result (λ out. out ≡ filter (λ e. is_in range.now e.0) self.old) }
         ensures err { OnErr result (self.new ≡ self.old) }
     {
+        own(&mut self.rows, &mut self.shared)?;
         let rows = extract_range(&mut self.rows, range)?;
-        Ok(CowMap { rows })
+        Ok(CowMap { rows, shared: None })
     }
 
     /// Moves all entries of another map, whose keys are all greater, to the end of this one. If an allocation fails both maps
@@ -193,6 +222,8 @@ impl<T: CopyValue> CowMap<T> {
         ensures err { OnErr result (self.new ≡ self.old) }
         ensures kept { OnErr result (later.new ≡ later.old) }
     {
+        own(&mut self.rows, &mut self.shared)?;
+        own(&mut later.rows, &mut later.shared)?;
         self.rows.append(&mut later.rows)?;
         Ok(())
     }
@@ -202,7 +233,10 @@ impl<T: CopyValue> CowMap<T> {
         requires { count ≤ length self.old }
         ensures { self.new ≡ drop count self.old }
     {
-        drop_among(&mut self.rows, count);
+        match own(&mut self.rows, &mut self.shared) {
+            Ok(()) => drop_among(&mut self.rows, count),
+            Err(NoMemory) => drop_shared(&mut self.shared, count),
+        }
     }
 
     /// Moves the first entry of another map into this one, and returns the previous value at its key, cloned if its entry is
@@ -213,97 +247,100 @@ impl<T: CopyValue> CowMap<T> {
         ensures err { OnErr result (self.new ≡ self.old) }
         ensures kept { OnErr result (from.new ≡ from.old) }
     {
+        own(&mut self.rows, &mut self.shared)?;
+        own(&mut from.rows, &mut from.shared)?;
         move_first_among(&mut self.rows, &mut from.rows)
+    }
+
+    /// Puts the list of chunks where clones share it, unless it is short or an allocation fails: then the next clones take constant
+    /// time, and the next change of the map copies the list if a clone still has it.
+    pub fn make_sharable(&mut self)
+        ensures { self.new ≡ self.old }
+    {
+        if self.shared.is_some() || self.rows.len() < LONG {
+            return;
+        }
+        let alloc = *self.rows.allocator();
+        match SharedRows::of(alloc, std::mem::replace(&mut self.rows, Vec::new(alloc))) {
+            Ok(all) => self.shared = Some(all),
+            Err(all) => self.rows = all,
+        }
     }
 
     /// Clones the map; both then share the entries.
     pub fn share(&self) -> Result<CowMap<T>, NoMemory>
         ensures { IfOk result (λ shared. shared ≡ self.now) }
     {
-        let rows = share_rows(self.rows.as_slice(), *self.rows.allocator())?;
-        Ok(CowMap { rows })
-    }
-}
-
-/// The value at the key in chunks.
-fn get_among<'a, T: CopyValue>(rows: &'a [Chunk<T>], key: &Key) -> Option<&'a T>
-    requires { AreRows rows.now }
-    ensures { option_copied result ≡ at_key key.now (joined rows.now) }
-{
-    let n = chunk_index(rows, key);
-    match rows.get(n) {
-        None => None,
-        Some(row) => value_at(row.entries(), key),
-    }
-}
-
-/// Moves the first entry of other chunks into these, and returns the previous value at its key.
-fn move_first_among<T: CopyValue>(
-    rows: &mut Vec<Chunk<T>>,
-    from: &mut Vec<Chunk<T>>,
-) -> Result<Option<T>, NoMemory>
-    requires rows { AreRows rows.old.items }
-    requires from { AreRows from.old.items }
-    requires some { 0 < length (joined from.old.items) }
-    ensures rows { AreRows rows.new.items }
-    ensures from { AreRows from.new.items }
-    ensures moved { IfOk result (λ was. IsFirstMoved was (joined from.old.items) (joined rows.old.items) (joined from.new.items) (joined rows.new.items)) }
-    ensures err { OnErr result (joined rows.new.items ≡ joined rows.old.items) }
-    ensures kept { OnErr result (joined from.new.items ≡ joined from.old.items) }
-{
-    let Some(item) = Cursor::of(&[], from.as_slice()).first() else {
-        unreachable!()
-    };
-    let item = item.share()?;
-    match put_item_among(rows, item) {
-        Ok(was) => {
-            drop_among(from, 1);
-            Ok(was)
+        let alloc = *self.rows.allocator();
+        match &self.shared {
+            None => Ok(CowMap {
+                rows: share_rows(self.rows.as_slice(), alloc)?,
+                shared: None,
+            }),
+            Some(shared) => Ok(CowMap {
+                rows: Vec::new(alloc),
+                shared: Some(shared.share()?),
+            }),
         }
-        Err(_) => Err(NoMemory),
     }
 }
 
-/// Puts a shared entry at its key in chunks, and returns the previous value. If an allocation fails the entry is returned.
-fn put_item_among<T: CopyValue>(
+/// Makes the chunks of a map those in `rows`, without another owner. If an allocation fails the entries stay where they are.
+#[inline(always)]
+fn own<T: CopyValue>(
     rows: &mut Vec<Chunk<T>>,
-    item: SharedEntry<T>,
-) -> Result<Option<T>, SharedEntry<T>>
-    requires { AreRows rows.old.items }
-    ensures rows { AreRows rows.new.items }
-    ensures put { IsPut item.0 item.1 (joined rows.old.items) (joined rows.new.items) result }
+    shared: &mut Option<SharedRows<T>>,
+) -> Result<(), NoMemory>
+    requires { AreRows (kept rows.old.items shared.old) }
+    ensures own { OnOk result (shared.new ≡ None) }
+    ensures shared { OnErr result (IsSome shared.new) }
+    ensures rows { AreRows (kept rows.new.items shared.new) }
+    ensures same { joined (kept rows.new.items shared.new) ≡ joined (kept rows.old.items shared.old) }
 {
-    if rows.is_empty() {
-        begin_item(rows, item)?;
-        return Ok(None);
+    if shared.is_none() {
+        return Ok(());
     }
-    let Some(n) = split_full(rows, item.key()) else {
-        return Err(item);
+    take_back(rows, shared)
+}
+
+/// The same, where clones may share the list: most changes do not come here.
+#[inline(never)]
+fn take_back<T: CopyValue>(
+    rows: &mut Vec<Chunk<T>>,
+    shared: &mut Option<SharedRows<T>>,
+) -> Result<(), NoMemory>
+    requires { AreRows (kept rows.old.items shared.old) }
+    ensures own { OnOk result (shared.new ≡ None) }
+    ensures shared { OnErr result (IsSome shared.new) }
+    ensures rows { AreRows (kept rows.new.items shared.new) }
+    ensures same { joined (kept rows.new.items shared.new) ≡ joined (kept rows.old.items shared.old) }
+{
+    let Some(all) = shared.take() else {
+        return Ok(());
     };
-    match edit_chunk(rows, n, PutEntry { item }) {
-        Ok(answer) => answer,
-        Err(PutEntry { item }) => Err(item),
+    match all.into_own(*rows.allocator()) {
+        Ok(own) => {
+            *rows = own;
+            Ok(())
+        }
+        Err(all) => {
+            *shared = Some(all);
+            Err(NoMemory)
+        }
     }
 }
 
-/// Drops the first entries of chunks.
-fn drop_among<T: CopyValue>(rows: &mut Vec<Chunk<T>>, count: usize)
-    requires rows { AreRows rows.old.items }
-    requires count { count ≤ length (joined rows.old.items) }
-    ensures rows { AreRows rows.new.items }
-    ensures entries { joined rows.new.items ≡ drop count (joined rows.old.items) }
+/// Drops the first entries of a shared list.
+fn drop_shared<T: CopyValue>(shared: &mut Option<SharedRows<T>>, count: usize)
+    requires there { IsSome shared.old }
+    requires count { IfSome shared.old (λ rs. count ≤ length (joined rs)) }
+    ensures there { IsSome shared.new }
+    ensures rows { IfSome shared.new AreRows }
+    ensures entries { IfSome shared.old (λ rs. IfSome shared.new (λ ss. joined ss ≡ drop count (joined rs))) }
 {
-    let (whole, left) = whole_rows(rows.as_slice(), count);
-    skip(rows, whole);
-    if left > 0 {
-        drop_front_of_first(rows, left);
+    match shared {
+        // Does not occur.
+        None => (),
+        Some(shared) => shared.drop_front(count),
     }
-}
-
-/// Drops the first chunks.
-fn skip<T: CopyValue>(rows: &mut Vec<Chunk<T>>, count: usize)
-    requires { count ≤ length rows.old.items }
-    ensures { rows.new.items ≡ drop count rows.old.items }
-{
-    rows.drain(..count);
 }

@@ -126,6 +126,24 @@ pub extern "C" fn doorvervain_raw_compact(alloc: Global, fs: &mut VolumeHandle, 
     ffi_calls::compact(alloc, fs.volume(), steps)
 }
 
+/// Prepares for a snapshot or a transaction, whose first changes then copy no list of messages. It changes nothing.
+#[unsafe(no_mangle)]
+pub extern "C" fn doorvervain_raw_make_sharable(fs: &mut VolumeHandle)
+    ensures { fs.new.volume ≡ fs.old.volume }
+{
+    fs.volume().make_sharable();
+}
+
+/// Sorts in the messages that waited while a frozen tree shared the live one, as at the end of a transaction. The volume still
+/// abstracts to the same world, with the same snapshots.
+#[unsafe(no_mangle)]
+pub extern "C" fn doorvervain_raw_condense(alloc: Global, fs: &mut VolumeHandle)
+    ensures means { (w : World) → Means fs.old.volume w → Means fs.new.volume w }
+    ensures snapshots { fs.new.volume.snapshots ≡ fs.old.volume.snapshots }
+{
+    fs.volume().condense(alloc);
+}
+
 // Creates a volume, and stores its handle in `out`.
 fn open(alloc: Global, shape: Shape, out: &mut VolumeOut) -> Result<(), Errno>
     ensures { HandsNew IsNew shape result out.new.at out.new.given }

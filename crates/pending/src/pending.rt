@@ -31,11 +31,16 @@ use std::marker::Model;
 /// The most messages of a tail that are condensed in one call: as many as a node may hold.
 const CONDENSE_AT: usize = 1024;
 
+/// The most messages of a tail that wait while a change of the sorted part would copy the list of chunks that it shares: each search
+/// passes them one by one.
+const DEFER: usize = 64;
+
 /// A pending list: a sorted part, and a tail of newer messages in the order of their arrival.
 ///
-/// A message is appended to the tail if the slot has a mark, or if inserting it into the sorted part failed to allocate. The
-/// next message that is added without a mark first condenses the tail into the sorted part, so a list whose mark is gone is
-/// condensed again.
+/// A message is appended to the tail if the slot has a mark, if inserting it into the sorted part failed to allocate, or if the
+/// sorted part shares its list of chunks with a copy, and the tail is short: so the first changes after a copy copy none of it.
+/// Otherwise the next message that is added without a mark first condenses the tail into the sorted part, so a list whose mark is
+/// gone is condensed again.
 pub struct Pending<U: UpdateTarget> {
     sorted: SortedMsgs<U>,
     tail_msgs: Tail<U>,
@@ -92,6 +97,26 @@ impl<U: Update> Pending<U> {
         ensures takes { Takes U.means self.old.0 (msg ∷ []) self.new.0 }
         ensures room { self.old.1 ≤ self.new.1 + 1 }
     {
+        if self.defers() {
+            self.push_uncondensed(msg);
+        } else {
+            self.push_condensed(msg);
+        }
+    }
+
+    /// Whether a new message is to wait in the tail. No claim depends on it.
+    #[inline(always)]
+    fn defers(&self) -> bool {
+        self.tail_msgs.len() < DEFER && self.sorted.is_shared()
+    }
+
+    /// Like [`Pending::push_reserved`], and condenses the tail first.
+    #[inline(always)]
+    fn push_condensed(&mut self, msg: Msg<U>)
+        requires { 0 < self.old.1 }
+        ensures takes { Takes U.means self.old.0 (msg ∷ []) self.new.0 }
+        ensures room { self.old.1 ≤ self.new.1 + 1 }
+    {
         condense(&mut self.sorted, &mut self.tail_msgs);
         if self.tail_msgs.len() > 0 {
             self.push_uncondensed(msg);
@@ -99,6 +124,15 @@ impl<U: Update> Pending<U> {
         }
         if let Err(refused) = self.sorted.push(self.tail_msgs.allocator(), msg) {
             self.push_uncondensed(refused);
+        }
+    }
+
+    /// Condenses the tail as far as memory is there, unless the sorted part shares its list of chunks, which that would copy.
+    pub fn condense_tail(&mut self)
+        ensures { Takes U.means self.old.0 [] self.new.0 }
+    {
+        if !self.sorted.is_shared() {
+            condense(&mut self.sorted, &mut self.tail_msgs);
         }
     }
 
@@ -230,6 +264,13 @@ impl<U: Update> Pending<U> {
         self.tail_msgs
             .copy_oldest(alloc, count - sorted, &mut front)?;
         Ok(front)
+    }
+
+    /// Prepares for copies, which then take constant time but for the tail, and new messages wait in the tail while a copy exists.
+    pub fn make_sharable(&mut self)
+        ensures { self.new ≡ self.old }
+    {
+        self.sorted.make_sharable();
     }
 
     /// A copy that shares its messages with this list.

@@ -75,6 +75,12 @@ impl<U: Update> SortedMsgs<U> {
         }
     }
 
+    /// Whether a copy shares the list of chunks, which the next change then copies. No claim depends on it.
+    #[inline(always)]
+    pub(crate) fn is_shared(&self) -> bool {
+        self.points.is_shared()
+    }
+
     /// How many messages the list holds.
     #[inline(always)]
     pub(crate) fn len(&self) -> usize
@@ -212,6 +218,13 @@ impl<U: Update> SortedMsgs<U> {
             .copy_into(alloc, self.consumed, count, &mut front)?;
         front.truncate(count);
         Ok(front)
+    }
+
+    /// Puts the list of chunks of the point messages where copies share it.
+    pub(crate) fn make_sharable(&mut self)
+        ensures { self.new ≡ self.old }
+    {
+        self.points.make_sharable();
     }
 
     /// A copy that shares its messages with this list.

@@ -75,6 +75,12 @@ impl<U: Update> PointOps<U> {
         self.count
     }
 
+    /// Whether a copy shares the list of chunks, which the next change then copies. No claim depends on it.
+    #[inline(always)]
+    pub fn is_shared(&self) -> bool {
+        self.rows.is_shared()
+    }
+
     /// The first key and its pending operations.
     pub fn first(&self) -> Option<(&Key, &KeyOps<U>)>
         ensures { option_map (λ p. (p.0.now, p.1.now)) result ≡ slice_get self.now 0 }
@@ -162,6 +168,13 @@ impl<U: Update> PointOps<U> {
         ensures { OnOk result (take count front.new.items ≡ take count (front.old.items ++ point_msgs (left consumed self.now))) }
     {
         copy_msgs(&self.rows, alloc, consumed, count, front)
+    }
+
+    /// Puts the list of chunks where copies share it, as [`CowMap::make_sharable`] does.
+    pub fn make_sharable(&mut self)
+        ensures { self.new ≡ self.old }
+    {
+        self.rows.make_sharable();
     }
 
     /// A copy that shares its messages with this list.

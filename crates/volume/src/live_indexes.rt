@@ -6,7 +6,7 @@ ghost use Rattle.std.specs.Prelude.{◌≡◌, ◌↔◌, ℕ, [], None, IfOk, I
 ghost use Rattle.call_compiler.specs.Compiled.{messages};
 ghost use Rattle.call_compiler.specs.Laws.{HaveTaken};
 ghost use Rattle.volume.specs.Changes.{StepsLive};
-ghost use Rattle.volume.specs.Jobs.{AnswersTaking, AnswersInstalling, BacklogIn, DoneFits, mark_count};
+ghost use Rattle.volume.specs.Jobs.{AnswersTaking, AnswersInstalling, BacklogIn, DoneFits, SameValues, mark_count};
 ghost use Rattle.volume.specs.Marked.{KeepMarkedLists, KeepsMarks, Stands, no_marks, without_mark};
 ghost use Rattle.volume.specs.HistoryOf.{HeaviestIn, pending_in};
 
@@ -174,6 +174,31 @@ impl LiveIndexes {
             block,
             block_kept.as_slice(),
         )
+    }
+
+    /// Prepares for shares of both trees, as `Tree::make_sharable` does.
+    pub fn make_sharable(&mut self)
+        ensures { self.new ≡ self.old }
+    {
+        self.indexes.meta.tree.make_sharable();
+        self.indexes.block.tree.make_sharable();
+    }
+
+    /// Sorts in the messages that waited while other trees shared lists of the roots, unless a root is shared or memory for the
+    /// numbers of marked messages is refused. The list of a marked slot stays as it is.
+    pub fn condense(&mut self, alloc: Global)
+        ensures values { SameValues self.old.indexes self.new.indexes }
+        ensures marks { self.new.marks ≡ self.old.marks }
+        ensures kept { KeepsMarks self.old self.new }
+    {
+        let Ok(meta_kept) = self.meta_marks.kept(alloc, self.indexes.meta.tree.root()) else {
+            return;
+        };
+        let Ok(block_kept) = self.block_marks.kept(alloc, self.indexes.block.tree.root()) else {
+            return;
+        };
+        self.indexes.meta.tree.condense(meta_kept.as_slice());
+        self.indexes.block.tree.condense(block_kept.as_slice());
     }
 
     /// Does a tree step in the index that it names. If it is done, the marks that do not outlive it are removed.

@@ -433,6 +433,29 @@ impl Volume {
         relief
     }
 
+    /// Prepares for a share of the live tree by `snapshot`, `freeze` or `transact`: while it exists, up to 64 new messages wait in
+    /// each list of a root, so that the first changes copy no list.
+    pub fn make_sharable(&mut self)
+        ensures { self.new ≡ self.old }
+    {
+        self.live.make_sharable();
+    }
+
+    /// Sorts in the messages that waited while the live tree was shared, unless it still is. Searches pass such messages one by one.
+    /// The volume abstracts to the same world.
+    ///
+    /// Without it, the next call that appends to the list while it is not shared does the same.
+    pub fn condense(&mut self, alloc: Global)
+        ensures means { (w : World) → Means self.old w → Means self.new w }
+        ensures root { self.new.live.modified ≡ self.old.live.modified }
+        ensures snapshots { self.new.snapshots ≡ self.old.snapshots }
+        ensures marks { self.new.marks ≡ self.old.marks }
+        ensures kept { KeepsMarks (live_of self.old) (live_of self.new) }
+    {
+        self.live.condense(alloc);
+        self.live.assert_invariant();
+    }
+
     /// The index with more pending pieces, or the metadata index if both have as many. It allocates nothing.
     pub fn busier(&self) -> Index
         ensures index { result ≡ busier self.now.live.indexes }

@@ -169,6 +169,40 @@ pub fn append_copies<U: Update>(
     Ok(())
 }
 
+/// Prepares the slots' pending lists for copies.
+fn make_lists_sharable<U: Update>(slots: &mut [Slot<U>])
+    ensures { map see_slot slots.new ≡ map see_slot slots.old }
+{
+    let Some((slot, slots)) = slots.split_first_mut() else {
+        return;
+    };
+    slot.pending.make_sharable();
+    make_lists_sharable(slots)
+}
+
+/// Condenses a list, unless `plain`.
+fn condense_list<U: Update>(pending: &mut Pending<U>, plain: bool)
+    ensures takes { Takes U.means pending.old.0 [] pending.new.0 }
+    ensures kept { plain ≡ true → pending.new.0 ≡ pending.old.0 }
+{
+    if !plain {
+        pending.condense_tail();
+    }
+}
+
+/// Condenses the slots' pending lists; if a slot's number is above 0, its list is not condensed.
+fn condense_lists<U: Update>(slots: &mut [Slot<U>], kept: &[u32])
+    ensures taken { HaveTaken U.means (seen_slots slots.old) (parts_of None [] (seen_slots slots.old)) (seen_slots slots.new) }
+    ensures kept { KeepLists kept.now (parts_of None [] (seen_slots slots.old)) (seen_slots slots.old) (seen_slots slots.new) }
+{
+    let Some((slot, slots)) = slots.split_first_mut() else {
+        return;
+    };
+    let (plain, kept) = first_kept(kept);
+    condense_list(&mut slot.pending, plain);
+    condense_lists(slots, kept)
+}
+
 /// Appends a message to a list, or leaves the list as it was.
 fn push<U: Update>(pending: &mut Pending<U>, msg: Msg<U>) -> Result<(), NoMemory>
     ensures ok { OnOk result (Takes U.means pending.old.0 (msg ∷ []) pending.new.0) }
@@ -205,6 +239,31 @@ impl<U: Update> Node<U> {
             unreachable!()
         };
         append_one(alloc, slots.as_mut_slice(), msg)
+    }
+
+    /// Prepares the pending lists of a root's slots for copies.
+    pub(crate) fn make_sharable(&mut self)
+        requires { IsRoot self.old }
+        ensures { self.new ≡ self.old }
+    {
+        let Body::Inner(slots) = self.body_mut() else {
+            // A root is an inner node.
+            unreachable!()
+        };
+        make_lists_sharable(slots.as_mut_slice());
+    }
+
+    /// Condenses the pending lists of a root's slots; if a slot's number is above 0, its list is not condensed.
+    pub(crate) fn condense(&mut self, kept: &[u32])
+        requires { IsRoot self.old }
+        ensures taken { IsAppended U.means [] self.old self.new }
+        ensures kept { KeepsLists kept.now [] self.old self.new }
+    {
+        let Body::Inner(slots) = self.body_mut() else {
+            // A root is an inner node.
+            unreachable!()
+        };
+        condense_lists(slots.as_mut_slice(), kept);
     }
 
     /// Appends messages to the slots of a root; if a slot's number is above 0, its list is not condensed.

@@ -36,6 +36,29 @@ impl<U: Update> Tree<U> {
         Arc::make_mut(root)?.append_kept(alloc, msgs, kept)
     }
 
+    /// Prepares for shares of the tree: the first change after one then copies no list of the root, as long as fewer than 64 new
+    /// messages wait in it. It does nothing if another tree shares the root.
+    pub fn make_sharable(&mut self)
+        ensures { self.new ≡ self.old }
+    {
+        let Some(root) = Arc::get_mut(&mut self.root) else {
+            return;
+        };
+        root.make_sharable();
+    }
+
+    /// Condenses the lists of the root's slots, unless another tree shares the root: messages that waited while a list was shared
+    /// are sorted in. The list of the slot with index `i` stays as it is if `kept[i]` is above 0. A missing number is 0.
+    pub fn condense(&mut self, kept: &[u32])
+        ensures appended { Appended U.means [] self.old self.new }
+        ensures kept { KeepsLists kept.now [] self.old.root self.new.root }
+    {
+        let Some(root) = Arc::get_mut(&mut self.root) else {
+            return;
+        };
+        root.condense(kept);
+    }
+
     /// Appends one message to the root's slots, or leaves the tree as it was: what `append` does with this message alone,
     /// without a list of messages.
     pub fn append_one(&mut self, alloc: Global, msg: Msg<U>) -> Result<(), NoMemory>

@@ -2,7 +2,7 @@ use Rattle.std.proofs.Common.{◌≡◌, ◌∷◌, ap, sym, ◌∙◌, Some}
 use Rattle.std.specs.List.{slice_get}
 use Rattle.cow_map.specs.CowMap.{joined}
 use Rattle.cow_map.proofs.Entries.{first_parts}
-use Rattle.cow_map.proofs.map.move_first_among.Goals as goal
+use Rattle.cow_map.proofs.changes.move_first_among.Goals as goal
 
 pub returns-in-Ok-clause-moved : goal.returns-in-Ok-clause-moved
 returns-in-Ok-clause-moved g c =

@@ -3,7 +3,7 @@ use Rattle.cow_map.specs.CowMap.{joined, chunk_index}
 use Rattle.cow_map.specs.Changes.{IsPut}
 use Rattle.cow_map.proofs.Lifts.{put_rows, put_whole}
 use Rattle.cow_map.proofs.TableFacts.{row_rises}
-use Rattle.cow_map.proofs.map.put_item_among.Goals as goal
+use Rattle.cow_map.proofs.changes.put_item_among.Goals as goal
 
 pub edit_chunk-requires-clause-fits : goal.edit_chunk-requires-clause-fits
 edit_chunk-requires-clause-fits g c = row_rises c.split_full.new.rows.items c.in-Some.n c.in-Some.ensures.rows c.in-Some.ensures.bound
