@@ -195,6 +195,8 @@ uint8_t doorvervain_raw_load(uint16_t fanout, uint16_t pending, uint16_t leaf, c
 uint8_t doorvervain_raw_image(struct doorvervain_frozen *tree, uint8_t *out, size_t capacity, size_t *size);
 uint8_t doorvervain_raw_delta(struct doorvervain *fs, const uint8_t *from, size_t from_length, const uint8_t *to,
     size_t to_length, uint8_t *out, size_t capacity, size_t *size);
+uint8_t doorvervain_raw_changed_paths(struct doorvervain *fs, const uint8_t *from, size_t from_length, const uint8_t *to,
+    size_t to_length, uint8_t *out, size_t capacity, size_t *size);
 uint8_t doorvervain_raw_apply_delta(struct doorvervain *fs, const uint8_t *text, size_t length, uint64_t *line);
 uint8_t doorvervain_raw_print_begin(struct doorvervain_frozen tree, struct doorvervain_printer *out);
 uint8_t doorvervain_raw_print_next(
@@ -873,7 +875,26 @@ static inline uint8_t doorvervain_load_read(struct doorvervain *fs, uint16_t fan
     return number;
 }
 
-// ---- deltas between two trees, as text (docs/FORMATS.md has its lines)
+// ---- what differs between two trees, and deltas, which say so as text (docs/FORMATS.md has its lines)
+
+// Lists the paths at which two trees of the volume differ: each as text with a byte 0 behind it, a directory before what is below it. Each
+// tree is the snapshot of that name, or the live tree if the name's length is 0. A path is listed if its entry came or went, or has another
+// kind, mtime or length, or other bytes. The keys that calls touch after a snapshot are noted, so the time depends on what they changed, not
+// on the size of the tree. Once 4 MiB of keys were noted, a frozen tree was restored or a transaction was rolled back, both trees are read
+// instead. `*size` is the length of the list in bytes, also with ERANGE: the buffer is too short; a call for the size alone makes the list
+// too. Fails as doorvervain_delta does.
+static inline uint8_t doorvervain_changed_paths(const struct doorvervain *fs, const char *from, size_t from_length,
+    const char *to, size_t to_length, void *out, size_t capacity, size_t *size) {
+    if (!size) return DOORVERVAIN_NULL;
+    *size = 0;
+    uint8_t err = doorvervain_bad_args(fs, from, from_length);
+    if (!err) err = doorvervain_bad_args(fs, to, to_length);
+    if (!err) err = doorvervain_bad_args(fs, out, capacity);
+    if (err) return err;
+    struct doorvervain same = *fs;
+    return doorvervain_raw_changed_paths(&same, doorvervain_in(from), from_length, doorvervain_in(to), to_length,
+        doorvervain_out(out), capacity, size);
+}
 
 // Writes the delta from one tree of the volume to another into a buffer. Each tree is the snapshot of that name, or the live tree if the
 // name's length is 0. `*size` is the delta's length in bytes, also with ERANGE: the buffer is too short. A call for the size alone makes

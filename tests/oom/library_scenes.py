@@ -174,6 +174,8 @@ def texts():
     yield Scene("images", "a volume", Made("open", *SMALL, at=None), ())
     yield Scene("deltas", "between snapshots", Text("delta", b"s", b"t"))
     yield Scene("deltas", "apply", Delta("apply_delta", b"s"), wanted=None)
+    yield Scene("deltas", "paths between snapshots", Text("changed_paths", b"s", b"t"))
+    yield Scene("deltas", "paths since a snapshot", Text("changed_paths", b"s", b""))
 
 
 def compaction():

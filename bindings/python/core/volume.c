@@ -448,41 +448,80 @@ static PyObject *volume_snapshots(PyObject *self, PyObject *unused) {
     return list;
 }
 
-// ---- deltas
+// ---- what differs between two trees
 
-// The arguments are two names.
+// A call about two trees, which are named.
+struct between {
+    struct signature signature;
+    fill call;
+    PyObject *(*result)(const struct listing *it);
+};
+
 static uint8_t look_delta(Tree *tree, const struct text *names, uint8_t *out, size_t capacity, size_t *size) {
     return doorvervain_delta(
         &tree->volume, names[0].at, names[0].length, names[1].at, names[1].length, out, capacity, size);
 }
 
-// The delta between two names, as bytes. `given` has them as the caller gave them, for errors.
-static PyObject *delta_of(Tree *tree, const struct text *names, PyObject *const *given) {
+static uint8_t look_changed(Tree *tree, const struct text *names, uint8_t *out, size_t capacity, size_t *size) {
+    return doorvervain_changed_paths(
+        &tree->volume, names[0].at, names[0].length, names[1].at, names[1].length, out, capacity, size);
+}
+
+static PyObject *bytes_in(const struct listing *it) {
+    return PyBytes_FromStringAndSize((const char *)it->at, (Py_ssize_t)it->size);
+}
+
+// The texts, each of which ends with a byte 0, as a list.
+static PyObject *texts_in(const struct listing *it) {
+    const char *at = (const char *)it->at, *end = at + it->size;
+    PyObject *list = PyList_New(0);
+    while (list && at < end) {
+        size_t length = strlen(at);
+        PyObject *text = PyUnicode_DecodeUTF8(at, (Py_ssize_t)length, "surrogateescape");
+        if (!text || PyList_Append(list, text)) Py_CLEAR(list);
+        Py_XDECREF(text);
+        at += length + 1;
+    }
+    return list;
+}
+
+// What a call says of the trees of two names. `given` has them as the caller gave them, for errors.
+static PyObject *ask_between(
+    Tree *tree, const struct between *between, const struct text *names, PyObject *const *given) {
     struct listing it;
     uint8_t number;
-    PyObject *text = NULL;
+    PyObject *result = NULL;
     it.at = it.few;
     if (enter_to_look(tree)) return NULL;
     Py_BEGIN_ALLOW_THREADS
-    number = filled(tree, names, look_delta, &it);
+    number = filled(tree, names, between->call, &it);
     Py_END_ALLOW_THREADS
     leave(tree);
     if (number) refuse_name(number, given[0], given[1]);
-    else text = PyBytes_FromStringAndSize((const char *)it.at, (Py_ssize_t)it.size);
+    else result = between->result(&it);
     listing_free(&it);
-    return text;
+    return result;
 }
 
-static const struct signature delta_signature = {"delta", 1, 2, {"old", "new"}};
-
-static PyObject *volume_delta(PyObject *self, PyObject *const *words, Py_ssize_t count, PyObject *named) {
-    PyObject *args[4], *text = NULL;
+static PyObject *between_names(
+    PyObject *self, const struct between *between, PyObject *const *words, Py_ssize_t count, PyObject *named) {
+    PyObject *args[4], *result = NULL;
     struct text names[2] = {{NULL, NULL, 0}, {NULL, NULL, 0}};
-    if (words_of(&delta_signature, words, count, named, args) || text_of(args[0], &names[0])) return NULL;
-    if (!args[1] || !text_of(args[1], &names[1])) text = delta_of((Tree *)self, names, args);
+    if (words_of(&between->signature, words, count, named, args) || text_of(args[0], &names[0])) return NULL;
+    if (!args[1] || !text_of(args[1], &names[1])) result = ask_between((Tree *)self, between, names, args);
     Py_DECREF(names[0].owner);
     Py_XDECREF(names[1].owner);
-    return text;
+    return result;
+}
+
+static PyObject *volume_delta(PyObject *self, PyObject *const *words, Py_ssize_t count, PyObject *named) {
+    static const struct between delta = {{"delta", 1, 2, {"old", "new"}}, look_delta, bytes_in};
+    return between_names(self, &delta, words, count, named);
+}
+
+static PyObject *volume_changed_paths(PyObject *self, PyObject *const *words, Py_ssize_t count, PyObject *named) {
+    static const struct between changed = {{"changed_paths", 1, 2, {"old", "new"}}, look_changed, texts_in};
+    return between_names(self, &changed, words, count, named);
 }
 
 static PyObject *volume_apply_delta(PyObject *self, PyObject *given) {
@@ -638,6 +677,17 @@ static PyMethodDef volume_methods[] = {
         "Restores the volume's tree from the snapshot of that name, or from a frozen tree, also one of another volume. Either is\n"
         "kept."},
     {"snapshots", volume_snapshots, METH_NOARGS, "snapshots($self, /)\n--\n\nThe names of the snapshots, in order."},
+    {"changed_paths", FAST(volume_changed_paths),
+        "changed_paths($self, /, old, new='')\n--\n\n"
+        "The paths at which two trees differ, a directory before what is below it. Each tree is the snapshot of that name; an empty\n"
+        "name is the current tree. A path is listed if its entry came or went, or has another kind, mtime or size, or other bytes.\n"
+        "It takes as long as what was changed, whatever the size of the tree.\n\n"
+        ">>> volume = Volume()\n"
+        ">>> volume.create(\"/x\")\n"
+        ">>> volume.snapshot(\"yesterday\")\n"
+        ">>> volume.create(\"/y\")\n"
+        ">>> volume.changed_paths(\"yesterday\")\n"
+        "['/', '/y']\n"},
     {"delta", FAST(volume_delta),
         "delta($self, /, old, new='')\n--\n\n"
         "The delta from one tree to another, as text for `apply_delta`. Each is the snapshot of that name; an empty name is the\n"

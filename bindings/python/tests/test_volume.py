@@ -444,6 +444,25 @@ class Snapshots(unittest.TestCase):
         error = refused(self, OSError, errno.EINVAL, Volume.load, "D / 5\n", shape=(0, 0, 0))
         self.assertNotIsInstance(error, BadImage)
 
+    def test_changed_paths(self):
+        volume = Volume(clock=lambda: 9)
+        volume.mkdir("/d")
+        volume.write_bytes("/d/x", b"abc")
+        volume.snapshot("before")
+        self.assertEqual(volume.changed_paths("before"), [])
+        volume.write_bytes("/d/x", b"abd")
+        volume.create(b"/\xff")
+        volume.snapshot("after")
+        self.assertEqual(volume.changed_paths("before"), ["/d/x", "/\udcff"])
+        self.assertEqual(volume.changed_paths("", new="before"), ["/d/x", "/\udcff"])
+        names = [f"/d/name {number:04}" for number in range(500)]
+        for name in names:
+            volume.create(name)
+        self.assertEqual(volume.changed_paths(old="after"), names)
+        self.assertEqual(volume.changed_paths("before", "after"), ["/d/x", "/\udcff"])
+        refused(self, FileNotFoundError, errno.ENOENT, volume.changed_paths, "none")
+        refused(self, OSError, errno.EINVAL, volume.changed_paths, "a/b")
+
     def test_delta(self):
         volume = Volume(clock=lambda: 9)
         volume.snapshot("empty")

@@ -100,6 +100,10 @@ extern "C" {
         fs: *mut RawHandle, from: *const u8, from_length: usize, to: *const u8, to_length: usize, out: *mut u8, capacity: usize,
         size: *mut usize,
     ) -> u8;
+    fn doorvervain_raw_changed_paths(
+        fs: *mut RawHandle, from: *const u8, from_length: usize, to: *const u8, to_length: usize, out: *mut u8, capacity: usize,
+        size: *mut usize,
+    ) -> u8;
     fn doorvervain_raw_apply_delta(fs: *mut RawHandle, text: *const u8, length: usize, line: *mut u64) -> u8;
     fn doorvervain_raw_frozen_close(tree: RawHandle);
     fn doorvervain_raw_compact(fs: *mut RawHandle, steps: u32) -> u32;
@@ -505,6 +509,17 @@ impl VolumeHandle {
             filled(1024, |out, size| unsafe {
                 let (out_at, capacity) = (out.as_mut_ptr(), out.len());
                 doorvervain_raw_delta(raw, from_at, from.len(), to_at, to.len(), out_at, capacity, size)
+            })
+        })
+    }
+
+    /// The texts of paths, each with a byte 0 behind it.
+    pub(crate) fn changed_paths(&self, from: &[u8], to: &[u8]) -> Result<Vec<u8>, Errno> {
+        let (from_at, to_at) = (from.as_ptr(), to.as_ptr());
+        self.look(|raw| {
+            filled(1024, |out, size| unsafe {
+                let (out_at, capacity) = (out.as_mut_ptr(), out.len());
+                doorvervain_raw_changed_paths(raw, from_at, from.len(), to_at, to.len(), out_at, capacity, size)
             })
         })
     }

@@ -2,10 +2,11 @@
 use crate::errno::{DeltaError, Errno, LoadError};
 use crate::listing::{Listing, Lists, Stat, Walk};
 use crate::raw::{FrozenHandle, LoaderHandle, PathCall, Printer, Reads, SnapshotCall, VolumeHandle};
+use std::ffi::OsStr;
 use std::mem::ManuallyDrop;
 use std::ops::Deref;
 use std::os::unix::ffi::OsStrExt;
-use std::path::Path;
+use std::path::{Path, PathBuf};
 use std::sync::Arc;
 use std::time::{SystemTime, UNIX_EPOCH};
 use std::{fmt, io};
@@ -661,6 +662,29 @@ impl Volume {
     /// Those of the writer, which may have a part of the text then; `ENOMEM`.
     pub fn write_image<W: io::Write>(&self, writer: W) -> io::Result<()> {
         self.freeze()?.write_image(writer)
+    }
+
+    /// The paths at which two trees differ, a directory before what is below it: each tree is the snapshot of that name, or the current
+    /// tree if the name is empty. A path is listed if its entry came or went, or has another kind, mtime or length, or other bytes. It
+    /// takes as long as what was changed, whatever the size of the tree.
+    ///
+    /// ```
+    /// # use doorvervain::{Shape, Volume};
+    /// # use std::path::Path;
+    /// let volume = Volume::load(b"D / 5\nF /x 3 7\nb 0 616263\n", Shape::USUAL).unwrap();
+    /// volume.snapshot("yesterday").unwrap();
+    /// volume.write_at("/x", 1, b"-").unwrap();
+    /// assert_eq!(volume.changed_paths("yesterday", "").unwrap(), [Path::new("/x")]);
+    /// ```
+    ///
+    /// # Errors
+    /// `ENOENT`: no such snapshot; `EINVAL`: not a name; `ENOMEM`.
+    pub fn changed_paths(&self, from: &str, to: &str) -> Result<Vec<PathBuf>, Errno> {
+        let texts = self.handle.changed_paths(from.as_bytes(), to.as_bytes())?;
+        let ended = texts.split_inclusive(|byte| *byte == 0);
+        Ok(ended
+            .map(|text| PathBuf::from(OsStr::from_bytes(&text[..text.len() - 1])))
+            .collect())
     }
 
     /// The delta from one tree to another, as text for [`Volume::apply_delta`]: each is the snapshot of that name, or the current

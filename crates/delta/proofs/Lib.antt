@@ -9,3 +9,5 @@ pub mod PrintFacts
 pub mod BeginFacts
 pub mod LoaderFacts
 pub mod DigestFacts
+pub mod DifferingFacts
+pub mod ChangedFacts

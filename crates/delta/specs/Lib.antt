@@ -3,3 +3,4 @@ pub mod Texts
 pub mod Patching
 pub mod Walks
 pub mod Applies
+pub mod Changed

@@ -6,7 +6,10 @@
 #![tactic(auto)]
 
 pub mod apply;
+pub mod changed;
 pub mod command;
+mod compare;
+mod differing;
 pub mod digest;
 pub mod fault;
 pub mod header;
@@ -18,6 +21,7 @@ pub mod print;
 pub mod reading;
 
 pub use apply::apply_delta;
+pub use changed::changed_paths;
 pub use digest::image_digest;
 pub use fault::{DeltaFault, PrintFault};
 pub use print::print_delta;

@@ -2,7 +2,7 @@
 ghost use Rattle.std.specs.Prelude.{◌≡◌, ◌↔◌, IfErr, IfOk, Ok};
 ghost use Rattle.reference.specs.Worlds.{World};
 ghost use Rattle.volume.specs.Volumes.{Means};
-ghost use Rattle.ffi_calls.specs.Differences.{LacksOne, PrintsDifference};
+ghost use Rattle.ffi_calls.specs.Differences.{LacksOne, PrintsChanged, PrintsDifference};
 ghost use Rattle.delta.specs.Applies.{Applied};
 ghost use Rattle.doorvervain.specs.Differences.{DeltaFaultReported, DeltaReported, NotApplied};
 ghost use Rattle.doorvervain.specs.Numbers.{IsNumber, IsShort, IsSizeNumber, short, sized_by, reported};
@@ -35,6 +35,31 @@ pub extern "C" fn doorvervain_raw_delta(
 {
     let reported = ffi_calls::delta(alloc, fs.volume(), old, new, out);
     sized(reported, out.len(), size)
+}
+
+/// Lists the paths at which two trees of the volume differ, in the order of their keys: for each its text and a zero byte. Each tree is
+/// named by its snapshot, and the live tree by an empty text. Stores the length of the list in bytes in `size`, and writes it only if
+/// the buffer is large enough for all of it. The result is that of a short buffer if the capacity is smaller but not 0. Capacity 0 only
+/// requests the size.
+#[unsafe(no_mangle)]
+pub extern "C" fn doorvervain_raw_changed_paths(
+    alloc: Global,
+    fs: &mut VolumeHandle,
+    old: &[u8],
+    new: &[u8],
+    out: &mut [u8],
+    size: &mut usize,
+) -> u8
+    ensures listed { (w : World) → Means fs.old.volume w → IfOk (sized_by result size.new) (λ n. PrintsChanged old.now new.now w (Ok n) out.old out.new) }
+    ensures lacking { (w : World) → Means fs.old.volume w → IfErr (sized_by result size.new) (LacksOne old.now new.now w) }
+    ensures short { (result ≡ short) ↔ IsShort size.new out.old }
+    ensures number { IsSizeNumber result }
+    ensures refused { IfErr (sized_by result size.new) (λ _. size.new ≡ 0) }
+    ensures untouched { IfErr (sized_by result size.new) (λ _. out.new ≡ out.old) }
+    ensures kept { fs.new.volume ≡ fs.old.volume }
+{
+    let listed = ffi_calls::changed_paths(alloc, fs.volume(), old, new, out);
+    sized(listed, out.len(), size)
 }
 
 /// Applies a delta to the volume's live tree. Returns 0 if this was done, and the volume is then a new one without snapshots.

@@ -6,6 +6,7 @@
 //! for texts.
 #![tactic(auto)]
 
+pub mod changed;
 pub mod compaction;
 pub mod copies;
 pub mod deltas;
@@ -18,6 +19,7 @@ pub mod reads;
 pub mod snapshots;
 pub mod writes;
 
+pub use changed::changed_paths;
 pub use compaction::compact;
 pub use copies::copy_range;
 pub use deltas::delta;

@@ -191,7 +191,7 @@ pub(crate) fn put_block<W: Write>(
 }
 
 /// The length of the bytes up to the last that is not zero.
-pub(crate) fn trimmed_len(bytes: &[u8]) -> usize
+pub fn trimmed_len(bytes: &[u8]) -> usize
     ensures kept { take result bytes.now ≡ trimmed bytes.now }
     ensures fits { result ≤ length bytes.now }
 {
