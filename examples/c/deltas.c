@@ -1,4 +1,4 @@
-// Prints deltas between trees of a volume, and applies them. It prints what it finds; examples/run compares that with
+// Lists the paths at which trees of a volume differ, prints deltas between them, and applies them. It prints what it finds; examples/run compares that with
 // deltas.expected, which was written by hand.
 //
 // Built with -DREFUSE (examples/run does so), it also has each allocation of a call fail in turn.
@@ -33,6 +33,19 @@ static void say_delta(struct doorvervain *fs, const char *from, const char *to) 
     printf("from '%s' to '%s': %d\n%.*s", from, to, number, (int)size, (const char *)text);
 }
 
+static uint8_t changed(struct doorvervain *fs, const char *from, const char *to, size_t capacity, size_t *size) {
+    return doorvervain_changed_paths(fs, from, strlen(from), to, strlen(to), text, capacity, size);
+}
+
+static void say_changed(struct doorvervain *fs, const char *from, const char *to) {
+    size_t size = OLD;
+    uint8_t number = changed(fs, from, to, CAPACITY, &size);
+    printf("changed from '%s' to '%s': %d", from, to, number);
+    for (const char *path = (const char *)text; path < (const char *)text + size; path += strlen(path) + 1)
+        printf(" %s", path);
+    printf("\n");
+}
+
 static void say_image(struct doorvervain *fs) {
     static uint8_t image[CAPACITY];
     struct doorvervain_frozen tree = {0};
@@ -51,6 +64,13 @@ static void differences(struct doorvervain *fs) {
     say_delta(fs, "s", "s");
     say_delta(fs, "", "s");
     say_delta(fs, "s", "");
+    say_changed(fs, "s", "s");
+    say_changed(fs, "s", "");
+    printf("rmtree: %d\n", doorvervain_rmtree(fs, "/d", 2, 10));
+    say_changed(fs, "", "s");
+    printf("restore: %d\n", doorvervain_restore(fs, "s", 1));
+    say_changed(fs, "s", "");
+    printf("write: %d\n", doorvervain_write(fs, "/a", 2, 2, "d", 1, 9));
 }
 
 // The text is written if it fits, and its size is returned.
@@ -63,6 +83,11 @@ static void rooms(struct doorvervain *fs) {
     printf(", size %zu, %s\n", size, text[0] == 'x' ? "nothing written" : "written");
     uint8_t enough = delta(fs, "s", "", size, &size);
     printf("just enough: %d, size %zu, %s\n", enough, size, text[size] == 'x' ? "nothing behind" : "written behind");
+    memset(text, 'x', CAPACITY);
+    printf("paths, a byte too little: %d", changed(fs, "s", "", 2, &size));
+    printf(", size %zu, %s\n", size, text[0] == 'x' ? "nothing written" : "written");
+    enough = changed(fs, "s", "", size, &size);
+    printf("paths, just enough: %d, size %zu, %s\n", enough, size, text[size] == 'x' ? "nothing behind" : "written behind");
 }
 
 // Applied to a volume with the first tree, the delta makes the second, without snapshots. With another tree it fails.
@@ -102,6 +127,11 @@ static void refusals(struct doorvervain *fs) {
     say_refusal(fs, "all stays", FIRST "= 7\nend\n");
     uint8_t number = doorvervain_raw_delta(fs, bytes_of("no"), 2, text, 0, text, CAPACITY, &size);
     printf("no snapshot: %d, size %zu\n", number, size);
+    printf("no snapshot for paths: %d", changed(fs, "no", "a/b", CAPACITY, &size));
+    printf(", size %zu\n", size);
+    printf("no volume for paths: %d, %d\n", changed(NULL, "", "", CAPACITY, &size), changed(&closed, "", "", CAPACITY, &size));
+    printf("null for paths: %d, %d\n", doorvervain_changed_paths(fs, NULL, 1, NULL, 0, text, CAPACITY, &size),
+        doorvervain_changed_paths(fs, NULL, 0, NULL, 0, text, CAPACITY, NULL));
     printf("no name: %d", delta(fs, "", "a/b", CAPACITY, &size));
     printf(", size %zu\n", size);
     printf("two bad names: %d", delta(fs, "a/b", "no", CAPACITY, &size));
@@ -124,6 +154,21 @@ static int has(struct doorvervain *fs, uint64_t length) {
     return !doorvervain_stat(fs, "/a", 2, &kind, &size, &modified) && size == length;
 }
 
+// Makes each allocation of a list of paths fail in turn: it returns ENOMEM and a size of 0.
+static void refused_list(struct doorvervain *fs) {
+    size_t size = OLD;
+    int right = 1;
+    long count = 0;
+    uint8_t number = DOORVERVAIN_ENOMEM;
+    while (number == DOORVERVAIN_ENOMEM && right) {
+        refused_request = ++count;
+        number = changed(fs, "s", "", CAPACITY, &size);
+        refused_request = 0;
+        right = number == DOORVERVAIN_DONE ? size == 3 : number == DOORVERVAIN_ENOMEM && !size;
+    }
+    printf("paths with each request refused: %d, %s\n", number, right && count > 3 ? "as it should be" : "not so");
+}
+
 // Makes each allocation of both calls fail in turn: they return ENOMEM, and the volume is unchanged.
 static void refused_memory(struct doorvervain *fs) {
     size_t size = OLD;
@@ -134,6 +179,7 @@ static void refused_memory(struct doorvervain *fs) {
     printf("load: %d\n", load(fs, "D / 5\nF /a 3 7\nb 0 616263\n"));
     printf("snapshot: %d\n", doorvervain_snapshot(fs, "s", 1));
     printf("truncate: %d\n", doorvervain_truncate(fs, "/a", 2, 1, 9));
+    refused_list(fs);
     while (number == DOORVERVAIN_ENOMEM && right) {
         refused_request = ++count;
         number = delta(fs, "s", "", CAPACITY, &size);

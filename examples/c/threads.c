@@ -435,12 +435,14 @@ static void fork_guarded(struct run *run) {
     doorvervain_close(&fork);
 }
 
-// Asks for the size of the delta from the snapshot to the tree, and for the names of the snapshots, while others read the volume.
+// Asks for the sizes of the delta from the snapshot to the tree and of the list of paths that differ, and for the names of the
+// snapshots, while others read the volume.
 static void look_at_snapshots(struct run *run) {
     char name[64];
     size_t size, bytes;
     pthread_rwlock_rdlock(&guarded.lock);
     check(run, doorvervain_delta(&guarded.fs, "s", 1, "", 0, NULL, 0, &bytes), DOORVERVAIN_DONE);
+    check(run, doorvervain_changed_paths(&guarded.fs, "s", 1, "", 0, NULL, 0, &size), DOORVERVAIN_DONE);
     check(run, doorvervain_snapshot_name(&guarded.fs, 0, name, sizeof name, &size), DOORVERVAIN_DONE);
     run->wrong += size != 1 || name[0] != 's' || !bytes;
     check(run, doorvervain_snapshot_name(&guarded.fs, 1, name, sizeof name, &size), DOORVERVAIN_ENOENT);

@@ -172,6 +172,8 @@ static void of_the_volume(void) {
     say("fork", doorvervain_fork(&fs, &fork_of_it));
     watch();
     say("delta", doorvervain_delta(&fs, "s", 1, "", 0, out, sizeof out, &got));
+    watch();
+    say("changed_paths", doorvervain_changed_paths(&fs, "s", 1, "", 0, out, sizeof out, &got));
 }
 
 int main(void) {
