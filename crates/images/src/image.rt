@@ -3,7 +3,7 @@
 //!
 //! Each tree has one image: a line for each entry in key order, the root first, and after that of a file a line for
 //! each block with a byte other than zero.
-ghost use Rattle.std.specs.Prelude.{◌≡◌, ◌≤◌, ◌++◌, ◌∷◌, [], ℕ, List, Err, decimal, flat_map, length, take, OnOk, OnErr};
+ghost use Rattle.std.specs.Prelude.{◌≡◌, ◌++◌, ◌∷◌, [], ℕ, List, Err, decimal, flat_map, OnOk, OnErr};
 ghost use Rattle.std.specs.Io.KnownBytes.{Appends};
 ghost use Rattle.reference.specs.Image.{Second, block_line, image, moment_text, path_text, percent, trimmed};
 ghost use Rattle.reference.specs.Tree.{Tree};
@@ -20,7 +20,7 @@ use pathkey::{NoMemory, Path};
 use std::alloc::Global;
 use std::io::Write;
 use textio::output::{WriteFailed, put};
-use textio::text::{put_hex, put_number, put_number_line, put_path};
+use textio::text::{put_hex, put_number, put_number_line, put_path, trimmed_len};
 use thiserror::Error;
 use volume::{BlockWalk, Frozen};
 
@@ -188,16 +188,4 @@ pub(crate) fn put_block<W: Write>(
     put_hex(writer, kept)?;
     put(writer, b"\n")?;
     Ok(())
-}
-
-/// The length of the bytes up to the last that is not zero.
-pub fn trimmed_len(bytes: &[u8]) -> usize
-    ensures kept { take result bytes.now ≡ trimmed bytes.now }
-    ensures fits { result ≤ length bytes.now }
-{
-    let mut kept = bytes.len();
-    while kept > 0 && bytes[kept - 1] == 0 {
-        kept -= 1;
-    }
-    kept
 }

@@ -10,7 +10,7 @@ ghost use Rattle.std.specs.Prelude.{List, ℕ, decimal, flat_map};
 ghost use Rattle.images.specs.Image.{version_of};
 ghost use Rattle.images.specs.ImageLines.{CutsMoment, Guesses, IsRoot, Spells, line_of};
 
-use crate::image::{put_block, put_directory, put_file, trimmed_len};
+use crate::image::{put_block, put_directory, put_file};
 use crate::version::{ImageVersion, directory_letter, file_letter};
 use block_index::block::BLOCK;
 use bytes::Bytes;
@@ -20,6 +20,7 @@ use pathkey::{Errno, NoMemory, Path};
 use reference::GREATEST_FILE;
 use std::alloc::Global;
 use textio::output::WriteFailed;
+use textio::text::trimmed_len;
 use textio::values::{read_number, read_path};
 use textio::words::split_space;
 

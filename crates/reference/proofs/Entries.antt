@@ -28,7 +28,7 @@ nothing_seen Missing h = refl
 nothing_seen Blocked h = refl
 
 -- a new entry that holds nothing is seen where nothing was
-made_becomes : (t t' : Tree) (p : Path) (x : Tree) → Bare (Found x) → made t p x ≡ (t', Done) → Became t t' p None (sighted (Found x))
+pub made_becomes : (t t' : Tree) (p : Path) (x : Tree) → Bare (Found x) → made t p x ≡ (t', Done) → Became t t' p None (sighted (Found x))
 made_becomes t t' p x bare = made_cases (Gives t' Done (Became t t' p None (sighted (Found x)))) t p x (not_done t t' (Became t t' p None (sighted (Found x)))) (λ ne parent_is none e. record {
   before = nothing_seen (entry_at t p) none;
   point = point_from_edit t t' p (Some x) ne parent_is (bare_none (entry_at t p) none) bare (ap (λ (o : Outcome). o.0) e);
@@ -50,20 +50,20 @@ out_becomes t t' p a ne stands is bare e = record {
 }
 
 -- an empty directory goes
-abbrev DirectoryGone : Tree → Tree → Path → Type 0
+abbrev pub DirectoryGone : Tree → Tree → Path → Type 0
 DirectoryGone t t' p = (date : ℕ) × Became t t' p (Some (Seen Directory date)) None
 
-rmdir_becomes : (at : ℕ) (t t' : Tree) (p : Path) → ◌≡◌ {A = Outcome} (changed at t (Rmdir p)) (t', Done) → DirectoryGone t t' p
+pub rmdir_becomes : (at : ℕ) (t t' : Tree) (p : Path) → ◌≡◌ {A = Outcome} (changed at t (Rmdir p)) (t', Done) → DirectoryGone t t' p
 unfolding changed
 rmdir_becomes at t t' p = directory_removed_cases (Gives t' Done (DirectoryGone t t' p)) t p (not_done t t' (DirectoryGone t t' p)) (λ ne there no_file not_full e.
     let f : (date : ℕ) × (entry_at t p ≡ Found (Dir date nothing)) = empty_from (entry_at t p) there no_file not_full in
     (f.0, out_becomes t t' p (Found (Dir f.0 nothing)) ne there f.1 (bare_empty f.0) (ap (λ (o : Outcome). o.0) e)))
 
 -- a file goes
-abbrev FileGone : Tree → Tree → Path → Type 0
+abbrev pub FileGone : Tree → Tree → Path → Type 0
 FileGone t t' p = (date : ℕ) × (b : List ℕ) × Became t t' p (Some (Seen (Bytes b) date)) None
 
-unlink_becomes : (at : ℕ) (t t' : Tree) (p : Path) → IsTree t → ◌≡◌ {A = Outcome} (changed at t (Unlink p)) (t', Done) → FileGone t t' p
+pub unlink_becomes : (at : ℕ) (t t' : Tree) (p : Path) → IsTree t → ◌≡◌ {A = Outcome} (changed at t (Unlink p)) (t', Done) → FileGone t t' p
 unfolding changed
 unlink_becomes at t t' p is = unlinked_cases (Gives t' Done (FileGone t t' p)) t p (not_done t t' (FileGone t t' p)) (λ there file e.
     let f : (date : ℕ) × (b : List ℕ) × (entry_at t p ≡ Found (File date b)) = file_from (entry_at t p) there file in

@@ -21,14 +21,14 @@ trimmed_is zero bs = elim (trimmed bs) as (λ r. trimmed bs ≡ r → trimmed (0
 ] refl
 trimmed_is (suc b) bs = refl
 
-kept_byte : (b : ℕ) (bs : List ℕ) (j : ℕ) → get_or (keep b bs) j 0 ≡ get_or (b ∷ bs) j 0
+pub kept_byte : (b : ℕ) (bs : List ℕ) (j : ℕ) → get_or (keep b bs) j 0 ≡ get_or (b ∷ bs) j 0
 kept_byte zero [] zero = refl
 kept_byte zero [] (suc j) = refl
 kept_byte zero (x ∷ xs) j = refl
 kept_byte (suc b) bs j = refl
 
 -- what is trimmed has the bytes that it had
-trimmed_byte : (bs : List ℕ) (j : ℕ) → get_or (trimmed bs) j 0 ≡ get_or bs j 0
+pub trimmed_byte : (bs : List ℕ) (j : ℕ) → get_or (trimmed bs) j 0 ≡ get_or bs j 0
 trimmed_byte [] j = refl
 trimmed_byte (b ∷ bs) zero = ap (λ (x : List ℕ). get_or x 0 0) (trimmed_is b bs) ∙ kept_byte b (trimmed bs) 0
 trimmed_byte (b ∷ bs) (suc j) = ap (λ (x : List ℕ). get_or x (suc j) 0) (trimmed_is b bs) ∙ kept_byte b (trimmed bs) (suc j) ∙ trimmed_byte bs j

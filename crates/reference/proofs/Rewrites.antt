@@ -40,7 +40,7 @@ rewritten at t t' p f is there file e =
     )
 
 -- a write lays the bytes over those of the file
-write_becomes : (at : ℕ) (t t' : Tree) (p : Path) (off : ℕ) (w : List ℕ) → IsTree t → is_empty w ≡ false → ◌≡◌ {A = Outcome} (changed at t (Write p off w)) (t', Count (length w)) → Rewritten at t t' p (λ b. over b off w)
+pub write_becomes : (at : ℕ) (t t' : Tree) (p : Path) (off : ℕ) (w : List ℕ) → IsTree t → is_empty w ≡ false → ◌≡◌ {A = Outcome} (changed at t (Write p off w)) (t', Count (length w)) → Rewritten at t t' p (λ b. over b off w)
 unfolding changed
 write_becomes at t t' p off w is some = written_cases (Gives t' (Count (length w)) (Rewritten at t t' p (λ b. over b off w))) at t p off w
     (not_refused t t' (Count (length w)) (Rewritten at t t' p (λ b. over b off w)) (λ x. (λ f. cc)))
@@ -48,7 +48,7 @@ write_becomes at t t' p off w is some = written_cases (Gives t' (Count (length w
     (λ there file more short e. rewritten at t t' p (λ b. over b off w) is there file (ap (λ (o : Outcome). o.0) e))
 
 -- a truncate cuts or lengthens them
-truncate_becomes : (at : ℕ) (t t' : Tree) (p : Path) (n : ℕ) → IsTree t → ◌≡◌ {A = Outcome} (changed at t (Truncate p n)) (t', Done) → Rewritten at t t' p (λ b. sized b n)
+pub truncate_becomes : (at : ℕ) (t t' : Tree) (p : Path) (n : ℕ) → IsTree t → ◌≡◌ {A = Outcome} (changed at t (Truncate p n)) (t', Done) → Rewritten at t t' p (λ b. sized b n)
 unfolding changed
 truncate_becomes at t t' p n is = truncated_cases (Gives t' Done (Rewritten at t t' p (λ b. sized b n))) at t p n (not_done t t' (Rewritten at t t' p (λ b. sized b n)))
     (λ there file short e. rewritten at t t' p (λ b. sized b n) is there file (ap (λ (o : Outcome). o.0) e))

@@ -20,7 +20,7 @@ same_bytes f b c h g l small = same_number_lists b c l (λ k lt.
     ap (λ (x : ℕ). get_or b x 0) (sym e) ∙ sym (h.byte (k / 4096) (k % 4096) i j) ∙ g.byte (k / 4096) (k % 4096) i j ∙ ap (λ (x : ℕ). get_or c x 0) e)
 
 -- what has the same metadata, and as a file the same bytes, is the same
-agree : (s k : Option Sight) → meta_of s ≡ meta_of k → ((b c : List ℕ) (date stamp : ℕ) → s ≡ Some (Seen (Bytes b) date) → k ≡ Some (Seen (Bytes c) stamp) → length b ≡ length c → b ≡ c) → s ≡ k
+pub agree : (s k : Option Sight) → meta_of s ≡ meta_of k → ((b c : List ℕ) (date stamp : ℕ) → s ≡ Some (Seen (Bytes b) date) → k ≡ Some (Seen (Bytes c) stamp) → length b ≡ length c → b ≡ c) → s ≡ k
 agree None None h f = refl
 agree None (Some (Seen Directory stamp)) h f = absurd (cc)
 agree None (Some (Seen (Bytes c) stamp)) h f = absurd (cc)

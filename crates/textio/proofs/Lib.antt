@@ -5,3 +5,5 @@ pub mod Texts
 pub mod HeldFacts
 pub mod HexFacts
 pub mod Written
+pub mod LineFacts
+pub mod Trimmed

@@ -1,7 +1,7 @@
 //! Writes numbers, and bytes in hexadecimal and in percent form. `docs/FORMATS.md` defines these forms.
 ghost use Rattle.std.specs.Prelude.{◌≡◌, ◌*◌, ◌≤◌, ◌<◌, ◌↔◌, All, MatchOption, OnOk, OnErr, decimal, flat_map, length, slice_index, take, true};
 ghost use Rattle.std.specs.Io.KnownBytes.{Appends};
-ghost use Rattle.reference.specs.Image.{path_text, percent, two_digits};
+ghost use Rattle.reference.specs.Image.{path_text, percent, trimmed, two_digits};
 ghost use Rattle.textio.specs.Parts.{AppendsPart};
 ghost use Rattle.textio.specs.Texts.{IsPlain, hex_text, number_line};
 
@@ -152,4 +152,16 @@ fn put_percent_byte<W: Write>(writer: &mut W, byte: u8) -> Result<(), WriteFaile
         Some(form) => put(writer, &form),
         None => put(writer, &[byte]),
     }
+}
+
+/// The length of the bytes up to the last that is not zero.
+pub fn trimmed_len(bytes: &[u8]) -> usize
+    ensures kept { take result bytes.now ≡ trimmed bytes.now }
+    ensures fits { result ≤ length bytes.now }
+{
+    let mut kept = bytes.len();
+    while kept > 0 && bytes[kept - 1] == 0 {
+        kept -= 1;
+    }
+    kept
 }

@@ -2,7 +2,7 @@
 //!
 //! Invariant (`IsVolume`): it abstracts to a world, has at most 64 snapshots and at most 64 marks, and its live trees
 //! are lawful. Each call preserves it, also if an allocation fails: then the call changes nothing.
-ghost use Rattle.std.specs.Prelude.{◌≡◌, ◌⊎◌, ◌↔◌, ℕ, false, MatchResult, IfOk, IfNone, IfSome, None, Some, slice_get};
+ghost use Rattle.std.specs.Prelude.{◌≡◌, ◌⊎◌, ◌↔◌, ℕ, false, MatchResult, IfErr, IfOk, IfNone, IfSome, None, Some, slice_get};
 ghost use Rattle.node.specs.Shapes.{is_shape};
 ghost use Rattle.pathkey.specs.Names.{Path as Names};
 ghost use Rattle.std.specs.FinMap as finite;
@@ -302,7 +302,7 @@ impl Volume {
     }
 
     /// The live tree as it is now, for `put_back`. It fails only if a node already has 2^64 - 1 references.
-    pub(crate) fn live_root(&self) -> Result<FsRoot, NoMemory>
+    pub fn live_root(&self) -> Result<FsRoot, NoMemory>
         ensures { IfOk result (λ r. r ≡ self.now.live) }
     {
         let indexes = self.live.indexes();
@@ -310,7 +310,7 @@ impl Volume {
     }
 
     /// Makes a tree the live one that was it when the marks were those that there are now. It allocates nothing.
-    pub(crate) fn put_back(&mut self, before: FsRoot)
+    pub fn put_back(&mut self, before: FsRoot)
         requires { IsVolume (record (self.old) { live = before }) }
         ensures { self.new ≡ record (self.old) { live = before } }
     {
@@ -379,6 +379,7 @@ impl Volume {
     pub fn changed_since(&self, alloc: Global, name: &SnapName) -> Result<Changes, Errno>
         ensures agree { IfOk result (λ changes. (r : FsRoot) → finite.get self.now.snapshots name.now ≡ Some r → AgreeBeside changes r.indexes self.now.live.indexes) }
         ensures none { (result ≡ Err Errno.ENOENT) ↔ (finite.get self.now.snapshots name.now ≡ None) }
+        ensures refused { IfErr result (λ e. (e ≡ Errno.ENOENT) ⊎ (e ≡ Errno.ENOMEM)) }
     {
         if !self.snapshots.has(name) {
             return Err(Errno::ENOENT);

@@ -1,7 +1,7 @@
 use Rattle.std.proofs.Common.{◌≡◌, ◌+◌, ◌-◌, ℕ, take, sym, ap, ◌∙◌, arith}
 use Rattle.reference.specs.Image.{trimmed}
-use Rattle.images.proofs.ImageBlocks.{trimmed_less, trimmed_whole}
-use Rattle.images.proofs.image.trimmed_len.Goals as goal
+use Rattle.textio.proofs.Trimmed.{trimmed_less, trimmed_whole}
+use Rattle.textio.proofs.text.trimmed_len.Goals as goal
 
 pub loop-kept-preserved : goal.loop-kept-preserved
 loop-kept-preserved c =

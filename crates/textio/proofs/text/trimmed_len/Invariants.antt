@@ -1,6 +1,6 @@
 use Rattle.std.proofs.Common.{◌≡◌, ◌≤◌, length, take}
 use Rattle.reference.specs.Image.{trimmed}
-use Rattle.images.proofs.image.trimmed_len.Given as goal
+use Rattle.textio.proofs.text.trimmed_len.Given as goal
 
 -- all bytes after this one are zero
 abbrev pub invariant-loop-kept : goal.invariant-loop-kept
