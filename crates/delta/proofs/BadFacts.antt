@@ -8,9 +8,11 @@ use Rattle.std.proofs.lemmas.List.Elements.{All-nil, All-cons, All-head, All-map
 use Rattle.pathkey.proofs.Pieces.{not_lacking}
 use Rattle.reference.specs.Image.{Text}
 use Rattle.delta.specs.Deltas.{IsLine, text_of, Command, Stay, Go, Come, IsCommand, IsDigest, IsSomeDelta, commands_text, heading, spelled, parsed}
-use Rattle.delta.specs.Texts.{HasNoCommand, IsBadAt, IsBadBehind, IsNext, NoEnd, Passes, ReadsDelta, command_of, end_text}
+use Rattle.textio.specs.Lines.{IsBadBehind}
+use Rattle.textio.proofs.LineFacts.{first_line, same_line}
+use Rattle.delta.specs.Texts.{HasNoCommand, IsBadAt, IsNext, NoEnd, Passes, ReadsDelta, command_of, end_text}
 use Rattle.delta.specs.declared.command.DeltaCommand.{DeltaCommand}
-use Rattle.delta.proofs.TextFacts.{behind_commands, commands_append, end_is_no_command, end_line, first_line, heading_line, same_line, spelled_line, reported_text}
+use Rattle.delta.proofs.TextFacts.{behind_commands, commands_append, end_is_no_command, end_line, heading_line, spelled_line, reported_text}
 
 -- ---- commands that were passed
 
@@ -138,7 +140,7 @@ bad_other digest cs text behind rest sum first p none no_end = record {
         let same = same_line line (spelled d) more (text_of (parsed ds)) whole (spelled_line d is) e in
         none d after is (cut ∙ ap (λ l. l ++ 10 ∷ after) same.0)
 
-    next : ((line after : Text) × IsLine line × (rest ≡ line ++ 10 ∷ after)) ⊎ IsLine rest → IsBadBehind (heading digest ∷ map spelled cs) rest
+    next : ((line after : Text) × IsLine line × (rest ≡ line ++ 10 ∷ after)) ⊎ IsLine rest → IsBadBehind IsSomeDelta (heading digest ∷ map spelled cs) rest
     next (inl (line, after, whole, cut)) =
         inl (line, after, whole, cut, λ more h. let (ds, are, e) = goes_on digest cs (line ++ 10 ∷ more) sum p.commands h in no_line ds line after more whole cut are e)
     next (inr whole) = inr (whole, λ h. let (ds, are, e) = goes_on digest cs rest sum p.commands h in reported_has_end ds (subst IsLine e whole))
@@ -181,7 +183,7 @@ bad_behind_end digest cs text behind rest after sum first p end some = record {
     never [] more e = cc
     never (b ∷ line) more e = cc
 
-    next : ((line later : Text) × IsLine line × (after ≡ line ++ 10 ∷ later)) ⊎ IsLine after → IsBadBehind (heading digest ∷ parsed cs) after
+    next : ((line later : Text) × IsLine line × (after ≡ line ++ 10 ∷ later)) ⊎ IsLine after → IsBadBehind IsSomeDelta (heading digest ∷ parsed cs) after
     next (inl (line, later, whole, cut)) = inl (line, later, whole, cut, λ more h. never line more (ends (line ++ 10 ∷ more) h))
     next (inr whole) = inr (whole, λ h. some (ends after h))
 

@@ -11,3 +11,8 @@ pub mod LoaderFacts
 pub mod DigestFacts
 pub mod DifferingFacts
 pub mod ChangedFacts
+pub mod KeysBetween
+pub mod RisingFacts
+pub mod PartFacts
+pub mod EditTexts
+pub mod PrinterFacts

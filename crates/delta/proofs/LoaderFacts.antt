@@ -30,7 +30,7 @@ use Rattle.delta.specs.Walks.{IsAtStart, lines_from}
 use Rattle.delta.specs.declared.line_cursor.LineCursor.{LineCursor}
 use Rattle.delta.proofs.PatchFacts.{text_of_lines}
 use Rattle.delta.proofs.PatchingFacts.{does_go, does_stay, makes_one}
-use Rattle.delta.proofs.TextFacts.{text_append}
+use Rattle.textio.proofs.LineFacts.{text_append}
 
 -- ---- what is spoilt
 

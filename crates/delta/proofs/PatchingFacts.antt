@@ -10,7 +10,8 @@ use Rattle.delta.specs.Patching.{Does, IsDoing, IsSpoilt, MakesNoImage}
 use Rattle.delta.specs.Texts.{HasNoCommand, IsNext, command_of}
 use Rattle.delta.specs.declared.command.DeltaCommand.{DeltaCommand}
 use Rattle.delta.proofs.PatchFacts.{go_made, mapped_none, mapped_some, mapped_twice, stay_made}
-use Rattle.delta.proofs.TextFacts.{end_is_no_command, end_line, one_reading, same_line, same_spelled, spelled_line, text_append}
+use Rattle.textio.proofs.LineFacts.{same_line, text_append}
+use Rattle.delta.proofs.TextFacts.{end_is_no_command, end_line, one_reading, same_spelled, spelled_line}
 
 pub does_nothing : (x : List Line) (text : Text) → Does [] x text x text
 does_nothing x text = record { front = []; added = sym (append-nil text); rest = λ ds. sym (mapped_none (patched ds x)) }

@@ -1,21 +1,28 @@
 -- The keys at which two indexes differ, and the paths at which two trees do.
-use Rattle.std.specs.Prelude.{◌≡◌, ◌≢◌, ◌⊎◌, ◌||◌, ◌-◌, ℕ, Bool, true, List, [], ◌∷◌, ◌++◌, length, map, take, Option, None, Some, AllPairs}
+use Rattle.std.specs.Prelude.{◌≡◌, ◌≢◌, ◌⊎◌, ◌||◌, ◌<◌, ◌-◌, ℕ, Bool, true, List, ◌++◌, length, map, take, Option, None, Some, AllPairs}
 use Rattle.std.specs.List.{Contains}
-use Rattle.std.specs.List.Sorted.{IsPermutation}
 use Rattle.block_index.specs.Means.{blocks as blocks_of}
 use Rattle.call_compiler.specs.declared.indexes.Indexes.{Indexes}
 use Rattle.change_log.specs.KeyLogs.{touched_of}
 use Rattle.change_log.specs.Touched.{is_touched}
 use Rattle.change_log.specs.declared.touched_keys.TouchedKeys.{TouchedKeys}
 use Rattle.message.specs.Ranges.{before}
-use Rattle.pathkey.specs.Keys.{Key, enc, is_in}
+use Rattle.pathkey.specs.Keys.{Key, block_key, enc, is_in}
 use Rattle.pathkey.specs.Names.{IsPath}
 use Rattle.pathkey.specs.declared.range.KeyRange.{KeyRange}
 use Rattle.meta_index.specs.Means.{metadata}
-use Rattle.reference.specs.Image.{trimmed}
-use Rattle.reference.specs.Indexes.{held}
+use Rattle.reference.specs.Image.{Text, trimmed}
+use Rattle.reference.specs.Indexes.{held, most_blocks}
 use Rattle.reference.specs.Reads.{sight}
 use Rattle.reference.specs.Tree.{Path, Tree}
+use Rattle.reference.specs.Shape.{IsTree}
+use Rattle.reference.specs.Worlds.{World}
+use Rattle.volume.specs.Volumes.{Means, PVolume}
+use Rattle.edits.specs.Applies.{Applied}
+use Rattle.edits.specs.Between.{key_of}
+use Rattle.edits.specs.Edits.{AreEdited}
+use Rattle.edits.specs.Lines.{AreEdits}
+use Rattle.edits.specs.declared.edit.Edit.{Edit}
 
 -- ---- keys
 
@@ -55,32 +62,31 @@ is_in_either a b k = is_touched (touched_of a) k || is_touched (touched_of b) k
 abbrev pub AreAlikeBlocks : Option (List ℕ) → Option (List ℕ) → Type 0
 AreAlikeBlocks b c = trimmed (held b) ≡ trimmed (held c)
 
--- these keys are, in some order, those at which the metadata of two indexes differ, and of the files at whose blocks they do; they may
--- differ only within two sets
-pub record AreMixed (in_meta in_block : Key → Bool) (i j : Indexes) (keys : List Key) : Type 0 where
-  pub metas : List Key
-  pub blocks : List Key
-  pub of_metas : AreDiffering (λ m n. m ≡ n) (metadata i.meta) (metadata j.meta) in_meta metas
-  pub of_blocks : AreDiffering AreAlikeBlocks (blocks_of i.block) (blocks_of j.block) in_block blocks
-  pub mixed : IsPermutation (metas ++ map file_key blocks) keys
+-- at exactly these keys the metadata of two indexes differ
+abbrev pub AreMetasDiffering : Indexes → Indexes → List Key → Type 0
+AreMetasDiffering i j ks = AreDiffering (λ m n. m ≡ n) (metadata i.meta) (metadata j.meta) (λ k. true) ks
 
--- the paths have exactly these keys, and are in order, none twice
-pub record ArePathsOf (ks : List Key) (ps : List Path) : Type 0 where
-  pub paths : (p : Path) → Contains ps p → IsPath p × Contains ks (enc p)
-  pub all : (k : Key) → Contains ks k → (p : Path) × Contains ps p × (k ≡ enc p)
-  pub rising : AllPairs (λ p q. before (enc p) (enc q) ≡ true) ps
+-- at exactly these keys their blocks do
+abbrev pub AreBlocksDiffering : Indexes → Indexes → List Key → Type 0
+AreBlocksDiffering i j ks = AreDiffering AreAlikeBlocks (blocks_of i.block) (blocks_of j.block) (λ k. true) ks
 
--- the last of the paths has the key
-pub record IsLast (k : Key) (ps : List Path) : Type 0 where
-  pub front : List Path
+-- each key of one of two lists is in the other
+pub record HaveSame (xs ys : List Key) : Type 0 where
+  pub to : (k : Key) → Contains xs k → Contains ys k
+  pub from : (k : Key) → Contains ys k → Contains xs k
+
+-- the key of a block of a file
+pub record IsBlockKey (k : Key) : Type 0 where
   pub path : Path
-  pub is : ps ≡ front ++ path ∷ []
-  pub key : enc path ≡ k
+  pub index : ℕ
+  pub is_path : IsPath path
+  pub few : index < most_blocks
+  pub key : k ≡ block_key path index
 
--- the paths of these keys, with the last key's path last
-pub record AreBuilt (ks : List Key) (ps : List Path) : Type 0 where
-  pub of : ArePathsOf ks ps
-  pub last : ((ks ≡ []) × (ps ≡ [])) ⊎ ((front : List Key) × (k : Key) × (ks ≡ front ++ k ∷ []) × IsLast k ps)
+-- the blocks with these keys
+pub record AreFound (ks : List Key) (bs : List (Path × ℕ)) : Type 0 where
+  pub blocks : (b : Path × ℕ) → Contains bs b → IsPath b.0 × (b.1 < most_blocks)
+  pub keys : map key_of bs ≡ ks
 
 -- at each of these paths the trees have different entries (an entry is a directory, or a file with its bytes, and its mtime), at
 -- no other path do they, and the paths are in the order of keys, none twice
@@ -88,3 +94,14 @@ pub record AreChanged (t u : Tree) (ps : List Path) : Type 0 where
   pub differ : (p : Path) → Contains ps p → sight t p ≢ sight u p
   pub all : (p : Path) → IsPath p → Contains ps p ⊎ (sight t p ≡ sight u p)
   pub rising : AllPairs (λ p q. before (enc p) (enc q) ≡ true) ps
+
+-- ---- the edits between trees
+
+-- the text has edits that make the second tree of the first
+abbrev pub PrintsEdits : Text → Tree → Tree → Type 0
+PrintsEdits text t u = (es : List Edit) × AreEdits text es × AreEdited es t u
+
+-- applying the edits that were printed of two trees to a volume that abstracts to the first gives one that abstracts to the second, and
+-- snapshots stay
+abbrev pub EditsRoundTripLaw : Type 0
+EditsRoundTripLaw = (text : Text) (t u : Tree) (old new : PVolume) (w : World) → IsTree t → PrintsEdits text t u → Means old w → w.live ≡ t → Applied text old new → Means new (record w { live = u })

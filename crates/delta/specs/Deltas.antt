@@ -1,21 +1,10 @@
 -- Deltas: what a text says of the lines of one image, so that they become those of another.
-use Rattle.std.specs.Prelude.{◌≡◌, ◌≢◌, ℕ, ◌<◌, ◌^◌, nat_lt, List, [], ◌∷◌, ◌++◌, length, take, drop, map, codes, decimal, All, Option, Some, None, option_map, if◌then◌else◌, ◌==◌}
+use Rattle.std.specs.Prelude.{◌≡◌, ℕ, ◌<◌, ◌^◌, nat_lt, List, [], ◌∷◌, ◌++◌, length, take, drop, map, codes, decimal, All, Option, Some, None, option_map, if◌then◌else◌, ◌==◌}
 use Rattle.hex.specs.Hex.{IsBytes, encode_lower}
 use Rattle.reference.specs.Image.{Text}
 use Rattle.sha2.specs.Sha256.{sha256}
 use Rattle.textio.specs.Lines.{lines_of}
-
--- a line, without its line feed
-abbrev pub Line : Type 0
-Line = List ℕ
-
-abbrev pub IsLine : Line → Type 0
-IsLine l = All (λ b. b ≢ 10) l
-
--- lines as a text
-abbrev pub text_of : List Line → Text
-text_of [] = []
-text_of (l ∷ ls) = l ++ 10 ∷ text_of ls
+pub use Rattle.textio.specs.Lines.{Line, IsLine, text_of}
 
 -- ---- commands
 

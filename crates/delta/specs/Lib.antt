@@ -4,3 +4,4 @@ pub mod Patching
 pub mod Walks
 pub mod Applies
 pub mod Changed
+pub mod Printers

@@ -1,6 +1,7 @@
 -- Which texts are no deltas, and from which line on.
-use Rattle.std.specs.Prelude.{◌≡◌, ◌≢◌, ◌⊎◌, ℕ, ◌+◌, List, [], ◌∷◌, ◌++◌, length, drop, codes, All}
+use Rattle.std.specs.Prelude.{◌≡◌, ◌≢◌, ℕ, ◌+◌, List, [], ◌∷◌, ◌++◌, drop, codes, All}
 use Rattle.reference.specs.Image.{Text}
+use Rattle.textio.specs.Lines.{IsFirstBad}
 use Rattle.delta.specs.Deltas.{Line, IsLine, text_of, Command, Stay, Go, Come, IsCommand, IsDelta, IsSomeDelta, commands_text, spelled, parsed}
 use Rattle.delta.specs.declared.command.DeltaCommand.{DeltaCommand}
 use Rattle.delta.specs.declared.command.DeltaCommand.TheVariants.{Stay as StayTold, Go as GoTold, Come as ComeTold}
@@ -55,19 +56,6 @@ pub record ReadsDelta (text digest behind : Text) (cs : List Command) : Type 0 w
   pub is : IsDelta text digest cs
   pub rest : behind ≡ text_of (parsed cs)
 
--- after these lines of the text there is one with which no delta continues; or there is no line, and the text is not a
--- delta
-abbrev pub IsBadBehind : List Line → Text → Type 0
-IsBadBehind front rest =
-    ((line after : Text) × IsLine line × (rest ≡ line ++ 10 ∷ after) × ((more : Text) → IsSomeDelta (text_of front ++ (line ++ 10 ∷ more)) → ⊥))
-    ⊎ (IsLine rest × (IsSomeDelta (text_of front ++ rest) → ⊥))
-
 -- the line n is the first bad one of the text: with those before it a delta may begin, and with it none does
-pub record IsBadAt (n : ℕ) (text : Text) : Type 0 where
-  pub front : List Line
-  pub rest : Text
-  pub whole : All IsLine front
-  pub cut : text ≡ text_of front ++ rest
-  pub number : n ≡ length front + 1
-  pub begins : (more : Text) × IsSomeDelta (text_of front ++ more)
-  pub bad : IsBadBehind front rest
+abbrev pub IsBadAt : ℕ → Text → Type 0
+IsBadAt n text = IsFirstBad IsSomeDelta n text

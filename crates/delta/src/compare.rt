@@ -4,10 +4,10 @@ ghost use Rattle.reference.specs.Indexes.{held};
 ghost use Rattle.delta.specs.Changed.{AreAlikeBlocks};
 
 use block_index::{Block, BlockUpdate};
-use images::image::trimmed_len;
 use message::Update;
 use meta_index::MetaUpdate;
 use reference::Meta;
+use textio::text::trimmed_len;
 
 /// An index whose values can be compared.
 pub(crate) trait Compare: Update {

@@ -1,5 +1,6 @@
 //! Laws of deltas. The functions do nothing at run time.
 ghost use Rattle.delta.specs.Applies.{OneReadingLaw, RoundTripLaw};
+ghost use Rattle.delta.specs.Changed.{EditsRoundTripLaw};
 
 /// If the delta of two trees is applied to a volume with the first tree, and no allocation fails, the volume then has the
 /// second tree, including mtimes.
@@ -10,4 +11,10 @@ pub fn round_trip()
 /// A delta makes exactly one list of lines from the lines of an image.
 pub fn one_reading()
     ensures { OneReadingLaw }
+{}
+
+/// If the edits between two trees are applied to a volume with the first tree, the volume then has the second tree, including mtimes, and
+/// its snapshots.
+pub fn edits_round_trip()
+    ensures { EditsRoundTripLaw }
 {}

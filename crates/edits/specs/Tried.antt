@@ -1,0 +1,19 @@
+-- What the look-ups and the call of an edit tell.
+use Rattle.std.specs.Prelude.{◌≡◌, Bool, true, false, Option, Result, Ok, Err, IsErr}
+use Rattle.pathkey.specs.declared.errno.Errno.{Errno}
+use Rattle.pathkey.specs.declared.errno.Errno.TheVariants.{ENOMEM}
+use Rattle.pathkey.specs.declared.errno.NoMemory.{NoMemory}
+use Rattle.reference.specs.Reads.{Sight, sight}
+use Rattle.reference.specs.Tree.{Path}
+use Rattle.reference.specs.Worlds.{World}
+use Rattle.volume.specs.Volumes.{Means, PVolume}
+
+-- this holds of what is seen at the path, in each world to which the volume abstracts
+abbrev pub EachSight : PVolume → Path → (Option Sight → Type 0) → Type 0
+EachSight v p P = (w : World) → Means v w → P (sight w.live p)
+
+-- a call that was done did the edit, want of memory is told, and any other error says that the edit was not done
+abbrev pub Tells : {A : Type 0} → Result A Errno → Result Bool NoMemory → Type 0
+Tells (Ok given) told = told ≡ Ok true
+Tells (Err ENOMEM) told = IsErr told
+Tells (Err e) told = told ≡ Ok false
