@@ -1,5 +1,5 @@
 //! The command line, read by `clap`.
-use clap::{Arg, ArgMatches, Command, Error};
+use clap::{Arg, ArgAction, ArgMatches, Command, Error};
 use std::alloc::{AllocError, Global};
 
 /// The release that `--version` prints. `include/doorvervain.h` states it, and `tests/release` holds this to it.
@@ -15,6 +15,8 @@ text, as `betr --image` prints it.";
 pub(crate) enum Task<'a> {
     /// Print what makes the image of the second file of that of the first.
     Between(&'a str, &'a str),
+    /// Print the edits that make the tree of the second file of that of the first.
+    Edits(&'a str, &'a str),
     /// Print the image that the difference of the second file makes of that of the first.
     Apply(&'a str, &'a str),
 }
@@ -34,6 +36,9 @@ fn task_of<'a>(matches: &ArgMatches<'a>) -> Task<'a> {
         return Task::Apply(file(found, "TREE"), file(found, "DELTA"));
     }
     match matches.subcommand_matches("between") {
+        Some(found) if found.get_flag("edits") => {
+            Task::Edits(file(found, "OLD"), file(found, "NEW"))
+        }
         Some(found) => Task::Between(file(found, "OLD"), file(found, "NEW")),
         None => Task::Between("", ""),
     }
@@ -72,7 +77,18 @@ fn with_command<'a>(
 fn between<'a>(alloc: Global) -> Result<Command<'a>, AllocError> {
     let command = Command::new(alloc, "between").about("Print what makes the image NEW of OLD");
     let first = with_file(alloc, command, "OLD", "File with the image that there is")?;
-    with_file(alloc, first, "NEW", "File with the image that is made")
+    let both = with_file(alloc, first, "NEW", "File with the image that is made")?;
+    with_edits(alloc, both)
+}
+
+/// The command with the flag for edits.
+fn with_edits<'a>(alloc: Global, command: Command<'a>) -> Result<Command<'a>, AllocError> {
+    command.arg(
+        Arg::new(alloc, "edits")
+            .long("edits")
+            .action(ArgAction::SetTrue)
+            .help("Print edits of entries and blocks (format 2)"),
+    )
 }
 
 /// The command that applies one.

@@ -1,5 +1,6 @@
 //! Why the program ends before all is done and printed.
 use delta::{DeltaFault, PrintFault};
+use edits::EditFault;
 use images::{ImageFault, LoadFault};
 use thiserror::Error;
 
@@ -24,6 +25,9 @@ pub(crate) enum Failure {
     /// A file has no difference.
     #[error("deltas: the second file is no difference from line {0} on")]
     NoDelta(u64),
+    /// A line of it does not fit the tree.
+    #[error("deltas: line {0} of the second file does not fit the first")]
+    Unfit(u64),
     /// It is that of another tree.
     #[error("deltas: the second file is the difference of another tree")]
     OtherTree,
@@ -78,5 +82,14 @@ pub(crate) fn of_delta(fault: DeltaFault) -> Failure {
         DeltaFault::Bad(line) => Failure::NoDelta(line),
         DeltaFault::OtherTree => Failure::OtherTree,
         DeltaFault::NoImage => Failure::Spoilt,
+    }
+}
+
+/// Why edits were not applied.
+pub(crate) fn of_edits(fault: EditFault) -> Failure {
+    match fault {
+        EditFault::Memory => Failure::Memory,
+        EditFault::Bad(line) => Failure::NoDelta(line),
+        EditFault::Unfit(line) => Failure::Unfit(line),
     }
 }

@@ -7,7 +7,7 @@ mod tasks;
 
 use crate::command_line::{Task, read_words};
 use crate::failure::Failure;
-use crate::tasks::{print_applied, print_between};
+use crate::tasks::{print_applied, print_between, print_edits_between};
 use clap::error::ErrorKind;
 use std::alloc::Global;
 use std::io::{BufWriter, Write};
@@ -155,6 +155,7 @@ fn do_task<F: Files, W: Write>(
 ) -> Result<(), Failure> {
     let ended = match task {
         Task::Between(old, new) => print_between(rt, alloc, old, new, writer),
+        Task::Edits(old, new) => print_edits_between(rt, alloc, old, new, writer),
         Task::Apply(tree, delta) => print_applied(rt, alloc, tree, delta, writer),
     };
     match ended {

@@ -1,6 +1,8 @@
 //! What the commands do.
-use crate::failure::{Failure, Named, of_delta, of_image, of_load, of_print};
-use delta::{apply_delta, image_digest, print_delta};
+use crate::failure::{Failure, Named, of_delta, of_edits, of_image, of_load, of_print};
+use change_log::Changes;
+use delta::{apply_delta, image_digest, print_delta, print_edits};
+use edits::apply_edits;
 use images::{LoadFault, load_image, print_image};
 use node::Shape;
 use std::alloc::Global;
@@ -35,6 +37,65 @@ fn print_from<F: Files, W: Write>(
     let ended = print_both(alloc, before, &after, writer);
     drop(after);
     ended
+}
+
+/// Prints the edits that make the tree of one file of that of another.
+pub(crate) fn print_edits_between<F: Files, W: Write>(
+    rt: &F,
+    alloc: Global,
+    old: &str,
+    new: &str,
+    writer: &mut W,
+) -> Result<(), Failure> {
+    let before = load(rt, alloc, Named::First, old)?;
+    let ended = print_edits_from(rt, alloc, &before, new, writer);
+    drop(before);
+    ended
+}
+
+/// Prints the edits that make the tree of a file of that of a volume.
+fn print_edits_from<F: Files, W: Write>(
+    rt: &F,
+    alloc: Global,
+    before: &Volume,
+    new: &str,
+    writer: &mut W,
+) -> Result<(), Failure> {
+    let after = load(rt, alloc, Named::Second, new)?;
+    let made = edits_of(alloc, before, &after);
+    drop(after);
+    let text = made?;
+    let ended = put_text(text.as_slice(), writer);
+    drop(text);
+    ended
+}
+
+/// The text of the edits that make the tree of one volume of that of another.
+fn edits_of(alloc: Global, before: &Volume, after: &Volume) -> Result<Vec<u8>, Failure> {
+    let old = freeze(before)?;
+    match freeze(after) {
+        Ok(new) => {
+            let made = edits_between(alloc, &old, &new);
+            drop(new);
+            drop(old);
+            made
+        }
+        Err(failure) => {
+            drop(old);
+            Err(failure)
+        }
+    }
+}
+
+/// The edits that make one tree of another, of which nothing is known: both are walked. It ensures nothing, so that no other proof reads
+/// what edits are.
+fn edits_between(alloc: Global, old: &Frozen, new: &Frozen) -> Result<Vec<u8>, Failure> {
+    print_edits(alloc, old, new, &Changes::All, &Changes::All).map_err(|_| Failure::Memory)
+}
+
+/// Prints a text.
+fn put_text<W: Write>(text: &[u8], writer: &mut W) -> Result<(), Failure> {
+    writer.write_all(text).map_err(|_| Failure::Write)
 }
 
 /// Prints the image that the difference of one file makes of the image of another.
@@ -112,8 +173,11 @@ fn put<W: Write>(
     print_delta(alloc, digest, old, new, writer).map_err(of_print)
 }
 
-/// Applies a difference.
+/// Applies a difference of either format.
 fn apply(alloc: Global, volume: &mut Volume, text: &[u8]) -> Result<(), Failure> {
+    if text.starts_with(b"delta 2\n") {
+        return apply_edits(alloc, volume, text).map_err(of_edits);
+    }
     apply_delta(alloc, volume, text).map_err(of_delta)
 }
 
