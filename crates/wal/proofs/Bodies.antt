@@ -8,7 +8,7 @@ use Rattle.pathkey.proofs.TextFacts.{read_back}
 use Rattle.pathkey.specs.declared.errno.Errno.{Errno}
 use Rattle.pathkey.specs.declared.errno.Errno.TheVariants.{EINVAL, ENOMEM}
 use Rattle.wal.specs.declared.wal_entry.WalEntry.{WalEntry}
-use Rattle.wal.specs.declared.wal_entry.WalEntry.TheVariants.{OnPath, Rename, Truncate, Write, Punch, SetMtime, CopyRange, Keep}
+use Rattle.wal.specs.declared.wal_entry.WalEntry.TheVariants.{OnPath, Rename, Truncate, Write, Punch, SetMtime, CopyRange, Keep, Edits}
 use Rattle.wal.specs.declared.wal_entry.SnapshotCall.{SnapshotCall}
 use Rattle.wal.specs.declared.wal_entry.SnapshotCall.TheVariants.{Snapshot, Remove, Restore}
 use Rattle.reference.specs.declared.path_call.PathCall.{PathCall}
@@ -155,6 +155,7 @@ same_change (OnPath a p at) (Punch q g m t) hc hd eh ef es = absurd (omega (arit
 same_change (OnPath a p at) (SetMtime q t) hc hd eh ef es = absurd (omega (arith, ap (λ (h : EntryHeader). h.kind) eh, few_kinds a))
 same_change (OnPath a p at) (CopyRange q g v m k t) hc hd eh ef es = absurd (omega (arith, ap (λ (h : EntryHeader). h.kind) eh, few_kinds a))
 same_change (OnPath a p at) (Keep b r) hc hd eh ef es = absurd (omega (arith, ap (λ (h : EntryHeader). h.kind) eh, few_kinds a, late_kinds b))
+same_change (OnPath a p at) (Edits y) hc hd eh ef es = absurd (omega (arith, ap (λ (h : EntryHeader). h.kind) eh, few_kinds a))
 same_change (Rename o n at) (OnPath b q t) hc hd eh ef es = absurd (omega (arith, ap (λ (h : EntryHeader). h.kind) eh, few_kinds b))
 same_change (Rename o n at) (Rename u v t) hc hd eh ef es = let et = ap (λ (h : EntryHeader). h.at) eh in let eo = text_once o u hc.0 hd.0 ef in let en = text_once n v hc.1 hd.1 es in cc
 same_change (Rename o n at) (Truncate q m t) hc hd eh ef es = absurd (omega (arith, ap (λ (h : EntryHeader). h.kind) eh))
@@ -163,6 +164,7 @@ same_change (Rename o n at) (Punch q g m t) hc hd eh ef es = absurd (omega (arit
 same_change (Rename o n at) (SetMtime q t) hc hd eh ef es = absurd (omega (arith, ap (λ (h : EntryHeader). h.kind) eh))
 same_change (Rename o n at) (CopyRange q g v m k t) hc hd eh ef es = absurd (omega (arith, ap (λ (h : EntryHeader). h.kind) eh))
 same_change (Rename o n at) (Keep b r) hc hd eh ef es = absurd (omega (arith, ap (λ (h : EntryHeader). h.kind) eh, late_kinds b))
+same_change (Rename o n at) (Edits y) hc hd eh ef es = absurd (omega (arith, ap (λ (h : EntryHeader). h.kind) eh))
 same_change (Truncate p len at) (OnPath b q t) hc hd eh ef es = absurd (omega (arith, ap (λ (h : EntryHeader). h.kind) eh, few_kinds b))
 same_change (Truncate p len at) (Rename u v t) hc hd eh ef es = absurd (omega (arith, ap (λ (h : EntryHeader). h.kind) eh))
 same_change (Truncate p len at) (Truncate q m t) hc hd eh ef es = let et = ap (λ (h : EntryHeader). h.at) eh in let el = ap (λ (h : EntryHeader). h.offset) eh in let ep = text_once p q hc.0 hd.0 ef in cc
@@ -171,6 +173,7 @@ same_change (Truncate p len at) (Punch q g m t) hc hd eh ef es = absurd (omega (
 same_change (Truncate p len at) (SetMtime q t) hc hd eh ef es = absurd (omega (arith, ap (λ (h : EntryHeader). h.kind) eh))
 same_change (Truncate p len at) (CopyRange q g v m k t) hc hd eh ef es = absurd (omega (arith, ap (λ (h : EntryHeader). h.kind) eh))
 same_change (Truncate p len at) (Keep b r) hc hd eh ef es = absurd (omega (arith, ap (λ (h : EntryHeader). h.kind) eh, late_kinds b))
+same_change (Truncate p len at) (Edits y) hc hd eh ef es = absurd (omega (arith, ap (λ (h : EntryHeader). h.kind) eh))
 same_change (Write p off w at) (OnPath b q t) hc hd eh ef es = absurd (omega (arith, ap (λ (h : EntryHeader). h.kind) eh, few_kinds b))
 same_change (Write p off w at) (Rename u v t) hc hd eh ef es = absurd (omega (arith, ap (λ (h : EntryHeader). h.kind) eh))
 same_change (Write p off w at) (Truncate q m t) hc hd eh ef es = absurd (omega (arith, ap (λ (h : EntryHeader). h.kind) eh))
@@ -179,6 +182,7 @@ same_change (Write p off w at) (Punch q g m t) hc hd eh ef es = absurd (omega (a
 same_change (Write p off w at) (SetMtime q t) hc hd eh ef es = absurd (omega (arith, ap (λ (h : EntryHeader). h.kind) eh))
 same_change (Write p off w at) (CopyRange q g v m k t) hc hd eh ef es = absurd (omega (arith, ap (λ (h : EntryHeader). h.kind) eh))
 same_change (Write p off w at) (Keep b r) hc hd eh ef es = absurd (omega (arith, ap (λ (h : EntryHeader). h.kind) eh, late_kinds b))
+same_change (Write p off w at) (Edits y) hc hd eh ef es = absurd (omega (arith, ap (λ (h : EntryHeader). h.kind) eh))
 same_change (Punch p off n at) (OnPath b q t) hc hd eh ef es = absurd (omega (arith, ap (λ (h : EntryHeader). h.kind) eh, few_kinds b))
 same_change (Punch p off n at) (Rename u v t) hc hd eh ef es = absurd (omega (arith, ap (λ (h : EntryHeader). h.kind) eh))
 same_change (Punch p off n at) (Truncate q m t) hc hd eh ef es = absurd (omega (arith, ap (λ (h : EntryHeader). h.kind) eh))
@@ -187,6 +191,7 @@ same_change (Punch p off n at) (Punch q g m t) hc hd eh ef es = let et = ap (λ 
 same_change (Punch p off n at) (SetMtime q t) hc hd eh ef es = absurd (omega (arith, ap (λ (h : EntryHeader). h.kind) eh))
 same_change (Punch p off n at) (CopyRange q g v m k t) hc hd eh ef es = absurd (omega (arith, ap (λ (h : EntryHeader). h.kind) eh))
 same_change (Punch p off n at) (Keep b r) hc hd eh ef es = absurd (omega (arith, ap (λ (h : EntryHeader). h.kind) eh, late_kinds b))
+same_change (Punch p off n at) (Edits y) hc hd eh ef es = absurd (omega (arith, ap (λ (h : EntryHeader). h.kind) eh))
 same_change (SetMtime p at) (OnPath b q u) hc hd eh ef es = absurd (omega (arith, ap (λ (h : EntryHeader). h.kind) eh, few_kinds b))
 same_change (SetMtime p at) (Rename u v t) hc hd eh ef es = absurd (omega (arith, ap (λ (h : EntryHeader). h.kind) eh))
 same_change (SetMtime p at) (Truncate q m t) hc hd eh ef es = absurd (omega (arith, ap (λ (h : EntryHeader). h.kind) eh))
@@ -195,6 +200,7 @@ same_change (SetMtime p at) (Punch q g m t) hc hd eh ef es = absurd (omega (arit
 same_change (SetMtime p at) (SetMtime q t) hc hd eh ef es = let et = ap (λ (h : EntryHeader). h.at) eh in let ep = text_once p q hc.0 hd.0 ef in cc
 same_change (SetMtime p at) (CopyRange q g v m k t) hc hd eh ef es = absurd (omega (arith, ap (λ (h : EntryHeader). h.kind) eh))
 same_change (SetMtime p at) (Keep b r) hc hd eh ef es = absurd (omega (arith, ap (λ (h : EntryHeader). h.kind) eh, last_kinds b))
+same_change (SetMtime p at) (Edits y) hc hd eh ef es = absurd (omega (arith, ap (λ (h : EntryHeader). h.kind) eh))
 same_change (CopyRange p off q to n at) (OnPath b r t) hc hd eh ef es = absurd (omega (arith, ap (λ (h : EntryHeader). h.kind) eh, few_kinds b))
 same_change (CopyRange p off q to n at) (Rename u v t) hc hd eh ef es = absurd (omega (arith, ap (λ (h : EntryHeader). h.kind) eh))
 same_change (CopyRange p off q to n at) (Truncate r m t) hc hd eh ef es = absurd (omega (arith, ap (λ (h : EntryHeader). h.kind) eh))
@@ -211,6 +217,7 @@ same_change (CopyRange p off q to n at) (CopyRange r g v m k t) hc hd eh ef es =
     let eq = text_once q v hc.2 hd.2 parts.1 in
     cc
 same_change (CopyRange p off q to n at) (Keep b r) hc hd eh ef es = absurd (omega (arith, ap (λ (h : EntryHeader). h.kind) eh, last_kinds b))
+same_change (CopyRange p off q to n at) (Edits y) hc hd eh ef es = absurd (omega (arith, ap (λ (h : EntryHeader). h.kind) eh))
 same_change (Keep a s) (OnPath b q t) hc hd eh ef es = absurd (omega (arith, ap (λ (h : EntryHeader). h.kind) eh, late_kinds a, few_kinds b))
 same_change (Keep a s) (Rename u v t) hc hd eh ef es = absurd (omega (arith, ap (λ (h : EntryHeader). h.kind) eh, late_kinds a))
 same_change (Keep a s) (Truncate q m t) hc hd eh ef es = absurd (omega (arith, ap (λ (h : EntryHeader). h.kind) eh, late_kinds a))
@@ -219,6 +226,16 @@ same_change (Keep a s) (Punch q g m t) hc hd eh ef es = absurd (omega (arith, ap
 same_change (Keep a s) (SetMtime q t) hc hd eh ef es = absurd (omega (arith, ap (λ (h : EntryHeader). h.kind) eh, last_kinds a))
 same_change (Keep a s) (CopyRange q g v m k t) hc hd eh ef es = absurd (omega (arith, ap (λ (h : EntryHeader). h.kind) eh, last_kinds a))
 same_change (Keep a s) (Keep b r) hc hd eh ef es = let ek = keeping_kind_once a b (ap (λ (h : EntryHeader). h.kind) eh) in cc
+same_change (Keep a s) (Edits y) hc hd eh ef es = absurd (omega (arith, ap (λ (h : EntryHeader). h.kind) eh, last_kinds a))
+same_change (Edits w) (OnPath b q t) hc hd eh ef es = absurd (omega (arith, ap (λ (h : EntryHeader). h.kind) eh, few_kinds b))
+same_change (Edits w) (Rename u v t) hc hd eh ef es = absurd (omega (arith, ap (λ (h : EntryHeader). h.kind) eh))
+same_change (Edits w) (Truncate q m t) hc hd eh ef es = absurd (omega (arith, ap (λ (h : EntryHeader). h.kind) eh))
+same_change (Edits w) (Write q g x t) hc hd eh ef es = absurd (omega (arith, ap (λ (h : EntryHeader). h.kind) eh))
+same_change (Edits w) (Punch q g m t) hc hd eh ef es = absurd (omega (arith, ap (λ (h : EntryHeader). h.kind) eh))
+same_change (Edits w) (SetMtime q t) hc hd eh ef es = absurd (omega (arith, ap (λ (h : EntryHeader). h.kind) eh))
+same_change (Edits w) (CopyRange r g v m k t) hc hd eh ef es = absurd (omega (arith, ap (λ (h : EntryHeader). h.kind) eh))
+same_change (Edits w) (Keep b r) hc hd eh ef es = absurd (omega (arith, ap (λ (h : EntryHeader). h.kind) eh, last_kinds b))
+same_change (Edits w) (Edits y) hc hd eh ef es = ap Edits ef
 
 pub one_body : (cs ds : List WalEntry) → AllByRecursion IsChange cs → AllByRecursion IsChange ds → body_of cs ≡ body_of ds → cs ≡ ds
 one_body [] [] hc hd e = refl

@@ -13,7 +13,7 @@ use Rattle.pathkey.specs.declared.errno.Errno.{Errno}
 use Rattle.pathkey.specs.declared.errno.Errno.TheVariants.{ENOMEM}
 use Rattle.pathkey.proofs.TextFacts.{only_texts, read_back}
 use Rattle.wal.specs.declared.wal_entry.WalEntry.{WalEntry}
-use Rattle.wal.specs.declared.wal_entry.WalEntry.TheVariants.{OnPath, Rename, Truncate, Write, Punch, SetMtime, CopyRange, Keep}
+use Rattle.wal.specs.declared.wal_entry.WalEntry.TheVariants.{OnPath, Rename, Truncate, Write, Punch, SetMtime, CopyRange, Keep, Edits}
 use Rattle.wal.specs.declared.wal_entry.SnapshotCall.TheVariants.{Snapshot, Remove, Restore}
 use Rattle.reference.specs.declared.path_call.PathCall.TheVariants.{Mkdir, Create, Unlink, Rmdir, Rmtree}
 use Rattle.wal.specs.Entries.{IsChange, IsHead, IsNoTarget, IsNoText, IsWord, first_of, head_of, second_of, word}
@@ -95,3 +95,4 @@ fit (CopyRange p off q to n at) h = record { head = record { kind = omega arith;
 fit (Keep Snapshot s) h = record { head = record { kind = omega arith; at = omega arith; offset = omega arith; count = omega arith }; first_fits = short_name s h; second_fits = omega arith }
 fit (Keep Remove s) h = record { head = record { kind = omega arith; at = omega arith; offset = omega arith; count = omega arith }; first_fits = short_name s h; second_fits = omega arith }
 fit (Keep Restore s) h = record { head = record { kind = omega arith; at = omega arith; offset = omega arith; count = omega arith }; first_fits = short_name s h; second_fits = omega arith }
+fit (Edits w) h = record { head = record { kind = omega arith; at = omega arith; offset = omega arith; count = omega arith }; first_fits = h; second_fits = omega arith }

@@ -3,6 +3,7 @@ pub mod Changes
 pub mod Bodies
 pub mod Logs
 pub mod Making
+pub mod Leading
 pub mod Reaching
 pub mod Replaying
 mod Reading

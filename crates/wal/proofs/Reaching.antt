@@ -4,26 +4,22 @@ use Rattle.std.proofs.lemmas.Grind.{take_at_read}
 use Rattle.std.proofs.lemmas.List.{take-append-drop}
 use Rattle.pathkey.specs.declared.errno.Errno.{Errno}
 use Rattle.reference.specs.Worlds.{World}
-use Rattle.volume.specs.Volumes.{PVolume, Means}
+use Rattle.volume.specs.Volumes.{PVolume}
 use Rattle.wal.specs.declared.wal_entry.WalEntry.{WalEntry}
-use Rattle.wal.specs.Runs.{AllDone, IsRefused, Reaches, Stops, after, made}
+use Rattle.wal.specs.Runs.{AllDone, IsRefused, Reaches, Stops}
 
-after-append : (w : World) (xs ys : List WalEntry) → after w (xs ++ ys) ≡ after (after w xs) ys
-after-append w [] ys = refl
-after-append w (x ∷ xs) ys = after-append (made w x) xs ys
-
-all_done-append : (w : World) (xs ys : List WalEntry) → AllDone w xs → AllDone (after w xs) ys → AllDone w (xs ++ ys)
-all_done-append w [] ys h k = k
-all_done-append w (x ∷ xs) ys h k = (h.0, all_done-append (made w x) xs ys h.1 k)
+all_done-append : (w v m : World) (xs ys : List WalEntry) → AllDone w xs v → AllDone v ys m → AllDone w (xs ++ ys) m
+all_done-append w v m [] ys h k = subst (λ (x : World). AllDone x ys m) h k
+all_done-append w v m (x ∷ xs) ys h k = (h.0, h.1, all_done-append h.0 v m xs ys h.2 k)
 
 pub reaches_none : (v : PVolume) → Reaches [] v v
-reaches_none v = λ w m. (tt, m)
+reaches_none v = λ w m. (w, refl, m)
 
 pub reaches_join : (xs ys : List WalEntry) (old between new : PVolume) → Reaches xs old between → Reaches ys between new → Reaches (xs ++ ys) old new
 reaches_join xs ys old between new h k = λ w m.
     let first = h w m in
-    let second = k (after w xs) first.1 in
-    (all_done-append w xs ys first.0 second.0, subst (Means new) (sym (after-append w xs ys)) second.1)
+    let second = k first.0 first.2 in
+    (second.0, all_done-append w first.0 second.0 xs ys first.1 second.1, second.2)
 
 pub reaches_more : (cs : List WalEntry) (i : ℕ) (c : WalEntry) (old between new : PVolume) → i < length cs → c ≡ get_or cs i c → Reaches (take i cs) old between → Reaches (c ∷ []) between new
     → Reaches (take (i + 1) cs) old new

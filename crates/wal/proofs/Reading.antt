@@ -16,7 +16,7 @@ use Rattle.textio.specs.Values.{number_of, path_of}
 use Rattle.textio.proofs.WordFacts.{more_words, one_word}
 use Rattle.textio.proofs.Written.{all_visible, bytes_reported, hex_text_visible, number_reported, path_read, root_read}
 use Rattle.wal.specs.Entries.{IsWord}
-use Rattle.wal.specs.declared.wal_entry.WalEntry.TheVariants.{OnPath, Rename, Truncate, Write, Punch, SetMtime, CopyRange, Keep}
+use Rattle.wal.specs.declared.wal_entry.WalEntry.TheVariants.{OnPath, Rename, Truncate, Write, Punch, SetMtime, CopyRange, Keep, Edits}
 use Rattle.wal.specs.declared.wal_entry.SnapshotCall.{SnapshotCall}
 use Rattle.wal.specs.declared.wal_entry.SnapshotCall.TheVariants.{Snapshot, Remove, Restore}
 use Rattle.reference.specs.declared.path_call.PathCall.{PathCall}
@@ -163,6 +163,12 @@ is_read (Makes (CopyRange p off q to n at)) h = (
   number_read n h.4,
 )
 is_read (Makes (Keep what s)) h = two_words (keeping_word what) s (keeping_visible what) (snap_visible s (and_parts _ _ h).1)
+is_read (Makes (Edits b)) h = (
+  decimal (length b),
+  word_before (codes "#") (codes "edits" ++ 32 ∷ decimal (length b)) _ (seen (codes "#") refl)
+      (two_words (codes "edits") (decimal (length b)) (seen (codes "edits") refl) (decimal_visible (length b) h)),
+  number_read (length b) h,
+)
 
 -- it fits a script
 call_short : (what : PathCall) → length (call_word what) ≤ 6
@@ -236,6 +242,7 @@ is_short (Makes (Keep what s)) h =
     let w = keeping_short what in
     let a = snap_short s h in
     omega (arith, l, w, a)
+is_short (Makes (Edits b)) h = let d = decimal_short (length b) h in omega (arith, d)
 
 -- it has no line feed
 abbrev Unbroken : Text → Type 0
@@ -281,6 +288,9 @@ all_unbroken (Makes (CopyRange p off q to n at)) h =
     let words = spaced (codes "copy") (path_word p ++ 32 ∷ (decimal off ++ 32 ∷ (path_word q ++ 32 ∷ (decimal to ++ 32 ∷ decimal n)))) (unbroken (codes "copy") (seen (codes "copy") refl)) places in
     spaced (codes "#") (codes "copy " ++ (path_word p ++ 32 ∷ (decimal off ++ 32 ∷ (path_word q ++ 32 ∷ (decimal to ++ 32 ∷ decimal n))))) (unbroken (codes "#") (seen (codes "#") refl)) words
 all_unbroken (Makes (Keep what s)) h = spaced (keeping_word what) s (unbroken (keeping_word what) (keeping_visible what)) (unbroken s (snap_visible s (and_parts _ _ h).1))
+all_unbroken (Makes (Edits b)) h =
+    spaced (codes "#") (codes "edits " ++ decimal (length b)) (unbroken (codes "#") (seen (codes "#") refl))
+    (spaced (codes "edits") (decimal (length b)) (unbroken (codes "edits") (seen (codes "edits") refl)) (decimal_unbroken (length b) h))
 
 pub is_one : (t : DumpLine) → Fits t → All (λ b. b ≢ 10) (spelled t)
 is_one t h = All-from_recursion (λ b. b ≢ 10) (spelled t) (all_unbroken t h)

@@ -7,7 +7,7 @@ use Rattle.pathkey.specs.SnapNames.{is_snap_name}
 use Rattle.reference.specs.Image.{Text}
 use Rattle.wal.specs.Entries.{IsWord}
 use Rattle.wal.specs.declared.wal_entry.WalEntry.{WalEntry}
-use Rattle.wal.specs.declared.wal_entry.WalEntry.TheVariants.{OnPath, Rename, Truncate, Write, Punch, SetMtime, CopyRange, Keep}
+use Rattle.wal.specs.declared.wal_entry.WalEntry.TheVariants.{OnPath, Rename, Truncate, Write, Punch, SetMtime, CopyRange, Keep, Edits}
 use Rattle.wal.specs.Lines.{DumpLine, At, Makes, line}
 use Rattle.wal.specs.Dump.{AreParts, HasBytes, TellAll, Tells}
 
@@ -22,6 +22,7 @@ HasRoom (Punch p off n at) = IsPath p × IsWord off × IsWord n
 HasRoom (SetMtime p at) = IsPath p × IsWord at
 HasRoom (CopyRange p off q to n at) = IsPath p × IsWord off × IsPath q × IsWord to × IsWord n
 HasRoom (Keep what s) = is_snap_name s ≡ true
+HasRoom (Edits w) = IsWord (length w)
 
 -- the same for a line with a timestamp
 abbrev pub Fits : DumpLine → Type 0

@@ -9,7 +9,7 @@ use Rattle.textio.specs.Values.{bytes_of, number_of, path_of}
 use Rattle.wal.specs.Entries.{RefusesBody, body_of}
 use Rattle.wal.specs.Encode.{encoded}
 use Rattle.wal.specs.declared.wal_entry.WalEntry.{WalEntry}
-use Rattle.wal.specs.declared.wal_entry.WalEntry.TheVariants.{OnPath, Rename, Truncate, Write, Punch, SetMtime, CopyRange, Keep}
+use Rattle.wal.specs.declared.wal_entry.WalEntry.TheVariants.{OnPath, Rename, Truncate, Write, Punch, SetMtime, CopyRange, Keep, Edits}
 use Rattle.wal.specs.Lines.{DumpLine, At, Makes, call_word, keeping_word}
 
 -- ---- which lines represent a change
@@ -25,7 +25,7 @@ HasBytes (Write p off w at) = w ≢ []
 HasBytes _ = ⊤
 
 -- a change is represented by a line with its timestamp, if it has one, and its own line. A write may be several writes, none of which is
--- empty unless it is empty itself; a hole, an mtime and a copied range are only a note
+-- empty unless it is empty itself; a hole, an mtime, a copied range and edits are only a note
 abbrev pub Tells : WalEntry → List DumpLine → Type 0
 Tells (OnPath what p at) ts = ts ≡ At at ∷ Makes (OnPath what p at) ∷ []
 Tells (Rename o n at) ts = ts ≡ At at ∷ Makes (Rename o n at) ∷ []
@@ -40,7 +40,8 @@ TellAll (c ∷ cs) ts = (front : List DumpLine) × (back : List DumpLine) × (ts
 
 -- ---- what a reader parses from a line
 
--- the words are the name of the change, and words that are parsed as its path, number or bytes; a hole, an mtime and a copied range are notes
+-- the words are the name of the change, and words that are parsed as its path, number or bytes; a hole, an mtime and a copied range are notes,
+-- and so are edits, of which the length is told
 abbrev pub IsRead : List ℕ → DumpLine → Type 0
 IsRead l (At n) = (w : List ℕ) × (words_of l ≡ codes "at" ∷ w ∷ []) × (number_of w ≡ Some n)
 IsRead l (Makes (OnPath what p at)) = (w : List ℕ) × (words_of l ≡ call_word what ∷ w ∷ []) × (path_of w ≡ Ok p)
@@ -53,6 +54,7 @@ IsRead l (Makes (CopyRange p off q to n at)) =
     (s : List ℕ) × (t : List ℕ) × (u : List ℕ) × (v : List ℕ) × (w : List ℕ) × (words_of l ≡ codes "#" ∷ codes "copy" ∷ s ∷ t ∷ u ∷ v ∷ w ∷ [])
     × (path_of s ≡ Ok p) × (number_of t ≡ Some off) × (path_of u ≡ Ok q) × (number_of v ≡ Some to) × (number_of w ≡ Some n)
 IsRead l (Makes (Keep what s)) = words_of l ≡ keeping_word what ∷ s ∷ []
+IsRead l (Makes (Edits b)) = (w : List ℕ) × (words_of l ≡ codes "#" ∷ codes "edits" ∷ w ∷ []) × (number_of w ≡ Some (length b))
 
 -- the lines are parsed as these, one for one, and none is too long for a script
 abbrev pub AreRead : List (List ℕ) → List DumpLine → Type 0

@@ -8,7 +8,7 @@ use Rattle.pathkey.specs.Texts.{text_of}
 use Rattle.pathkey.specs.declared.errno.Errno.{Errno}
 use Rattle.pathkey.specs.declared.errno.Errno.TheVariants.{EINVAL, ENOMEM}
 use Rattle.wal.specs.declared.wal_entry.WalEntry.{WalEntry}
-use Rattle.wal.specs.declared.wal_entry.WalEntry.TheVariants.{OnPath, Rename, Truncate, Write, Punch, SetMtime, CopyRange, Keep}
+use Rattle.wal.specs.declared.wal_entry.WalEntry.TheVariants.{OnPath, Rename, Truncate, Write, Punch, SetMtime, CopyRange, Keep, Edits}
 use Rattle.wal.specs.declared.wal_entry.SnapshotCall.{SnapshotCall}
 use Rattle.wal.specs.declared.wal_entry.SnapshotCall.TheVariants.{Snapshot, Remove, Restore}
 use Rattle.reference.specs.declared.path_call.PathCall.{PathCall}
@@ -55,8 +55,9 @@ head_of (Punch p off n at) = record { kind = 9; at = at; offset = off; count = n
 head_of (SetMtime p at) = record { kind = 13; at = at; offset = 0; count = 0 }
 head_of (CopyRange p off q to n at) = record { kind = 14; at = at; offset = off; count = n }
 head_of (Keep what s) = record { kind = keeping_kind what; at = 0; offset = 0; count = 0 }
+head_of (Edits w) = record { kind = 15; at = 0; offset = 0; count = 0 }
 
--- the first text: the change's path, or the name of the snapshot
+-- the first text: the change's path, the name of the snapshot, or the text of edits
 abbrev pub first_of : WalEntry → List ℕ
 first_of (OnPath what p at) = text_of p
 first_of (Rename o n at) = text_of o
@@ -66,6 +67,7 @@ first_of (Punch p off n at) = text_of p
 first_of (SetMtime p at) = text_of p
 first_of (CopyRange p off q to n at) = text_of p
 first_of (Keep what s) = s
+first_of (Edits w) = w
 
 -- the second text: the new path of a rename, the bytes of a write, or the offset and path to which a copy goes
 abbrev pub second_of : WalEntry → List ℕ
@@ -102,6 +104,7 @@ IsChange (Punch p off n at) = IsPath p × IsWord off × IsWord n × IsWord at
 IsChange (SetMtime p at) = IsPath p × IsWord at
 IsChange (CopyRange p off q to n at) = IsPath p × IsWord off × IsPath q × IsWord to × IsWord n × IsWord at
 IsChange (Keep what s) = is_snap_name s ≡ true
+IsChange (Edits w) = IsWord (length w)
 
 -- ---- how bytes are decoded
 

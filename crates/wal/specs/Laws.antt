@@ -5,11 +5,13 @@ use Rattle.pathkey.specs.Names.{Path}
 use Rattle.reference.specs.Calls.{does}
 use Rattle.reference.specs.Shape.{IsTree}
 use Rattle.reference.specs.Tree.{Tree}
+use Rattle.reference.specs.Worlds.{World}
 use Rattle.reference.specs.declared.call.Call.TheVariants.{Write}
 use Rattle.reference.specs.declared.reply.Reply.TheVariants.{Count}
 use Rattle.wal.specs.Entries.{IsWord, body_of, IsChange, word}
 use Rattle.wal.specs.Records.{AreBodies, Counts, LacksRecord, digest, front, magic, record_of, whole, written}
 use Rattle.wal.specs.Replays.{bodies}
+use Rattle.wal.specs.Runs.{Does}
 use Rattle.wal.specs.declared.wal_entry.WalEntry.{WalEntry}
 
 -- a body is that of one list of changes
@@ -19,6 +21,10 @@ OneBodyLaw = (cs ds : List WalEntry) → AllByRecursion IsChange cs → AllByRec
 -- the bytes of a log determine its valid records
 abbrev pub OneReadingLaw : Type 0
 OneReadingLaw = (salt : List ℕ) (n : ℕ) (log : List ℕ) (bs cs : List (List ℕ)) (r s : List ℕ) → Counts salt n log bs r → Counts salt n log cs s → (bs ≡ cs) × (r ≡ s)
+
+-- a change leads from a world to at most one
+abbrev pub OneWorldLaw : Type 0
+OneWorldLaw = (w m n : World) (c : WalEntry) → IsTree w.live → Does w c m → Does w c n → m ≡ n
 
 -- in a log that is cut anywhere, exactly the records that are whole before the cut are valid
 abbrev pub CutLaw : Type 0

@@ -1,10 +1,10 @@
 -- The lines of a script that represent changes, as they are printed.
-use Rattle.std.specs.Prelude.{ℕ, [], ◌∷◌, ◌++◌, codes, decimal}
+use Rattle.std.specs.Prelude.{ℕ, [], ◌∷◌, ◌++◌, length, codes, decimal}
 use Rattle.pathkey.specs.Names.{Path}
 use Rattle.reference.specs.Image.{Text, path_text}
 use Rattle.textio.specs.Texts.{hex_text}
 use Rattle.wal.specs.declared.wal_entry.WalEntry.{WalEntry}
-use Rattle.wal.specs.declared.wal_entry.WalEntry.TheVariants.{OnPath, Rename, Truncate, Write, Punch, SetMtime, CopyRange, Keep}
+use Rattle.wal.specs.declared.wal_entry.WalEntry.TheVariants.{OnPath, Rename, Truncate, Write, Punch, SetMtime, CopyRange, Keep, Edits}
 use Rattle.wal.specs.declared.wal_entry.SnapshotCall.{SnapshotCall}
 use Rattle.wal.specs.declared.wal_entry.SnapshotCall.TheVariants.{Snapshot, Remove, Restore}
 use Rattle.reference.specs.declared.path_call.PathCall.{PathCall}
@@ -44,6 +44,7 @@ spelled (Makes (Punch p off n at)) = codes "# punch " ++ (path_word p ++ 32 ∷ 
 spelled (Makes (SetMtime p at)) = codes "# mtime " ++ (path_word p ++ 32 ∷ decimal at)
 spelled (Makes (CopyRange p off q to n at)) = codes "# copy " ++ (path_word p ++ 32 ∷ (decimal off ++ 32 ∷ (path_word q ++ 32 ∷ (decimal to ++ 32 ∷ decimal n))))
 spelled (Makes (Keep what s)) = keeping_word what ++ 32 ∷ s
+spelled (Makes (Edits w)) = codes "# edits " ++ decimal (length w)
 
 abbrev pub line : DumpLine → Text
 line t = spelled t ++ 10 ∷ []

@@ -1,11 +1,12 @@
 //! Applies one entry of a log to a volume.
 //!
-//! An entry is applied by the volume's own call, with the timestamp that was logged. An entry that fails leaves the
-//! volume unchanged.
+//! An entry is applied by the volume's own call, with the timestamp that was logged, and a text of edits by `edits`. An entry
+//! that fails leaves the volume unchanged.
 ghost use Rattle.std.specs.Prelude.{◌≡◌, Err, MatchResult, Ok};
 ghost use Rattle.wal.specs.Runs.{Makes};
 
 use crate::wal_entry::{SnapshotCall, WalEntry};
+use edits::{EditFault, apply_edits};
 use pathkey::{Errno, SnapName};
 use std::alloc::Global;
 use volume::Volume;
@@ -33,6 +34,7 @@ pub(crate) fn apply_entry(
             settled(volume.copy_range(alloc, from, *offset, to, *target, *count, *at))
         }
         WalEntry::Keep(what, name) => keep(alloc, volume, *what, name),
+        WalEntry::Edits(text) => edit(alloc, volume, text.as_slice()),
     }
 }
 
@@ -59,5 +61,17 @@ fn keep(
         SnapshotCall::Snapshot => volume.snapshot(alloc, name),
         SnapshotCall::Remove => volume.drop_snapshot(name),
         SnapshotCall::Restore => volume.restore(name),
+    }
+}
+
+// Applies a text of edits. Fails with EINVAL if it is none, and with ENOENT if an edit does not fit.
+fn edit(alloc: Global, volume: &mut Volume, text: &[u8]) -> Result<(), Errno>
+    ensures { Makes (WalEntry.Edits text.now) result volume.old volume.new }
+{
+    match apply_edits(alloc, volume, text) {
+        Ok(()) => Ok(()),
+        Err(EditFault::Bad(_)) => Err(Errno::EINVAL),
+        Err(EditFault::Unfit(_)) => Err(Errno::ENOENT),
+        Err(EditFault::Memory) => Err(Errno::ENOMEM),
     }
 }

@@ -67,6 +67,7 @@ fn read_entry(
         12 => decode_snapshot_call(alloc, SnapshotCall::Restore, head, first, second),
         13 => read_mtime(alloc, head, first, second),
         14 => read_copy_range(alloc, head, first, second),
+        15 => read_edits(alloc, head, first, second),
         _ => Err(Errno::EINVAL),
     }
 }
@@ -198,6 +199,25 @@ fn read_copy_range(
     let from = read_path(alloc, first)?;
     let (target, to) = read_target(alloc, second)?;
     Ok(WalEntry::CopyRange(from, head.offset, to, target, head.count, head.at))
+}
+
+// Decodes a text of edits.
+fn read_edits(
+    alloc: Global,
+    head: EntryHeader,
+    first: &[u8],
+    second: &[u8],
+) -> Result<WalEntry, Errno>
+    requires { 15 ≡ head.kind }
+    ensures { ReadsEntry head first.now second.now result }
+{
+    if !second.is_empty() || head.at != 0 || !has_no_numbers(head) {
+        return Err(Errno::EINVAL);
+    }
+    let Ok(text) = Bytes::copy_from_slice(alloc, first) else {
+        return Err(Errno::ENOMEM);
+    };
+    Ok(WalEntry::Edits(text))
 }
 
 // Decodes a snapshot call.

@@ -15,9 +15,9 @@ use std::alloc::Global;
 /// Prints the changes of a record's body as the lines of a script that makes the same changes, in the same order, with the
 /// same timestamps, and does nothing else.
 ///
-/// A write becomes as many lines as it needs. A hole and a copied range have no line, since their effect depends on the tree.
-/// Neither has an mtime that is set, since no call of a script sets one. All three become a note, which is a comment of the
-/// script. Fails with EINVAL if the bytes are not a body, with EFBIG if a write reaches past 2^64, and with
+/// A write becomes as many lines as it needs. A hole, a copied range and a text of edits have no line, since their effect depends
+/// on the tree. Neither has an mtime that is set, since no call of a script sets one. All four become a note, which is a comment
+/// of the script. Fails with EINVAL if the bytes are not a body, with EFBIG if a write reaches past 2^64, and with
 /// ENOMEM if an allocation fails.
 pub fn wal_dump(alloc: Global, body: &[u8]) -> Result<Vec<u8>, Errno>
     ensures { MatchResult result (λ text. IsScriptOf body.now text.items) (λ e. RefusesLines body.now e) }

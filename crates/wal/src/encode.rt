@@ -2,7 +2,7 @@
 //!
 //! Each function returns the length of the encoding in bytes, and writes it only if the buffer is large enough for all of
 //! it. Every encoding decodes to the same change.
-ghost use Rattle.std.specs.Prelude.{◌≡◌, ◌++◌, IfErr, IfOk, OnOk, length};
+ghost use Rattle.std.specs.Prelude.{◌≡◌, ◌++◌, IfErr, IfOk, Ok, OnOk, length};
 ghost use Rattle.pathkey.specs.SnapNames.{snap_parsed};
 ghost use Rattle.pathkey.specs.Texts.{parsed};
 ghost use Rattle.pathkey.specs.declared.errno.Errno.TheVariants.{ENOMEM};
@@ -179,6 +179,19 @@ pub fn encode_snapshot_call(
         count: 0,
     };
     encode(alloc, head, parsed.as_bytes(), &[], out)
+}
+
+/// Encodes a text of edits, which may be any bytes. Fails only with ENOMEM.
+pub fn encode_edits(alloc: Global, text: &[u8], out: &mut [u8]) -> Result<usize, Errno>
+    ensures { Encodes (Ok (WalEntry.Edits text.now)) result out.old out.new }
+{
+    let head = EntryHeader {
+        kind: 15,
+        at: 0,
+        offset: 0,
+        count: 0,
+    };
+    encode(alloc, head, text, &[], out)
 }
 
 /// Encodes what surrounds the body of the record with this number in a log with this salt: the 24 bytes of the header and the

@@ -1,10 +1,15 @@
 //! Laws of logs, of crashes and of the lines of a dump. The functions do nothing at run time.
-ghost use Rattle.wal.specs.Laws.{CrashLaw, CutLaw, DigestLaw, FirstLaw, NumberLaw, OneBodyLaw, OneReadingLaw, SaltLaw, SplitLaw, SyncedLaw, TailLaw};
+ghost use Rattle.wal.specs.Laws.{CrashLaw, CutLaw, DigestLaw, FirstLaw, NumberLaw, OneBodyLaw, OneReadingLaw, OneWorldLaw, SaltLaw, SplitLaw, SyncedLaw, TailLaw};
 
 /// Decoding is unambiguous, both of a body into changes and of a log into records.
 pub fn one_reading()
     ensures body { OneBodyLaw }
     ensures log { OneReadingLaw }
+{}
+
+/// A change leads from a world to at most one.
+pub fn one_world()
+    ensures { OneWorldLaw }
 {}
 
 /// If a log is cut anywhere, exactly the records that are whole before the cut are valid.

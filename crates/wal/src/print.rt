@@ -4,7 +4,7 @@
 //! script allows.
 ghost use Rattle.std.specs.Prelude.{◌≡◌, ◌≤◌, ◌∷◌, ◌++◌, ℕ, OnOk, decimal, length};
 ghost use Rattle.wal.specs.declared.wal_entry.WalEntry.{WalEntry};
-ghost use Rattle.wal.specs.declared.wal_entry.WalEntry.TheVariants.{OnPath, Rename, Truncate, Write, Punch, SetMtime, CopyRange, Keep};
+ghost use Rattle.wal.specs.declared.wal_entry.WalEntry.TheVariants.{OnPath, Rename, Truncate, Write, Punch, SetMtime, CopyRange, Keep, Edits};
 ghost use Rattle.wal.specs.Added.{AddsLine};
 ghost use Rattle.wal.specs.Lines.{At, Makes, call_word, keeping_word, path_word};
 ghost use Rattle.pathkey.specs.Names.{IsPath};
@@ -134,6 +134,13 @@ fn put_place(text: &mut Vec<u8>, path: &Path, offset: u64) -> Result<(), WriteFa
     put_path_word(text, path)?;
     put(text, b" ")?;
     put_number(text, offset)
+}
+
+// Appends the note of a text of edits.
+pub(crate) fn put_edits(text: &mut Vec<u8>, edits: &[u8]) -> Result<(), WriteFailed>
+    ensures { OnOk result (AddsLine (Makes (Edits edits.now)) text.old.items text.new.items) }
+{
+    put_number_line(text, b"# edits ", edits.len() as u64)
 }
 
 // Appends the line of a snapshot call.

@@ -4,7 +4,7 @@ ghost use Rattle.wal.specs.Added.{Adds, AddsParts};
 ghost use Rattle.wal.specs.Dump.{exceeds_range};
 
 use crate::print::{
-    put_copy_range, put_hole, put_keep, put_moment, put_mtime, put_on_path, put_rename,
+    put_copy_range, put_edits, put_hole, put_keep, put_moment, put_mtime, put_on_path, put_rename,
     put_truncate, put_write,
 };
 use crate::wal_entry::WalEntry;
@@ -52,6 +52,7 @@ pub(crate) fn put_change(text: &mut Vec<u8>, change: &WalEntry) -> Result<(), Wr
             put_copy_range(text, from, *offset, to, *target, *count)
         }
         WalEntry::Keep(what, name) => put_keep(text, *what, name),
+        WalEntry::Edits(edits) => put_edits(text, edits.as_slice()),
     }
 }
 

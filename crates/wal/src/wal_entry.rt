@@ -1,4 +1,5 @@
-//! The changes that a log records. Each is a call of the volume, so a replay has the contract of that call.
+//! The changes that a log records. Each is a call of the volume, or a text of edits of it, so a replay has the contract of that
+//! call.
 
 use bytes::Bytes;
 use pathkey::{Path, SnapName};
@@ -35,4 +36,6 @@ pub enum WalEntry {
     CopyRange(Path, u64, Path, u64, u64, u64),
     /// Takes, removes or restores the snapshot of a name.
     Keep(SnapshotCall, SnapName),
+    /// Applies a text of edits, all of them or none. Whether the bytes are such a text is found when they are applied.
+    Edits(Bytes),
 }

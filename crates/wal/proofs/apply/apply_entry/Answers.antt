@@ -1,6 +1,6 @@
 use Rattle.std.proofs.Common.{refl, sym, subst}
 use Rattle.wal.specs.declared.wal_entry.WalEntry.{WalEntry}
-use Rattle.wal.specs.declared.wal_entry.WalEntry.TheVariants.{OnPath, Rename, Truncate, Write, Punch, SetMtime, CopyRange}
+use Rattle.wal.specs.declared.wal_entry.WalEntry.TheVariants.{OnPath, Rename, Truncate, Write, Punch, CopyRange}
 use Rattle.reference.specs.PathCalls.{call_at}
 use Rattle.reference.specs.Worlds.{Ask, Replied}
 use Rattle.reference.specs.declared.call.Call.TheVariants as ask

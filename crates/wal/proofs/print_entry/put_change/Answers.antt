@@ -1,7 +1,7 @@
 use Rattle.std.proofs.Common.{ℕ, List, refl, sym, subst, OnOk}
 use Rattle.std.proofs.lemmas.Result.{on_ok_weaker}
 use Rattle.wal.specs.declared.wal_entry.WalEntry.{WalEntry}
-use Rattle.wal.specs.declared.wal_entry.WalEntry.TheVariants.{OnPath, Rename, Truncate, Punch, SetMtime, CopyRange, Keep}
+use Rattle.wal.specs.declared.wal_entry.WalEntry.TheVariants.{OnPath, Rename, Truncate, Punch, SetMtime, CopyRange, Keep, Edits}
 use Rattle.wal.specs.Added.{Adds, AddsParts}
 use Rattle.wal.proofs.Adding.{adds_one, adds_two, adds_write}
 use Rattle.wal.proofs.print_entry.put_change.Goals as goal
@@ -62,3 +62,8 @@ pub returns-in-Keep : goal.returns-in-Keep
 returns-in-Keep c =
     subst (λ (x : WalEntry). OnOk c.put_keep.result (Adds x c.args.text.now.items c.put_keep.new.text.items)) (sym c.in-Keep.is)
     (on_ok_weaker c.put_keep.result (λ h. adds_one (Keep c.in-Keep.what c.in-Keep.name) c.args.text.now.items c.put_keep.new.text.items refl h) c.put_keep.ensures)
+
+pub returns-in-Edits : goal.returns-in-Edits
+returns-in-Edits c =
+    subst (λ (x : WalEntry). OnOk c.put_edits.result (Adds x c.args.text.now.items c.put_edits.new.text.items)) (sym c.in-Edits.is)
+    (on_ok_weaker c.put_edits.result (λ h. adds_one (Edits c.in-Edits.edits) c.args.text.now.items c.put_edits.new.text.items refl h) (rw c.as_slice-in-Edits.ensures at c.put_edits.ensures))

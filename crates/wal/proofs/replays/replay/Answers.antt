@@ -1,6 +1,9 @@
-use Rattle.wal.proofs.Replaying.{behind_shorter, done_after, replays_end, replays_stop}
+use Rattle.wal.proofs.Replaying.{behind_shorter, done_after, done_first, replays_end, replays_stop}
 use Rattle.wal.proofs.replays.replay.Goals as goal
 use Rattle.std.proofs.Common.{◌+◌}
+
+pub loop-body-init : goal.loop-body-init
+loop-body-init c = done_first c.args.salt.now c.args.number c.args.log.now c.args.volume.now
 
 pub returns-in-Err : goal.returns-in-Err
 returns-in-Err c =

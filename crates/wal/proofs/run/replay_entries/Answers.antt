@@ -1,5 +1,7 @@
-use Rattle.std.proofs.Common.{ℕ, sym, subst, arith}
-use Rattle.wal.specs.Runs.{Stops}
+use Rattle.std.proofs.Common.{ℕ, List, sym, subst, arith}
+use Rattle.std.proofs.lemmas.List.{take_all}
+use Rattle.wal.specs.Runs.{Reaches, Stops}
+use Rattle.wal.specs.declared.wal_entry.WalEntry.{WalEntry}
 use Rattle.wal.proofs.Reaching.{reaches_more, stops_at}
 use Rattle.wal.proofs.run.replay_entries.Goals as goal
 
@@ -15,3 +17,8 @@ loop-change-preserved c = record {
   reached = reaches_more c.args.changes.now c.loop-change.change-index c.change-item.result c.args.volume.now c.loop-change.volume c.apply_entry.new.volume
       c.loop-change-test.true c.change-item.is c.loop-change.invariant.reached c.in_default.ensures;
 }
+
+pub returns : goal.returns
+returns c =
+    subst (λ (xs : List WalEntry). Reaches xs c.args.volume.now c.loop-change.volume) (take_all c.loop-change.change-index c.args.changes.now (omega (arith, c.loop-change-test.false)))
+    c.loop-change.invariant.reached
