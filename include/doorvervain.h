@@ -18,9 +18,9 @@
 // of 0 the call returns the size alone, and DOORVERVAIN_DONE; with any other capacity that is too small it returns
 // DOORVERVAIN_ERANGE. Both leave the buffer unchanged.
 //
-// With a null pointer a call returns DOORVERVAIN_NULL, also if it is one to a volume, a frozen tree, a printer, a loader or a list.
-// Only a pointer whose length is 0 may be null. If one of these five is closed, the call returns DOORVERVAIN_CLOSED. A call
-// writes no more bytes into a buffer than its capacity.
+// With a null pointer a call returns DOORVERVAIN_NULL, also if it is one to a volume, a frozen tree, a printer (of an image or of edits),
+// a loader or a list. Only a pointer whose length is 0 may be null. If one of these is closed, the call returns DOORVERVAIN_CLOSED. A
+// call writes no more bytes into a buffer than its capacity.
 //
 // Caller obligations, which no check can see:
 //   - Set all members to null before the first use (`struct doorvervain fs = {0};`, in C++ `{}`), and do not change them.
@@ -74,6 +74,11 @@ struct doorvervain_printer {
 
 // Loads a volume from an image, one buffer at a time. It is closed if `ptr` is null.
 struct doorvervain_loader {
+    void *ptr;
+};
+
+// Prints the edits between two trees, one buffer at a time. It is closed if `ptr` is null.
+struct doorvervain_edits {
     void *ptr;
 };
 
@@ -198,6 +203,11 @@ uint8_t doorvervain_raw_delta(struct doorvervain *fs, const uint8_t *from, size_
 uint8_t doorvervain_raw_changed_paths(struct doorvervain *fs, const uint8_t *from, size_t from_length, const uint8_t *to,
     size_t to_length, uint8_t *out, size_t capacity, size_t *size);
 uint8_t doorvervain_raw_apply_delta(struct doorvervain *fs, const uint8_t *text, size_t length, uint64_t *line);
+uint8_t doorvervain_raw_edits_begin(struct doorvervain *fs, const uint8_t *from, size_t from_length, const uint8_t *to,
+    size_t to_length, struct doorvervain_edits *out);
+uint8_t doorvervain_raw_edits_next(struct doorvervain_edits *edits, uint8_t *out, size_t capacity, size_t *size);
+void doorvervain_raw_edits_end(struct doorvervain_edits edits);
+uint8_t doorvervain_raw_apply_edits(struct doorvervain *fs, const uint8_t *text, size_t length, uint64_t *line);
 uint8_t doorvervain_raw_print_begin(struct doorvervain_frozen tree, struct doorvervain_printer *out);
 uint8_t doorvervain_raw_print_next(
     struct doorvervain_printer *printer, uint8_t *out, size_t capacity, size_t *size);
@@ -250,6 +260,7 @@ uint8_t doorvervain_raw_wal_copy_range(const uint8_t *from, size_t from_length, 
 uint8_t doorvervain_raw_wal_snapshot(const uint8_t *name, size_t length, uint8_t *out, size_t capacity, size_t *size);
 uint8_t doorvervain_raw_wal_drop(const uint8_t *name, size_t length, uint8_t *out, size_t capacity, size_t *size);
 uint8_t doorvervain_raw_wal_restore(const uint8_t *name, size_t length, uint8_t *out, size_t capacity, size_t *size);
+uint8_t doorvervain_raw_wal_edits(const uint8_t *text, size_t length, uint8_t *out, size_t capacity, size_t *size);
 uint8_t doorvervain_raw_wal_dump(const uint8_t *body, size_t length, uint8_t *out, size_t capacity, size_t *size);
 uint8_t doorvervain_raw_wal_apply(struct doorvervain *fs, const uint8_t *body, size_t length, size_t *done);
 uint8_t doorvervain_raw_wal_salted_frame(const uint8_t *salt, size_t salt_length, uint64_t number, const uint8_t *body,
@@ -924,6 +935,54 @@ static inline uint8_t doorvervain_apply_delta(struct doorvervain *fs, const void
     return err ? err : doorvervain_raw_apply_delta(fs, doorvervain_in(text), length, line);
 }
 
+// ---- edits: deltas of format 2, which say what changed path by path (docs/FORMATS.md has their lines)
+
+// Begins to print the edits from one tree of the volume to another. Each tree is the snapshot of that name, or the live tree if the name's
+// length is 0. Both trees are taken by this call: doorvervain_edits_next needs no lock of the volume, which may change or be closed
+// meanwhile. The time of printing depends on what changed since the older of the two trees, not on the size of the trees, unless the
+// change log does not know it; then both trees are read (see doorvervain_changed_paths). What `edits` held before is not freed. Fails with
+// ENOENT if there is no such snapshot, with EINVAL if a text is not a name, and with ENOMEM; if both names fail, with the error of `from`.
+// The printer is closed then.
+static inline uint8_t doorvervain_edits_begin(struct doorvervain_edits *edits, const struct doorvervain *fs, const char *from,
+    size_t from_length, const char *to, size_t to_length) {
+    if (!edits) return DOORVERVAIN_NULL;
+    edits->ptr = NULL;
+    uint8_t err = doorvervain_bad_args(fs, from, from_length);
+    if (!err) err = doorvervain_bad_args(fs, to, to_length);
+    if (err) return err;
+    struct doorvervain same = *fs;
+    return doorvervain_raw_edits_begin(&same, doorvervain_in(from), from_length, doorvervain_in(to), to_length, edits);
+}
+
+// Writes the next bytes of the edits into the buffer. The first call prints the whole text into memory. `*size` is the number of bytes that
+// were written, 0 only at the end of the text or if `capacity` is 0. It may be less than `capacity`. Fails with ENOMEM; nothing was
+// written then, and the call may be repeated.
+static inline uint8_t doorvervain_edits_next(struct doorvervain_edits *edits, void *out, size_t capacity, size_t *size) {
+    if (!size) return DOORVERVAIN_NULL;
+    *size = 0;
+    if (!edits || (!out && capacity)) return DOORVERVAIN_NULL;
+    if (!edits->ptr) return DOORVERVAIN_CLOSED;
+    return doorvervain_raw_edits_next(edits, doorvervain_out(out), capacity, size);
+}
+
+// Frees a printer of edits with its trees, at any point of the text, and closes it. A closed printer is left unchanged.
+static inline void doorvervain_edits_end(struct doorvervain_edits *edits) {
+    if (!edits || !edits->ptr) return;
+    doorvervain_raw_edits_end(*edits);
+    edits->ptr = NULL;
+}
+
+// Applies edits to the live tree, all of them or none. Snapshots stay. Fails with ENOENT if an edit does not fit the tree, since something
+// else is at its path than it expects, and `*line` is the number of the first such line; with EINVAL if the text is not one of edits, and
+// `*line` is the number of its first bad line; with EBUSY if a transaction is open; and with ENOMEM. Lines are counted from 1, and `*line`
+// is 0 in every other case. The first line of the text that fails is the one that counts: the lines behind it are not read.
+static inline uint8_t doorvervain_apply_edits(struct doorvervain *fs, const void *text, size_t length, uint64_t *line) {
+    if (!line) return DOORVERVAIN_NULL;
+    *line = 0;
+    uint8_t err = doorvervain_busy_args(fs, text, length);
+    return err ? err : doorvervain_raw_apply_edits(fs, doorvervain_in(text), length, line);
+}
+
 // ---- compaction
 
 // Compacts the trees: does at most `steps` steps, each of which moves pending changes down from the fullest slot, or makes
@@ -1055,7 +1114,7 @@ static inline uint8_t doorvervain_frozen_next_extent(const struct doorvervain_fr
 // A log is a sequence of records, whose numbers increase by one. A record is DOORVERVAIN_WAL_HEADER bytes, a body, and
 // DOORVERVAIN_WAL_TRAILER bytes. A body is what one request changed: a sequence of entries, one for each change. An entry has
 // DOORVERVAIN_WAL_ENTRY bytes and its texts: a path or a name, and after it the second path of a rename, the bytes of a write, or 8
-// bytes and the second path of a copy.
+// bytes and the second path of a copy; or a text of edits.
 enum { DOORVERVAIN_WAL_HEADER = 24, DOORVERVAIN_WAL_TRAILER = 32, DOORVERVAIN_WAL_ENTRY = 48 };
 
 // The error for a text, a buffer or a size that is null; else 0.
@@ -1184,6 +1243,14 @@ static inline uint8_t doorvervain_wal_restore(const char *name, size_t length, v
                  : doorvervain_raw_wal_restore(doorvervain_in(name), length, doorvervain_out(out), capacity, size);
 }
 
+// Encodes the entry of a text of edits, a delta of format 2. Any bytes are encoded: applying the entry fails, and changes nothing, at the
+// first line that is no edit (EINVAL) or does not fit (ENOENT). Fails with ENOMEM.
+static inline uint8_t doorvervain_wal_edits(const void *text, size_t length, void *out, size_t capacity, size_t *size) {
+    uint8_t err = doorvervain_wal_bad_args(text, length, out, capacity, size);
+    return err ? err
+                 : doorvervain_raw_wal_edits(doorvervain_in(text), length, doorvervain_out(out), capacity, size);
+}
+
 // Encodes the frame of a body in the record of a number: the DOORVERVAIN_WAL_HEADER bytes before the body, and then the
 // DOORVERVAIN_WAL_TRAILER bytes after it. Fails with ENOMEM.
 static inline uint8_t doorvervain_wal_frame(
@@ -1201,9 +1268,9 @@ static inline uint8_t doorvervain_wal_next(const void *log, size_t length, uint6
     return err ? err : doorvervain_raw_wal_salted_next(doorvervain_in(log), length, doorvervain_in(NULL), 0, number, size);
 }
 
-// Dumps a body as the lines of a script that makes its changes, in their order and each with its timestamp. A punch and a copy
+// Dumps a body as the lines of a script that makes its changes, in their order and each with its timestamp. A punch, a copy and edits
 // are comments without their timestamp, since scripts have no line for them: "# punch PATH OFFSET COUNT", "# copy FROM OFFSET TO
-// TARGET COUNT". Fails with EINVAL if the bytes are not a body, with EFBIG if a write reaches past 2^64, and with ENOMEM.
+// TARGET COUNT", "# edits LENGTH". Fails with EINVAL if the bytes are not a body, with EFBIG if a write reaches past 2^64, and with ENOMEM.
 static inline uint8_t doorvervain_wal_dump(
     const void *body, size_t length, void *out, size_t capacity, size_t *size) {
     uint8_t err = doorvervain_wal_bad_args(body, length, out, capacity, size);

@@ -1,5 +1,5 @@
-// Lists the paths at which trees of a volume differ, prints deltas between them, and applies them. It prints what it finds; examples/run compares that with
-// deltas.expected, which was written by hand.
+// Lists the paths at which trees of a volume differ, prints deltas and edits between them, and applies them. It prints what it finds;
+// examples/run compares that with deltas.expected, which was written by hand.
 //
 // Built with -DREFUSE (examples/run does so), it also has each allocation of a call fail in turn.
 #include "doorvervain.h"
@@ -46,13 +46,18 @@ static void say_changed(struct doorvervain *fs, const char *from, const char *to
     printf("\n");
 }
 
+static uint8_t image_of(struct doorvervain *fs, uint8_t *image, size_t *size) {
+    struct doorvervain_frozen tree = {0};
+    uint8_t number = doorvervain_freeze(fs, &tree);
+    if (!number) number = doorvervain_image(&tree, image, CAPACITY, size);
+    doorvervain_frozen_close(&tree);
+    return number;
+}
+
 static void say_image(struct doorvervain *fs) {
     static uint8_t image[CAPACITY];
-    struct doorvervain_frozen tree = {0};
     size_t size = 0;
-    uint8_t number = doorvervain_freeze(fs, &tree);
-    if (!number) number = doorvervain_image(&tree, image, sizeof image, &size);
-    doorvervain_frozen_close(&tree);
+    uint8_t number = image_of(fs, image, &size);
     printf("image: %d\n%.*s", number, (int)size, (const char *)image);
 }
 
@@ -145,6 +150,135 @@ static void refusals(struct doorvervain *fs) {
     printf("a null result: %d, %d\n", doorvervain_delta(fs, NULL, 0, NULL, 0, text, CAPACITY, NULL), apply(fs, "", NULL));
 }
 
+// ---- edits
+
+#define BEFORE "D / 5\nF /a 3 7\nb 0 616263\nD /d 8\nF /d/x 1 9\nb 0 31\nF /z 0 3\n"
+
+static uint8_t begin(struct doorvervain *fs, const char *from, const char *to, struct doorvervain_edits *edits) {
+    return doorvervain_edits_begin(edits, fs, from, strlen(from), to, strlen(to));
+}
+
+// Prints the rest of the edits in pieces of so many bytes.
+static uint8_t take(struct doorvervain_edits *edits, size_t piece, size_t *size) {
+    size_t got = OLD;
+    uint8_t number = DOORVERVAIN_DONE;
+    for (*size = 0; !number && got; *size += got)
+        number = doorvervain_edits_next(edits, text + *size, piece, &got);
+    return number;
+}
+
+static uint8_t edits_of(struct doorvervain *fs, const char *from, const char *to, size_t *size) {
+    struct doorvervain_edits edits = {0};
+    *size = 0;
+    uint8_t number = begin(fs, from, to, &edits);
+    if (!number) number = take(&edits, 9, size);
+    doorvervain_edits_end(&edits);
+    return number;
+}
+
+static void say_edits(struct doorvervain *fs, const char *from, const char *to) {
+    size_t size;
+    uint8_t number = edits_of(fs, from, to, &size);
+    printf("edits from '%s' to '%s': %d\n%.*s", from, to, number, (int)size, (const char *)text);
+}
+
+static uint8_t fork_of_snapshot(struct doorvervain *fs, struct doorvervain *fork) {
+    struct doorvervain_frozen tree = {0};
+    uint8_t number = doorvervain_open_snapshot(fs, "s", 1, &tree);
+    if (!number) number = doorvervain_frozen_fork(&tree, fork);
+    doorvervain_frozen_close(&tree);
+    return number;
+}
+
+static int same_images(struct doorvervain *one, struct doorvervain *other) {
+    static uint8_t images[2][CAPACITY];
+    size_t sizes[2] = {0, 0};
+    if (image_of(one, images[0], &sizes[0]) || image_of(other, images[1], &sizes[1])) return 0;
+    return sizes[0] == sizes[1] && !memcmp(images[0], images[1], sizes[0]);
+}
+
+static void say_applied(struct doorvervain *fs, const char *what, const void *words, size_t size) {
+    uint64_t line = OLD;
+    uint8_t number = doorvervain_apply_edits(fs, words, size, &line);
+    printf("%s: %d, line %llu\n", what, number, (unsigned long long)line);
+}
+
+// The edits since a snapshot, applied to a fork of it, make the live tree. The fork's snapshots stay.
+static void edited(struct doorvervain *fs) {
+    struct doorvervain fork = {0};
+    size_t size;
+    printf("load: %d\n", load(fs, BEFORE));
+    printf("snapshot: %d\n", doorvervain_snapshot(fs, "s", 1));
+    say_edits(fs, "s", "");
+    printf("write: %d\n", doorvervain_write(fs, "/a", 2, 2, "d", 1, 9));
+    printf("rmtree: %d\n", doorvervain_rmtree(fs, "/d", 2, 10));
+    printf("create: %d\n", doorvervain_create(fs, "/n", 2, 11));
+    say_edits(fs, "", "s");
+    say_edits(fs, "s", "");
+    printf("fork: %d\n", fork_of_snapshot(fs, &fork));
+    printf("snapshot: %d\n", doorvervain_snapshot(&fork, "kept", 4));
+    uint8_t number = edits_of(fs, "s", "", &size);
+    printf("edits: %d\n", number);
+    say_applied(&fork, "to a fork of the snapshot", text, size);
+    printf("the same image: %s\n", same_images(fs, &fork) ? "yes" : "no");
+    say_applied(&fork, "once more", text, size);
+    printf("the same image: %s\n", same_images(fs, &fork) ? "yes" : "no");
+    say_changed(&fork, "kept", "");
+    doorvervain_close(&fork);
+}
+
+// The trees are those of the begin: the volume changes and is closed meanwhile.
+static void taken(struct doorvervain *fs) {
+    struct doorvervain_edits edits = {0};
+    size_t size, got = OLD;
+    uint8_t number = begin(fs, "s", "", &edits);
+    printf("begin: %d, %s\n", number, edits.ptr ? "open" : "closed");
+    number = doorvervain_edits_next(&edits, text, 0, &got);
+    printf("no capacity: %d, size %zu\n", number, got);
+    printf("unlink: %d\n", doorvervain_unlink(fs, "/a", 2, 12));
+    doorvervain_close(fs);
+    number = take(&edits, CAPACITY, &size);
+    printf("next: %d\n%.*s", number, (int)size, (const char *)text);
+    number = doorvervain_edits_next(&edits, text, CAPACITY, &got);
+    printf("behind the end: %d, size %zu\n", number, got);
+    doorvervain_edits_end(&edits);
+    printf("end: %s\n", edits.ptr ? "open" : "closed");
+    doorvervain_edits_end(&edits);
+}
+
+static void say_bad_edits(struct doorvervain *fs, const char *what, const char *words) {
+    say_applied(fs, what, words, strlen(words));
+}
+
+static void refused_edits(struct doorvervain *fs) {
+    struct doorvervain closed = {0};
+    struct doorvervain_edits edits = {0};
+    size_t size = OLD;
+    uint64_t line = OLD;
+    printf("load: %d\n", load(fs, BEFORE));
+    say_bad_edits(fs, "no text", "");
+    say_bad_edits(fs, "another heading", "delta 1\nend\n");
+    say_bad_edits(fs, "no edit", "delta 2\n- F /z 0 3\n* /z\nend\n");
+    say_bad_edits(fs, "no end", "delta 2\n- F /z 0 3\n");
+    say_bad_edits(fs, "lines behind the end", "delta 2\nend\nend\n");
+    say_bad_edits(fs, "no such file", "delta 2\n- F /z 0 3\n- F /y 0 3\nend\n");
+    say_bad_edits(fs, "another moment", "delta 2\n- F /z 0 4\nend\n");
+    say_bad_edits(fs, "other bytes",
+        "delta 2\nb /a 0 af51dba5e19e51149035ded7579f1bf2f6f7f1a400b7c0b2f16a28f946f9607c 616264\nend\n");
+    say_image(fs);
+    say_bad_edits(fs, "none", "delta 2\nend\n");
+    printf("no snapshot: %d", begin(fs, "no", "a/b", &edits));
+    printf(", %s\n", edits.ptr ? "open" : "closed");
+    printf("no name: %d\n", begin(fs, "", "a/b", &edits));
+    printf("no volume: %d, %d\n", begin(NULL, "", "", &edits), doorvervain_apply_edits(NULL, "", 0, &line));
+    printf("a closed volume: %d, %d\n", begin(&closed, "", "", &edits), doorvervain_apply_edits(&closed, "", 0, &line));
+    printf("null: %d, %d, %d\n", begin(fs, "", "", NULL), doorvervain_edits_begin(&edits, fs, NULL, 1, NULL, 0),
+        doorvervain_apply_edits(fs, NULL, 1, &line));
+    printf("a null result: %d, %d\n", doorvervain_edits_next(&edits, text, 1, NULL), doorvervain_apply_edits(fs, "", 0, NULL));
+    printf("a closed printer: %d, %d", doorvervain_edits_next(&edits, text, 1, &size), doorvervain_edits_next(NULL, text, 1, &size));
+    printf(", size %zu\n", size);
+}
+
 #ifdef REFUSE
 #include "refused_memory.h"
 
@@ -197,8 +331,50 @@ static void refused_memory(struct doorvervain *fs) {
     }
     printf("applied with each request refused: %d, %s\n", number, right && count > 9 ? "as it should be" : "not so");
 }
+
+// Makes each allocation of the edits fail in turn: a begin that returns ENOMEM leaves the printer closed, and a next the text as it was.
+static int edits_refused(struct doorvervain *fs, long *count, size_t *size) {
+    struct doorvervain_edits edits = {0};
+    uint8_t number = DOORVERVAIN_ENOMEM;
+    for (*count = 0; number == DOORVERVAIN_ENOMEM;) {
+        refused_request = ++*count;
+        number = begin(fs, "s", "", &edits);
+        refused_request = 0;
+        if (number && edits.ptr) return 0;
+    }
+    for (number = DOORVERVAIN_ENOMEM; number == DOORVERVAIN_ENOMEM;) {
+        refused_request = ++*count;
+        number = doorvervain_edits_next(&edits, text, CAPACITY, size);
+        refused_request = 0;
+        if (number && *size) return 0;
+    }
+    doorvervain_edits_end(&edits);
+    return !number;
+}
+
+// The same of their application, behind which the volume is unchanged.
+static void refused_memory_of_edits(struct doorvervain *fs) {
+    size_t size = OLD;
+    uint64_t line = OLD;
+    long count = 0;
+    printf("load: %d\n", load(fs, "D / 5\nF /a 3 7\nb 0 616263\n"));
+    printf("snapshot: %d\n", doorvervain_snapshot(fs, "s", 1));
+    printf("truncate: %d\n", doorvervain_truncate(fs, "/a", 2, 1, 9));
+    int right = edits_refused(fs, &count, &size);
+    printf("edits with each request refused: %s\n", right && count > 9 ? "as it should be" : "not so");
+    printf("restore: %d\n", doorvervain_restore(fs, "s", 1));
+    uint8_t number = DOORVERVAIN_ENOMEM;
+    for (count = 0; number == DOORVERVAIN_ENOMEM && right;) {
+        refused_request = ++count;
+        number = doorvervain_apply_edits(fs, text, size, &line);
+        refused_request = 0;
+        right = !line && (number == DOORVERVAIN_DONE ? has(fs, 1) : number == DOORVERVAIN_ENOMEM && has(fs, 3));
+    }
+    printf("applied with each request refused: %d, %s\n", number, right && count > 9 ? "as it should be" : "not so");
+}
 #else
 static void refused_memory(struct doorvervain *fs) { (void)fs; }
+static void refused_memory_of_edits(struct doorvervain *fs) { (void)fs; }
 #endif
 
 int main(void) {
@@ -210,6 +386,12 @@ int main(void) {
     refusals(&fs);
     doorvervain_close(&fs);
     refused_memory(&fs);
+    doorvervain_close(&fs);
+    edited(&fs);
+    taken(&fs);
+    refused_edits(&fs);
+    doorvervain_close(&fs);
+    refused_memory_of_edits(&fs);
     doorvervain_close(&fs);
     return 0;
 }

@@ -132,6 +132,8 @@ static void say_all_lines(const struct log *log) {
     say_lines("an mtime", body, size, CAPACITY);
     doorvervain_wal_copy_range("/a b", 4, 3, "/%", 2, 4, 5, 6, body, sizeof body, &size);
     say_lines("a copy", body, size, CAPACITY);
+    doorvervain_wal_edits("delta 2\nend\n", 12, body, sizeof body, &size);
+    say_lines("edits", body, size, CAPACITY);
     doorvervain_wal_write("/a", 2, UINT64_MAX, "x", 1, 5, body, sizeof body, &size);
     say_lines("too far", body, size, CAPACITY);
 }
@@ -170,6 +172,12 @@ static void say_refusals(void) {
     doorvervain_wal_restore("s", 1, out, sizeof out, &size);
     number = doorvervain_wal_apply(&fs, out, size, &done);
     printf("no snapshot: %d, done %zu\n", number, done);
+    doorvervain_wal_edits("delta 2\n- D /b 1\nend\n", 21, out, sizeof out, &size);
+    number = doorvervain_wal_apply(&fs, out, size, &done);
+    printf("edits that do not fit: %d, done %zu", number, done);
+    doorvervain_wal_edits("delta 2\n", 8, out, sizeof out, &size);
+    number = doorvervain_wal_apply(&fs, out, size, &done);
+    printf("; no edits: %d, done %zu\n", number, done);
     doorvervain_close(&fs);
 }
 

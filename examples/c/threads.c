@@ -436,8 +436,9 @@ static void fork_guarded(struct run *run) {
 }
 
 // Asks for the sizes of the delta from the snapshot to the tree and of the list of paths that differ, and for the names of the
-// snapshots, while others read the volume.
+// snapshots, while others read the volume; and for edits, which are printed while others change it.
 static void look_at_snapshots(struct run *run) {
+    struct doorvervain_edits edits = {0};
     char name[64];
     size_t size, bytes;
     pthread_rwlock_rdlock(&guarded.lock);
@@ -446,7 +447,11 @@ static void look_at_snapshots(struct run *run) {
     check(run, doorvervain_snapshot_name(&guarded.fs, 0, name, sizeof name, &size), DOORVERVAIN_DONE);
     run->wrong += size != 1 || name[0] != 's' || !bytes;
     check(run, doorvervain_snapshot_name(&guarded.fs, 1, name, sizeof name, &size), DOORVERVAIN_ENOENT);
+    check(run, doorvervain_edits_begin(&edits, &guarded.fs, "s", 1, "", 0), DOORVERVAIN_DONE);
     pthread_rwlock_unlock(&guarded.lock);
+    check(run, doorvervain_edits_next(&edits, name, sizeof name, &size), DOORVERVAIN_DONE);
+    run->wrong += size < 8 || memcmp(name, "delta 2\n", 8);
+    doorvervain_edits_end(&edits);
 }
 
 static void look_beneath(struct run *run) {

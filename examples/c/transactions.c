@@ -224,6 +224,7 @@ static void say_refused(const char *what, struct scene *scene) {
         doorvervain_wal_salted_replay(fs, salted->salted, salted->salted_size, "salt", 4, 1, &records, &done, &size));
     printf(" of %zu records", records);
     printf(", restore %d", doorvervain_restore(fs, "s", 1));
+    printf(", apply_edits %d", doorvervain_apply_edits(fs, "delta 2\nend\n", 12, &line));
     printf(", apply_delta %d", doorvervain_apply_delta(fs, scene->delta, scene->delta_size, &line));
     printf(" at line %llu\n", (unsigned long long)line);
 }

@@ -83,6 +83,7 @@ static void say(const char *call, uint8_t number) {
 
 static struct doorvervain fs, fork_of_it;
 static struct doorvervain_frozen tree, other_tree;
+static struct doorvervain_edits edits;
 static char out[1 << 20];
 static size_t got;
 static uint8_t kind;
@@ -174,6 +175,10 @@ static void of_the_volume(void) {
     say("delta", doorvervain_delta(&fs, "s", 1, "", 0, out, sizeof out, &got));
     watch();
     say("changed_paths", doorvervain_changed_paths(&fs, "s", 1, "", 0, out, sizeof out, &got));
+    watch();
+    say("edits_begin", doorvervain_edits_begin(&edits, &fs, "s", 1, "", 0));
+    watch();
+    say("edits_next, which prints", doorvervain_edits_next(&edits, out, 9, &got));
 }
 
 int main(void) {

@@ -20,6 +20,9 @@ BODIES = [FIRST_BODY, SECOND_BODY, THIRD_BODY]
 COPY_BODY = entry(14, 9, 4096, 3, b"/a", struct.pack("<Q", 8193) + b"/bc")
 # What `/a/x` has from byte 2 on, 100 bytes at most, copied to its byte 10.
 COPY_WITHIN = entry(14, 9, 2, 100, b"/a/x", struct.pack("<Q", 10) + b"/a/x")
+# Edits that add `/a/x` with `hi` from byte 2 on, and their body.
+EDITS = b"delta 2\n+ F /a/x 4 8\nb /a/x 0 - 00006869\nend\n"
+EDITS_BODY = entry(15, 0, 0, 0, EDITS)
 
 
 def record(salt: bytes, number: int, body: bytes) -> bytes:

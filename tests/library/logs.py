@@ -6,6 +6,8 @@ from log_by_hand import (
     BODIES,
     COPY_BODY,
     COPY_WITHIN,
+    EDITS,
+    EDITS_BODY,
     FIRST,
     FIRST_BODY,
     FIRST_END,
@@ -15,6 +17,7 @@ from log_by_hand import (
     SECOND_BODY,
     SECOND_END,
     THIRD_BODY,
+    entry,
     record,
 )
 
@@ -25,6 +28,8 @@ ENCODED = [
     (("write", b"/a/x", 2, b"hi", 9), SECOND_BODY[52:]),
     (("snapshot", b"s"), THIRD_BODY),
     (("copy_range", b"/a", 4096, b"/bc", 8193, 3, 9), COPY_BODY),
+    (("edits", EDITS), EDITS_BODY),
+    (("edits", b""), entry(15, 0, 0, 0, b"")),
     (("mkdir", b"", 1), ENOENT),
     (("mkdir", b"a", 1), EINVAL),
     (("rename", b"/a", b"b", 1), EINVAL),
@@ -50,6 +55,14 @@ CHANGES = [
         b"# copy /a 4096 /d/x 8192 5\n",
         b"D / 0\nF /a 8193 0\nb 0 61\nb 1 62\nb 2 63\nD /d 0\nF /d/x 8197 8\nb 2 62\nD /e 0\n",
     ),
+    (
+        ("edits", b"delta 2\n! D / 0 5\n+ F /n 3 4\nb /n 0 - 6869\nend\n"),
+        b"# edits 47\n",
+        b"D / 5\nF /a 8193 0\nb 0 61\nb 1 62\nb 2 63\nD /d 0\nF /d/x 0 0\nD /e 0\nF /n 3 4\nb 0 6869\n",
+    ),
+    (("edits", b"delta 2\nend\n"), b"# edits 12\n", BEFORE),
+    (("edits", b"delta 2\n- D /e 0\n- F /a 8193 1\nend\n"), b"# edits 35\n", ENOENT),
+    (("edits", b"delta 2\n- D /e 0\n"), b"# edits 17\n", EINVAL),
     (("restore", b"s"), b"restore s\n", b"D / 0\n"),
     (("drop", b"s"), b"drop s\n", BEFORE),
 ]
@@ -75,9 +88,16 @@ CHANGE_LINES = [
 
 # A body, the place of a byte and its new value, and whether it is one of changes.
 SPOILT = [
-    # the kinds are 1 to 14
+    # the kinds are 1 to 15
     (FIRST_BODY, 0, 0, False),
+    (FIRST_BODY, 0, 16, False),
+    (EDITS_BODY, 0, 16, False),
+    # edits with a number, or another text
     (FIRST_BODY, 0, 15, False),
+    (EDITS_BODY, 8, 1, False),
+    (EDITS_BODY, 16, 1, False),
+    (EDITS_BODY, 24, 1, False),
+    (entry(15, 0, 0, 0, EDITS, b"x"), None, 0, False),
     # a copy to no offset, and with any numbers
     (FIRST_BODY, 0, 14, False),
     (COPY_BODY, 24, 255, True),
@@ -149,6 +169,11 @@ def records_in(log: bytes, salt: bytes) -> int:
             return number
         rest = rest[24 + size.value + 32 :]
     return 8
+
+
+def with_edits(before: bytes, text: bytes) -> bytes:
+    """A log of `mkdir /a`, and of edits behind other changes."""
+    return LOG[:FIRST_END] + record(b"", FIRST + 1, before + entry(15, 0, 0, 0, text))
 
 
 def is_next(log: bytes, number: int) -> bool:
@@ -228,4 +253,10 @@ def each():
     yield "other salts", [records_in(*it) for it in salts], [3, 0, 0, 0, 0]
     # only the second record: `/a` is missing where its file is created
     yield "stops at what is refused", replayed(LOG[FIRST_END:], b"", FIRST + 1), (ENOENT, 0, 0, 0, ENOENT)
+    size = len(with_edits(b"", EDITS))
+    yield "edits", replayed(with_edits(b"", EDITS), b"", FIRST), (0, 2, 0, size, 4)
+    # `/a/x` is there when they would add it
+    yield "edits that do not fit", replayed(with_edits(SECOND_BODY, EDITS), b"", FIRST), (ENOENT, 1, 2, FIRST_END, 4)
+    yield "edits that do not fit, without an end", replayed(with_edits(SECOND_BODY, EDITS[:-4]), b"", FIRST), (ENOENT, 1, 2, FIRST_END, 4)
+    yield "edits without an end", replayed(with_edits(b"", EDITS[:-4]), b"", FIRST), (EINVAL, 1, 0, FIRST_END, ENOENT)
     yield "a copied range", copied_within(), [0, ENOENT, 0, 4, 0, 12]

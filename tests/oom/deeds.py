@@ -151,15 +151,20 @@ def image_of_volume(fs: Pointer) -> bytes:
     return text
 
 
-class Printed(Deed):
-    """An image that is printed in pieces. A piece that fails is asked for once more."""
+class Handed(Deed):
+    """A text that is handed out in pieces. A piece that fails is asked for once more."""
 
-    def prepare(self, world):
-        self.tree, self.printer, self.text, self.failed = tree_of(world.fs), Pointer(), b"", 0
+    kind = ""
+
+    def prepare(self, _world):
+        self.printer, self.text, self.failed = Pointer(), b"", 0
+
+    def begin(self, world: "World") -> int:
+        return ask(f"{self.kind}_begin", world.fs, *self.words, self.printer)
 
     def next(self) -> int:
         out, size = ctypes.create_string_buffer(bytes([FILLED]) * 1_000, 1_000), ctypes.c_size_t(FILLED)
-        number = ask("print_next", self.printer, out, size)
+        number = ask(f"{self.kind}_next", self.printer, out, size)
         if number:
             self.failed += 1
             need(self.failed == 1 and not size.value and not out.raw.strip(bytes([FILLED])), "a piece that failed left something")
@@ -167,8 +172,8 @@ class Printed(Deed):
         self.text += out.raw[: size.value]
         return size.value
 
-    def call(self, _world):
-        number = ask("print_begin", ctypes.c_void_p(self.tree.ptr), ctypes.byref(self.printer))
+    def call(self, world):
+        number = self.begin(world)
         while not number and self.next():
             pass
         return number
@@ -176,8 +181,27 @@ class Printed(Deed):
     def told(self, _world, number):
         need(not number or not self.printer.ptr, "a printer that could not begin is not closed")
         if self.printer.ptr:
-            given_up("print_end", self.printer)
+            given_up(f"{self.kind}_end", self.printer)
         return number, self.text
+
+
+class Printed(Handed):
+    """An image that is printed in pieces."""
+
+    kind = "print"
+
+    def prepare(self, world):
+        super().prepare(world)
+        self.tree = tree_of(world.fs)
+
+    def begin(self, _world):
+        return ask("print_begin", ctypes.c_void_p(self.tree.ptr), ctypes.byref(self.printer))
+
+
+class Edits(Handed):
+    """Edits between two trees that are printed in pieces."""
+
+    kind = "edits"
 
 
 class Pieces(Deed):
@@ -293,6 +317,16 @@ class Delta(Deed):
 
     def told(self, _world, number):
         return number, self.line.value
+
+
+class AppliedEdits(Delta):
+    """The edits to a snapshot are applied to the live tree."""
+
+    def prepare(self, world):
+        edits = Edits("edits", b"", *self.words)
+        edits.prepare(world)
+        number = edits.call(world)
+        _, self.text = edits.told(world, number)
 
 
 def hexed(word: str) -> bytes:

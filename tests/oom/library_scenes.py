@@ -8,8 +8,10 @@ from collections.abc import Callable
 from deeds import (
     SMALL,
     Applied,
+    AppliedEdits,
     Deed,
     Delta,
+    Edits,
     Made,
     Numbers,
     Pieces,
@@ -25,7 +27,7 @@ from deeds import (
     image_of_tree,
     need,
 )
-from log_by_hand import FIRST, FIRST_BODY, SALT, SECOND_BODY, record
+from log_by_hand import EDITS, EDITS_BODY, FIRST, FIRST_BODY, SALT, SECOND_BODY, record
 from records import FRONT, RECORDS
 from scenes import (
     BASE,
@@ -119,12 +121,14 @@ def logs():
     first, second = [FIRST_BODY], [SECOND_BODY[:52], SECOND_BODY[52:]]
     yield Scene("logs", "body of a write", Text("wal_write", b"/f", 4_090, b"0123456789", AT, at=None), ())
     yield Scene("logs", "body of a copy", Text("wal_copy_range", b"/f", 4_096, b"/g", 8_193, 3, AT, at=None), ())
+    yield Scene("logs", "body of edits", Text("wal_edits", EDITS, at=None), ())
     yield Scene("logs", "body of a rename", Text("wal_rename", b"/e", b"/g", AT, at=None), ())
     yield Scene("logs", "body of no path", Text("wal_mkdir", b"d", AT, at=None), (), wanted=calls.EINVAL)
     yield Scene("logs", "body of a snapshot", Text("wal_snapshot", b"s", at=None), ())
     yield Scene("logs", "frame", Text("wal_salted_frame", SALT, FIRST, SECOND_BODY, at=None), ())
     yield Scene("logs", "dump", Text("wal_dump", SECOND_BODY, at=None), ())
     yield Scene("logs", "apply", Applied([*first, *second]))
+    yield Scene("logs", "apply edits", Applied([*first, EDITS_BODY]))
     for salt in (b"", SALT):
         records = [(record(salt, FIRST + it, b"".join(bodies)), bodies) for it, bodies in enumerate((first, second))]
         yield Scene("logs", f"replay with {len(salt)} bytes of salt", Replayed(salt, FIRST, records))
@@ -176,6 +180,11 @@ def texts():
     yield Scene("deltas", "apply", Delta("apply_delta", b"s"), wanted=None)
     yield Scene("deltas", "paths between snapshots", Text("changed_paths", b"s", b"t"))
     yield Scene("deltas", "paths since a snapshot", Text("changed_paths", b"s", b""))
+    yield Scene("edits", "between snapshots", Edits("edits", b"s", b"t"))
+    yield Scene("edits", "since a snapshot", Edits("edits", b"s", b""))
+    yield Scene("edits", "of no snapshot", Edits("edits", b"s", b"v"), wanted=calls.ENOENT)
+    yield Scene("edits", "apply", AppliedEdits("apply_edits", b"s"))
+    yield Scene("edits", "apply beside a frozen tree and a fork", AppliedEdits("apply_edits", b"t"), arrange=both)
 
 
 def compaction():

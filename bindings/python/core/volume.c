@@ -542,6 +542,91 @@ static PyObject *volume_apply_delta(PyObject *self, PyObject *given) {
     return NULL;
 }
 
+// ---- edits
+
+// Doubles the memory of a listing. ENOMEM if an allocation fails.
+static uint8_t grow(struct listing *it, size_t *capacity) {
+    uint8_t *more = malloc(2 * *capacity);
+    if (!more) return DOORVERVAIN_ENOMEM;
+    memcpy(more, it->at, it->size);
+    listing_free(it);
+    it->at = more;
+    *capacity *= 2;
+    return DOORVERVAIN_DONE;
+}
+
+// Fills a listing with the text of a printer.
+static uint8_t take_edits(struct doorvervain_edits *edits, struct listing *it) {
+    size_t capacity = FEW, got;
+    uint8_t number;
+    it->size = 0;
+    do {
+        number = doorvervain_edits_next(edits, it->at + it->size, capacity - it->size, &got);
+        it->size += got;
+        if (!number && it->size == capacity) number = grow(it, &capacity);
+    } while (!number && got);
+    return number;
+}
+
+// The edits between the trees of two names, which are taken under the lock. `given` has the names as the caller gave them, for errors.
+static PyObject *edits_of(Tree *tree, const struct text *names, PyObject *const *given) {
+    struct doorvervain_edits edits;
+    struct listing it;
+    uint8_t number;
+    PyObject *result = NULL;
+    it.at = it.few;
+    if (enter_to_look(tree)) return NULL;
+    Py_BEGIN_ALLOW_THREADS
+    number = doorvervain_edits_begin(
+        &edits, &tree->volume, names[0].at, names[0].length, names[1].at, names[1].length);
+    Py_END_ALLOW_THREADS
+    leave(tree);
+    Py_BEGIN_ALLOW_THREADS
+    if (!number) number = take_edits(&edits, &it);
+    doorvervain_edits_end(&edits);
+    Py_END_ALLOW_THREADS
+    if (number) refuse_name(number, given[0] ? given[0] : given[1], given[0] ? given[1] : NULL);
+    else result = bytes_in(&it);
+    listing_free(&it);
+    return result;
+}
+
+static PyObject *volume_edits(PyObject *self, PyObject *const *words, Py_ssize_t count, PyObject *named) {
+    static const struct signature signature = {"edits", 0, 2, {"old", "new"}};
+    PyObject *args[4], *result = NULL;
+    struct text names[2] = {{NULL, NULL, 0}, {NULL, NULL, 0}};
+    if (words_of(&signature, words, count, named, args) || (args[0] && text_of(args[0], &names[0]))) return NULL;
+    if (!args[1] || !text_of(args[1], &names[1])) result = edits_of((Tree *)self, names, args);
+    Py_XDECREF(names[0].owner);
+    Py_XDECREF(names[1].owner);
+    return result;
+}
+
+static PyObject *refuse_edits(uint8_t number, uint64_t line) {
+    char unfit[64];
+    if (number == DOORVERVAIN_ENOENT) {
+        snprintf(unfit, sizeof unfit, "the edit in line %llu does not fit the tree", (unsigned long long)line);
+        return refuse_as(number, unfit, NULL, NULL);
+    }
+    if (number != DOORVERVAIN_EINVAL) return answer(number, NULL);
+    refuse_text(known.bad_delta, line);
+    return NULL;
+}
+
+static PyObject *volume_apply_edits(PyObject *self, PyObject *given) {
+    Tree *tree = (Tree *)self;
+    char *text;
+    Py_ssize_t length;
+    uint64_t line = 0;
+    uint8_t number;
+    if (PyBytes_AsStringAndSize(given, &text, &length) || enter(tree)) return NULL;
+    Py_BEGIN_ALLOW_THREADS
+    number = doorvervain_apply_edits(&tree->volume, text, (size_t)length, &line);
+    Py_END_ALLOW_THREADS
+    leave(tree);
+    return refuse_edits(number, line);
+}
+
 // ---- transactions
 
 static PyObject *volume_begin(PyObject *self, PyObject *unused) {
@@ -702,6 +787,20 @@ static PyMethodDef volume_methods[] = {
         "apply_delta($self, text, /)\n--\n\n"
         "Applies a delta to the tree. Afterwards the volume is like one that was just loaded: its snapshots are dropped. The delta\n"
         "of another tree is a FileNotFoundError, and a text that is not a delta a `BadDelta`."},
+    {"edits", FAST(volume_edits),
+        "edits($self, /, old='', new='')\n--\n\n"
+        "The edits from one tree to another, as text for `apply_edits`. Each is the snapshot of that name; an empty name is the\n"
+        "current tree. It takes as long as what was changed, whatever the size of the tree.\n\n"
+        ">>> near, far = Volume(), Volume()\n"
+        ">>> near.snapshot(\"sent\")\n"
+        ">>> near.create(\"/x\")\n"
+        ">>> far.apply_edits(near.edits(\"sent\"))\n"
+        ">>> far.listdir()\n"
+        "['x']\n"},
+    {"apply_edits", volume_apply_edits, METH_O,
+        "apply_edits($self, text, /)\n--\n\n"
+        "Applies edits to the tree, all of them or none. Snapshots stay. An edit that does not fit the tree is a FileNotFoundError,\n"
+        "and a text that is not one of edits a `BadDelta`; either names the line."},
     {"begin", volume_begin, METH_NOARGS,
         "begin($self, /)\n--\n\n"
         "Begins a transaction, in constant time, which `commit` or `rollback` ends. `transaction` does all three, and says what\n"

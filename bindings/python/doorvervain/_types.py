@@ -96,7 +96,7 @@ class BadImage(OSError):
 
 
 class BadDelta(OSError):
-    """A text that is not a delta. `line` is its first bad line, or 0 if the result would not be a tree."""
+    """A text that is not a delta, or not one of edits. `line` is its first bad line, or 0 if the result would not be a tree."""
 
     def __init__(self, line: int) -> None:
         super().__init__(errno.EINVAL, f"no delta, from line {line} on" if line else "delta that makes no tree")

@@ -356,8 +356,8 @@ class Volume(Tree, _core.Volume):
 
         The block sees its changes, and so do other threads, whose own changes belong to the transaction too: a thread that
         should not take part gets a fork. While it is open, another transaction, taking, dropping and restoring a snapshot,
-        restoring a frozen tree and `apply_delta` are an `OSError` with EBUSY, and `compact` does nothing. Forks and frozen
-        trees have the changes so far.
+        restoring a frozen tree, `apply_delta` and `apply_edits` are an `OSError` with EBUSY, and `compact` does nothing. Forks
+        and frozen trees have the changes so far.
 
         >>> volume = Volume()
         >>> with volume.transaction():

@@ -496,6 +496,49 @@ class Snapshots(unittest.TestCase):
         refused(self, OSError, errno.EBADF, volume.apply_delta, first)
         refused(self, OSError, errno.EBADF, volume.delta, "kept")
 
+    def test_edits(self):
+        volume = Volume(shape=(4, 4, 4), clock=lambda: 9)
+        volume.mkdir("/d")
+        volume.write_bytes("/d/x", b"abc")
+        volume.create("/e")
+        volume.snapshot("before")
+        self.assertEqual((volume.edits(), volume.edits("before")), (b"delta 2\nend\n",) * 2)
+        volume.write_bytes("/d/x", b"abd")
+        volume.unlink("/e")
+        volume.create(b"/\xff")
+        for number in range(300):
+            volume.write_bytes(f"/f{number}", bytes(4_000) + b"x" * 1_000)
+        forth, back = volume.edits("before"), volume.edits(new="before")
+        self.assertGreater(len(forth), 1 << 19)
+        self.assertEqual(volume.edits("before", ""), forth)
+        far = volume.fork()
+        far.apply_edits(back)
+        self.assertEqual((far.exists("/e"), far.exists(b"/\xff"), far.read_bytes("/d/x")), (True, False, b"abc"))
+        far.snapshot("kept")
+        far.apply_edits(forth)
+        self.assertEqual((far.image(), far.snapshots()), (volume.image(), ["kept"]))
+        self.assertEqual(far.edits("kept"), forth)
+
+    def test_bad_edits(self):
+        volume = Volume.load("D / 5\nF /x 1 7\nb 0 61\n")
+        before = volume.image()
+        for text, line in [(b"", 1), (b"delta 1\nend\n", 1), (b"delta 2\n* /x\nend\n", 2), (b"delta 2\nend\nend\n", 3)]:
+            with self.assertRaises(BadDelta) as caught:
+                volume.apply_edits(text)
+            self.assertEqual((caught.exception.line, caught.exception.errno), (line, errno.EINVAL))
+        error = refused(self, FileNotFoundError, errno.ENOENT, volume.apply_edits, b"delta 2\n- F /x 1 7\n- F /x 1 7\nend\n")
+        self.assertIn("line 3", str(error))
+        refused(self, FileNotFoundError, errno.ENOENT, volume.edits, "none")
+        refused(self, FileNotFoundError, errno.ENOENT, volume.edits, new="none")
+        refused(self, OSError, errno.EINVAL, volume.edits, "", "a/b")
+        self.assertRaises(TypeError, volume.apply_edits, "text")
+        self.assertEqual(volume.image(), before)
+        with volume.transaction():
+            refused(self, OSError, errno.EBUSY, volume.apply_edits, b"delta 2\nend\n")
+        volume.close()
+        refused(self, OSError, errno.EBADF, volume.apply_edits, b"delta 2\nend\n")
+        refused(self, OSError, errno.EBADF, volume.edits)
+
     def test_relief_changes_no_answer(self):
         volume = Volume(shape=(4, 4, 4), clock=lambda: 0)
         for number in range(500):

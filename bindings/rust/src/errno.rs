@@ -197,6 +197,45 @@ impl From<DeltaError> for io::Error {
     }
 }
 
+/// Why edits were not applied.
+#[derive(Clone, Copy, Debug, PartialEq, Eq)]
+pub enum EditError {
+    /// The text is not one of edits; this is its first bad line.
+    BadLine(u64),
+    /// The edit in this line does not fit the tree.
+    UnfitLine(u64),
+    /// Allocation failure; a transaction is open.
+    Refused(Errno),
+}
+
+impl fmt::Display for EditError {
+    fn fmt(&self, f: &mut fmt::Formatter<'_>) -> fmt::Result {
+        match self {
+            EditError::BadLine(line) => write!(f, "bad edit at line {line}"),
+            EditError::UnfitLine(line) => write!(f, "line {line} does not fit"),
+            EditError::Refused(refused) => refused.fmt(f),
+        }
+    }
+}
+
+impl Error for EditError {
+    fn source(&self) -> Option<&(dyn Error + 'static)> {
+        match self {
+            EditError::Refused(refused) => Some(refused),
+            _ => None,
+        }
+    }
+}
+
+impl From<EditError> for io::Error {
+    fn from(error: EditError) -> io::Error {
+        match error {
+            EditError::Refused(refused) => refused.into(),
+            _ => io::Error::new(io::ErrorKind::InvalidData, error),
+        }
+    }
+}
+
 #[cfg(test)]
 mod tests {
     use super::{Errno, SHORT, TABLE};

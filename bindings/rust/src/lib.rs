@@ -7,7 +7,7 @@ mod listing;
 mod raw;
 mod volume;
 
-pub use errno::{DeltaError, Errno, LoadError};
+pub use errno::{DeltaError, EditError, Errno, LoadError};
 pub use file::File;
 pub use listing::{Entry, Kind, Listing, Stat, Walk, WalkEntry};
 pub use volume::{At, Frozen, Shape, Transaction, Volume};

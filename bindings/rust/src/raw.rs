@@ -105,6 +105,12 @@ extern "C" {
         size: *mut usize,
     ) -> u8;
     fn doorvervain_raw_apply_delta(fs: *mut RawHandle, text: *const u8, length: usize, line: *mut u64) -> u8;
+    fn doorvervain_raw_edits_begin(
+        fs: *mut RawHandle, from: *const u8, from_length: usize, to: *const u8, to_length: usize, out: *mut RawHandle,
+    ) -> u8;
+    fn doorvervain_raw_edits_next(edits: *mut RawHandle, out: *mut u8, capacity: usize, size: *mut usize) -> u8;
+    fn doorvervain_raw_edits_end(edits: RawHandle);
+    fn doorvervain_raw_apply_edits(fs: *mut RawHandle, text: *const u8, length: usize, line: *mut u64) -> u8;
     fn doorvervain_raw_frozen_close(tree: RawHandle);
     fn doorvervain_raw_compact(fs: *mut RawHandle, steps: u32) -> u32;
 }
@@ -532,6 +538,24 @@ impl VolumeHandle {
         applied.and_then(done).map_err(|refused| (refused, line))
     }
 
+    /// Takes both trees, whose edits are printed later.
+    pub(crate) fn edits(&self, from: &[u8], to: &[u8]) -> Result<EditsPrinter, Errno> {
+        let mut out = CLOSED;
+        let (from_at, to_at) = (from.as_ptr(), to.as_ptr());
+        self.look(|raw| {
+            done(unsafe { doorvervain_raw_edits_begin(raw, from_at, from.len(), to_at, to.len(), &mut out) })
+        })?;
+        Held::new(&out).map(EditsPrinter)
+    }
+
+    /// Applies edits; or returns the error, with the line that is bad or does not fit.
+    pub(crate) fn apply_edits(&self, text: &[u8]) -> Result<(), (Errno, u64)> {
+        let mut line = 0;
+        let applied = self
+            .change_outside(|raw| unsafe { doorvervain_raw_apply_edits(raw, text.as_ptr(), text.len(), &mut line) });
+        applied.and_then(done).map_err(|refused| (refused, line))
+    }
+
     pub(crate) fn compact(&self, steps: u32) -> u32 {
         self.change_outside(|raw| unsafe { doorvervain_raw_compact(raw, steps) })
             .unwrap_or(0)
@@ -612,6 +636,19 @@ impl Printer {
     }
 }
 
+/// Prints the edits between two trees, one piece at a time.
+pub(crate) struct EditsPrinter(Held);
+
+impl EditsPrinter {
+    /// Writes the next bytes into the buffer, and returns how many, 0 only at the end of the text.
+    pub(crate) fn next(&mut self, piece: &mut [u8]) -> Result<usize, Errno> {
+        let (mut raw, mut size) = (self.0.raw(), 0);
+        // SAFETY: the printer is there, and no other thread has it; the bytes are those of a slice.
+        done(unsafe { doorvervain_raw_edits_next(&mut raw, piece.as_mut_ptr(), piece.len(), &mut size) })?;
+        Ok(size)
+    }
+}
+
 /// Loads a volume from an image, one piece at a time.
 pub(crate) struct LoaderHandle(Held);
 
@@ -655,6 +692,12 @@ fn loaded(number: u8, line: u64) -> Result<(), LoadError> {
 impl Drop for Printer {
     fn drop(&mut self) {
         unsafe { doorvervain_raw_print_end(self.0.raw()) };
+    }
+}
+
+impl Drop for EditsPrinter {
+    fn drop(&mut self) {
+        unsafe { doorvervain_raw_edits_end(self.0.raw()) };
     }
 }
 

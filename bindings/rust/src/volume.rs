@@ -1,5 +1,5 @@
 //! Volumes, their transactions, and frozen trees.
-use crate::errno::{DeltaError, Errno, LoadError};
+use crate::errno::{DeltaError, EditError, Errno, LoadError};
 use crate::listing::{Listing, Lists, Stat, Walk};
 use crate::raw::{FrozenHandle, LoaderHandle, PathCall, Printer, Reads, SnapshotCall, VolumeHandle};
 use std::ffi::OsStr;
@@ -716,6 +716,45 @@ impl Volume {
             (Errno::EINVAL, 0) => DeltaError::NoTree,
             (Errno::EINVAL, line) => DeltaError::BadLine(line),
             (refused, _) => DeltaError::Refused(refused),
+        })
+    }
+
+    /// The edits from one tree to another, as text for [`Volume::apply_edits`]: each is the snapshot of that name, or the current tree if
+    /// the name is empty. It takes as long as what was changed, whatever the size of the tree. Other threads wait only until the trees
+    /// are taken.
+    ///
+    /// # Errors
+    /// `ENOENT`: no such snapshot; `EINVAL`: not a name; `ENOMEM`.
+    pub fn edits(&self, from: &str, to: &str) -> Result<Vec<u8>, Errno> {
+        let mut printer = self.handle.edits(from.as_bytes(), to.as_bytes())?;
+        let (mut text, mut piece) = (Vec::new(), vec![0; PIECE]);
+        loop {
+            match printer.next(&mut piece)? {
+                0 => return Ok(text),
+                got => text.extend_from_slice(&piece[..got]),
+            }
+        }
+    }
+
+    /// Applies edits to the tree, all of them or none. Snapshots stay.
+    ///
+    /// ```
+    /// # use doorvervain::{Shape, Volume};
+    /// let near = Volume::load(b"D / 5\nF /x 3 7\nb 0 616263\n", Shape::USUAL).unwrap();
+    /// let far = near.fork().unwrap();
+    /// near.snapshot("sent").unwrap();
+    /// near.write_at("/x", 1, b"-").unwrap();
+    /// far.apply_edits(&near.edits("sent", "").unwrap()).unwrap();
+    /// assert_eq!(far.image(), near.image());
+    /// ```
+    ///
+    /// # Errors
+    /// [`EditError`], for `EBUSY` if a transaction is open. Then the volume is unchanged.
+    pub fn apply_edits(&self, text: &[u8]) -> Result<(), EditError> {
+        self.handle.apply_edits(text).map_err(|refused| match refused {
+            (Errno::ENOENT, line) => EditError::UnfitLine(line),
+            (Errno::EINVAL, line) => EditError::BadLine(line),
+            (refused, _) => EditError::Refused(refused),
         })
     }
 

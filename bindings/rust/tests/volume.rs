@@ -1,5 +1,5 @@
 //! Each call: what it gives, what it refuses, and what stands still.
-use doorvervain::{DeltaError, Errno, File, Frozen, Kind, LoadError, Shape, Stat, Transaction, Volume};
+use doorvervain::{DeltaError, EditError, Errno, File, Frozen, Kind, LoadError, Shape, Stat, Transaction, Volume};
 use std::io::{self, Write};
 use std::panic::{self, AssertUnwindSafe};
 use std::path::Path;
@@ -382,6 +382,40 @@ fn a_bad_delta_changes_nothing() -> Result<(), Errno> {
     Ok(())
 }
 
+#[test]
+fn edits_make_one_tree_of_another() -> Outcome {
+    let volume = with_tree()?;
+    let before = volume.image()?;
+    assert_eq!(volume.edits("", "")?, b"delta 2\nend\n");
+    assert_eq!(volume.edits("s", "")?, b"delta 2\nend\n");
+    change(&volume)?;
+    let (forth, back) = (volume.edits("s", "")?, volume.edits("", "s")?);
+    let far = volume.fork()?;
+    far.snapshot("t")?;
+    assert_eq!(far.apply_edits(&back), Ok(()));
+    assert_eq!(far.image()?, before);
+    assert_eq!(far.apply_edits(&forth), Ok(()));
+    assert_eq!(far.image()?, volume.image()?);
+    assert_eq!(far.snapshots().count(), 1);
+    assert_eq!(volume.edits("none", "a/b"), Err(Errno::ENOENT));
+    assert_eq!(volume.edits("", "a/b"), Err(Errno::EINVAL));
+    Ok(())
+}
+
+#[test]
+fn bad_edits_change_nothing() -> Result<(), Errno> {
+    let volume = Volume::load(b"D / 5\nF /x 0 7\n", Shape::USUAL).expect("an image");
+    let refused = |text: &str| volume.apply_edits(text.as_bytes()).err();
+    assert_eq!(refused(""), Some(EditError::BadLine(1)));
+    assert_eq!(refused("delta 2\n- F /x 0 7\n* /x\nend\n"), Some(EditError::BadLine(3)));
+    assert_eq!(
+        refused("delta 2\n- F /x 0 7\n- F /x 0 7\nend\n"),
+        Some(EditError::UnfitLine(3))
+    );
+    assert_eq!(volume.image()?, b"D / 5\nF /x 0 7\n");
+    Ok(())
+}
+
 /// A volume with files, a directory, a snapshot and an mtime for each.
 fn with_tree() -> Result<Volume, Errno> {
     let volume = Volume::new()?;
@@ -435,6 +469,10 @@ fn what_a_transaction_refuses() -> Outcome {
     assert_eq!(volume.restore("s"), Err(Errno::EBUSY));
     assert_eq!(volume.restore_frozen(&tree), Err(Errno::EBUSY));
     assert_eq!(volume.apply_delta(&delta), Err(DeltaError::Refused(Errno::EBUSY)));
+    assert_eq!(
+        volume.apply_edits(b"delta 2\nend\n"),
+        Err(EditError::Refused(Errno::EBUSY))
+    );
     assert_eq!(volume.compact(9), 0);
     assert_eq!(volume.image()?, before);
     assert!(volume.open_snapshot("s")?.exists("/d")?);

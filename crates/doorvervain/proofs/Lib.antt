@@ -9,3 +9,4 @@ mod Fills
 mod Closes
 mod Handed
 mod Applying
+mod Editing

@@ -8,3 +8,4 @@ pub mod Holes
 pub mod Log
 pub mod Handed
 pub mod Differences
+pub mod Edits

@@ -3,6 +3,8 @@ ghost use Rattle.volume.specs.Volumes.{PVolume};
 ghost use Rattle.volume.specs.contracts.frozen.Frozen.{the_row as frozen_row};
 ghost use Rattle.volume.specs.contracts.volume.Volume.{the_row as volume_row};
 ghost use Rattle.volume.specs.declared.fs_root.FsRoot.{FsRoot};
+ghost use Rattle.delta.specs.Printers.{PEdits};
+ghost use Rattle.delta.specs.contracts.edits_printer.EditsPrinter.{the_row as edits_row};
 ghost use Rattle.images.specs.Printings.{PPrinting};
 ghost use Rattle.images.specs.contracts.loader.ImageLoader.{the_row as loading_row};
 ghost use Rattle.images.specs.contracts.printing.ImagePrinter.{the_row as printing_row};
@@ -56,4 +58,15 @@ pub struct LoaderHandle {
 
 impl Model for LoaderHandle {
     ghost also_owns = { λ h. held_at loading_row h.at h.loading };
+}
+
+/// The handle of a printer of edits, which it owns.
+#[repr(C)]
+pub struct EditsHandle {
+    at: *mut u8,
+    pub ghost edits: { PEdits } by { edits_row.coded },
+}
+
+impl Model for EditsHandle {
+    ghost also_owns = { λ h. held_at edits_row h.at h.edits };
 }

@@ -7,6 +7,7 @@
 
 mod changes;
 mod differences;
+mod edit_exports;
 mod forks;
 mod handle;
 mod holes;

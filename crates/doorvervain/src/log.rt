@@ -1,6 +1,6 @@
 //! Exports of the entries of a log, which need no volume, and of bodies of records, which are applied to one. On an error
 //! each other result is set to 0, unless a function says otherwise.
-ghost use Rattle.std.specs.Prelude.{◌≡◌, ◌↔◌, IfErr, IfOk};
+ghost use Rattle.std.specs.Prelude.{◌≡◌, ◌↔◌, IfErr, IfOk, Ok};
 ghost use Rattle.pathkey.specs.SnapNames.{snap_parsed};
 ghost use Rattle.pathkey.specs.Texts.{parsed};
 ghost use Rattle.wal.specs.Encode.{Encodes, asked, copied, moved};
@@ -16,7 +16,7 @@ use crate::handle::VolumeHandle;
 use crate::numbers::{number, sized};
 use std::alloc::Global;
 use wal::encode::{
-    encode_copy_range, encode_mtime, encode_path_call, encode_punch, encode_rename,
+    encode_copy_range, encode_edits, encode_mtime, encode_path_call, encode_punch, encode_rename,
     encode_snapshot_call, encode_truncate, encode_write,
 };
 use wal::{PathCall, ReplayError, SnapshotCall, replay_body, wal_dump_into};
@@ -291,6 +291,24 @@ pub extern "C" fn doorvervain_raw_wal_restore(
     ensures refused { IfErr (sized_by result size.new) (λ _. size.new ≡ 0) }
 {
     let laid = encode_snapshot_call(alloc, SnapshotCall::Restore, name, out);
+    sized(laid, out.len(), size)
+}
+
+/// Encodes the entry of a text of edits, which may be any bytes. Stores its length in bytes in `size`, and writes it only if the
+/// buffer is large enough for all of it.
+#[unsafe(no_mangle)]
+pub extern "C" fn doorvervain_raw_wal_edits(
+    alloc: Global,
+    text: &[u8],
+    out: &mut [u8],
+    size: &mut usize,
+) -> u8
+    ensures change { Encodes (Ok (change.Edits text.now)) (sized_by result size.new) out.old out.new }
+    ensures short { (result ≡ short) ↔ IsShort size.new out.old }
+    ensures number { IsSizeNumber result }
+    ensures refused { IfErr (sized_by result size.new) (λ _. size.new ≡ 0) }
+{
+    let laid = encode_edits(alloc, text, out);
     sized(laid, out.len(), size)
 }
 

@@ -8,6 +8,8 @@ ghost use Rattle.volume.specs.Volumes.{PVolume};
 ghost use Rattle.volume.specs.contracts.frozen.Frozen.{the_row as frozen_row};
 ghost use Rattle.volume.specs.contracts.volume.Volume.{the_row as volume_row};
 ghost use Rattle.volume.specs.declared.fs_root.FsRoot.{FsRoot};
+ghost use Rattle.delta.specs.Printers.{PEdits};
+ghost use Rattle.delta.specs.contracts.edits_printer.EditsPrinter.{the_row as edits_row};
 ghost use Rattle.images.specs.Printings.{PPrinting};
 ghost use Rattle.images.specs.contracts.loader.ImageLoader.{the_row as loading_row};
 ghost use Rattle.images.specs.contracts.printing.ImagePrinter.{the_row as printing_row};
@@ -16,6 +18,7 @@ ghost use Rattle.doorvervain.specs.Handed.{HandsOut};
 ghost use Rattle.doorvervain.specs.Held.{IsClosed, given_at};
 
 use crate::parts::RawBox;
+use delta::EditsPrinter;
 use images::{ImageLoader, ImagePrinter};
 use pathkey::Errno;
 use std::alloc::Global;
@@ -175,6 +178,38 @@ impl Out for LoaderOut {
     ghost given = { λ p. p.given };
 
     fn fill(&mut self, parts: RawBox<ImageLoader, Global>)
+        ensures { self.new.given ≡ Some parts.value }
+    {
+        let RawBox { ptr, alloc: _ } = parts;
+        self.at = ptr as *mut u8;
+    }
+
+    fn close(&mut self)
+        ensures { IsClosed self.new.at self.new.given }
+    {
+        self.at = null_mut();
+    }
+}
+
+/// An out-parameter for the handle of a printer of edits.
+#[repr(C)]
+pub struct EditsOut {
+    pub(crate) at: *mut u8,
+    pub ghost given: { Option PEdits } by { coded_option edits_row.coded },
+}
+
+impl Model for EditsOut {
+    ghost also_owns = { λ p. given_at edits_row p.at p.given };
+}
+
+impl Out for EditsOut {
+    type Held = EditsPrinter;
+
+    ghost at = { λ p. p.at };
+
+    ghost given = { λ p. p.given };
+
+    fn fill(&mut self, parts: RawBox<EditsPrinter, Global>)
         ensures { self.new.given ≡ Some parts.value }
     {
         let RawBox { ptr, alloc: _ } = parts;

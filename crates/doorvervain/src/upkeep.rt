@@ -6,7 +6,8 @@ ghost use Rattle.std.specs.Prelude.{◌≡◌, ◌≤◌, ◌<◌, ◌⊎◌, fa
 ghost use Rattle.node.specs.Shapes.{is_shape};
 ghost use Rattle.reference.specs.Worlds.{World};
 ghost use Rattle.images.specs.Taken.{LoadedIn};
-ghost use Rattle.volume.specs.Volumes.{IsNew, Means};
+ghost use Rattle.volume.specs.Marked.{KeepsMarks};
+ghost use Rattle.volume.specs.Volumes.{IsNew, Means, live_of};
 ghost use Rattle.ffi_calls.specs.Upkeep.{IsIdle, IsStuck, Relieves};
 ghost use Rattle.doorvervain.specs.Handed.{AnswerReported, FaultReported, FindsHanded, Given, HandsNew, NoShape, NotLoaded, shape_of};
 ghost use Rattle.doorvervain.specs.Held.{IsClosed};
@@ -135,11 +136,14 @@ pub extern "C" fn doorvervain_raw_make_sharable(fs: &mut VolumeHandle)
 }
 
 /// Sorts in the messages that waited while a frozen tree shared the live one, as at the end of a transaction. The volume still
-/// abstracts to the same world, with the same snapshots.
+/// abstracts to the same world, with the same snapshots and marks.
 #[unsafe(no_mangle)]
 pub extern "C" fn doorvervain_raw_condense(alloc: Global, fs: &mut VolumeHandle)
     ensures means { (w : World) → Means fs.old.volume w → Means fs.new.volume w }
+    ensures root { fs.new.volume.live.modified ≡ fs.old.volume.live.modified }
     ensures snapshots { fs.new.volume.snapshots ≡ fs.old.volume.snapshots }
+    ensures marks { fs.new.volume.marks ≡ fs.old.volume.marks }
+    ensures kept { KeepsMarks (live_of fs.old.volume) (live_of fs.new.volume) }
 {
     fs.volume().condense(alloc);
 }

@@ -2,6 +2,7 @@
 pub mod Changes
 pub mod Copies
 pub mod Differences
+pub mod Edits
 pub mod Filling
 pub mod Holes
 pub mod Images

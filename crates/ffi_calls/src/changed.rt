@@ -20,9 +20,9 @@ use volume::{Frozen, Volume};
 
 /// A tree of a volume, and the keys at which it may differ from the live tree.
 #[derive(Drop)]
-struct NamedTree {
-    tree: Frozen,
-    changes: Changes,
+pub(crate) struct NamedTree {
+    pub(crate) tree: Frozen,
+    pub(crate) changes: Changes,
 }
 
 /// Lists the paths at which two trees of a volume differ, in the order of their keys: for each its text and a zero byte. Each tree is
@@ -76,8 +76,8 @@ fn differing(alloc: Global, before: NamedTree, after: NamedTree) -> Result<Vec<P
     Ok(paths)
 }
 
-// The tree with this name: a snapshot, or the live tree if the name is empty.
-fn named_tree(alloc: Global, volume: &Volume, name: &[u8]) -> Result<NamedTree, Errno>
+/// The tree with this name: a snapshot, or the live tree if the name is empty.
+pub(crate) fn named_tree(alloc: Global, volume: &Volume, name: &[u8]) -> Result<NamedTree, Errno>
     ensures found { (w : World) → Means volume.now w → IfOk result (λ n. (t : Tree) × NamesTree name.now w t × MeanRooted n.tree t) }
     ensures agree { IfOk result (λ n. AgreeBeside n.changes n.tree.indexes volume.now.live.indexes) }
     ensures refused { (w : World) → Means volume.now w → IfErr result (LacksTree name.now w) }
@@ -91,10 +91,10 @@ fn named_tree(alloc: Global, volume: &Volume, name: &[u8]) -> Result<NamedTree, 
     let tree = volume.frozen(&name)?;
     match volume.changed_since(alloc, &name) {
         Ok(changes) => Ok(NamedTree { tree, changes }),
-        // The snapshot is there, so an allocation failed.
-        Err(_) => {
+        // The snapshot is there, so this is ENOMEM.
+        Err(fault) => {
             drop(tree);
-            Err(Errno::ENOMEM)
+            Err(fault)
         }
     }
 }

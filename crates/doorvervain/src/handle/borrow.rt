@@ -1,9 +1,10 @@
 //! Borrows the value that a handle owns. When the borrow ends, the handle owns the last value written through it.
 ghost use Rattle.std.specs.Prelude.{◌≡◌};
 ghost use types.Logic.{sem};
-ghost use Rattle.doorvervain.specs.Follows.{frozen_follows, handle_follows, loading_follows, printing_follows};
+ghost use Rattle.doorvervain.specs.Follows.{edits_follows, frozen_follows, handle_follows, loading_follows, printing_follows};
 
-use super::{FrozenHandle, LoaderHandle, PrinterHandle, VolumeHandle};
+use super::{EditsHandle, FrozenHandle, LoaderHandle, PrinterHandle, VolumeHandle};
+use delta::EditsPrinter;
 use images::{ImageLoader, ImagePrinter};
 use volume::{Frozen, Volume};
 
@@ -47,6 +48,17 @@ impl LoaderHandle {
         ensures value { result.now ≡ self.old.loading }
     {
         let at = self.at as *mut ImageLoader;
+        unsafe { &mut *at }
+    }
+}
+
+impl EditsHandle {
+    /// The printer of this handle.
+    pub(crate) fn edits(&mut self) -> &mut EditsPrinter
+        ensures* writes_back { sem 𝓛 (edits_follows self.entry result) }
+        ensures value { result.now ≡ self.old.edits }
+    {
+        let at = self.at as *mut EditsPrinter;
         unsafe { &mut *at }
     }
 }

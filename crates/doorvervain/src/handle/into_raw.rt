@@ -1,8 +1,9 @@
 //! Turns handles back into the boxes of which they were made. Ownership moves with the pointer.
 ghost use Rattle.std.specs.Prelude.{◌≡◌};
 
-use super::{FrozenHandle, LoaderHandle, PrinterHandle, VolumeHandle};
+use super::{EditsHandle, FrozenHandle, LoaderHandle, PrinterHandle, VolumeHandle};
 use crate::parts::RawBox;
+use delta::EditsPrinter;
 use images::{ImageLoader, ImagePrinter};
 use std::alloc::Global;
 use volume::{Frozen, Volume};
@@ -54,6 +55,19 @@ impl LoaderHandle {
         let LoaderHandle { at } = self;
         RawBox {
             ptr: at as *mut ImageLoader,
+            alloc,
+        }
+    }
+}
+
+impl EditsHandle {
+    /// The parts of the printer's box.
+    pub(crate) fn into_raw_parts(self, alloc: Global) -> RawBox<EditsPrinter, Global>
+        ensures { result.value ≡ self.edits }
+    {
+        let EditsHandle { at } = self;
+        RawBox {
+            ptr: at as *mut EditsPrinter,
             alloc,
         }
     }
