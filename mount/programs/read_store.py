@@ -1,7 +1,7 @@
 """Reads a store: read_store.py DIR prints what its tree and its snapshots have.
 
 It was written from docs/FORMATS.md alone, and shares nothing with the mount. It checks all that the page says of a store of
-version 2, and keeps no times of modification.
+version 2 whose deltas are of format 2, and keeps no times of modification.
 """
 import hashlib
 import re
@@ -10,7 +10,7 @@ from pathlib import Path
 
 HEADER_BODY, SALT, NUMBERS_OF_A_LOG = 96, 16, 1 << 40
 KINDS = {1: "mkdir", 2: "create", 3: "unlink", 4: "rmdir", 5: "rmtree", 6: "rename", 7: "truncate", 8: "write", 9: "hole",
-         10: "snapshot", 11: "drop", 12: "restore", 13: "mtime", 14: "copy"}
+         10: "snapshot", 11: "drop", 12: "restore", 13: "mtime", 14: "copy", 15: "edits"}
 FIRST_LINE = b"doorvervain checkpoint 2\n"
 
 
@@ -34,13 +34,17 @@ def number(data: bytes) -> int:
 # ---- images and deltas
 
 
+def plain(word: bytes) -> bytes:
+    return re.sub(rb"%([0-9A-F]{2})", lambda it: bytes([int(it[1], 16)]), word)
+
+
 def read_image(lines: list[bytes]) -> dict[bytes, bytearray | None]:
     """Paths with the bytes of files; none: a directory."""
     tree, last = {}, b""
     for line in lines:
         words = line.rstrip(b"\n").split(b" ")
         if words[0] in (b"D", b"d", b"F", b"f"):
-            last = re.sub(rb"%([0-9A-F]{2})", lambda it: bytes([int(it[1], 16)]), words[1])
+            last = plain(words[1])
             tree[last] = bytearray(int(words[2])) if words[0] in (b"F", b"f") else None
         else:
             at, data = int(words[1]) * 4096, bytes.fromhex(words[2].decode())
@@ -48,31 +52,48 @@ def read_image(lines: list[bytes]) -> dict[bytes, bytearray | None]:
     return tree
 
 
-def apply_delta(image: list[bytes], delta: list[bytes]) -> list[bytes]:
-    out, at = [], 0
-    demand(delta[0] == b"delta 1 " + digest(b"".join(image)).hex().encode() + b"\n", "a delta of another tree")
-    demand(delta[-1] == b"end\n", "a delta without an end")
+def rewrite_block(file: bytearray, words: list[bytes]) -> None:
+    at, data = int(words[2]) * 4096, b"" if words[4] == b"-" else bytes.fromhex(words[4].decode())
+    end = min(at + 4096, len(file))
+    old = bytes(file[at:end]).rstrip(b"\0")
+    demand(words[3] == (digest(old).hex().encode() if old else b"-") and at + max(len(data), 1) <= end, "a block that does not fit")
+    file[at:end] = data + bytes(end - at - len(data))
+
+
+def apply_edit(tree: dict[bytes, bytearray | None], words: list[bytes]) -> None:
+    if words[0] == b"b":
+        rewrite_block(tree[plain(words[1])], words)
+        return
+    path, is_file = plain(words[2]), words[1] == b"F"
+    if words[0] == b"+":
+        demand(path not in tree and tree.get(path.rpartition(b"/")[0] or b"/", b"") is None, "an entry that does not fit")
+        tree[path] = bytearray(int(words[3])) if is_file else None
+        return
+    demand(path in tree and (tree[path] is not None) == is_file, "an entry that is not there")
+    demand(not is_file or len(tree[path]) == int(words[3]), "a file of another length")
+    if words[0] == b"-":
+        demand(not any(it.startswith(path + b"/") for it in tree), "a directory that is not empty")
+        del tree[path]
+    elif is_file:
+        tree[path] = (tree[path] + bytes(int(words[5])))[:int(words[5])]
+
+
+def apply_delta(tree: dict[bytes, bytearray | None], delta: list[bytes]) -> None:
+    demand(delta[0] == b"delta 2" and delta[-1] == b"end", "no delta of format 2")
     for line in delta[1:-1]:
-        if line.startswith(b"+ "):
-            out.append(line[2:])
-        else:
-            count = int(line[2:])
-            out += image[at:at + count] if line.startswith(b"= ") else []
-            at += count
-    demand(at == len(image), "a delta that leaves lines")
-    return out
+        apply_edit(tree, line.split(b" "))
 
 
-def read_snapshots(image: list[bytes], data: bytes) -> dict[bytes, dict]:
+def read_snapshots(tree: dict[bytes, bytearray | None], data: bytes) -> dict[bytes, dict]:
     out, name, delta = {}, None, []
-    for line in data.splitlines(keepends=True):
+    for line in data.splitlines():
         if delta == [] and line.startswith(b"snapshot "):
-            name = line.rstrip(b"\n").split(b" ")[1]
+            name = line.split(b" ")[1]
             continue
         delta.append(line)
-        if line == b"end\n":
-            image, delta = apply_delta(image, delta), []
-            out[name] = read_image(image)
+        if line == b"end":
+            apply_delta(tree, delta)
+            out[name], delta = copy(tree), []
     return out
 
 
@@ -97,7 +118,7 @@ def read_checkpoint(store: Path, count: int) -> tuple[dict, dict, bytes]:
     if snapshots_sum:
         texts = (store / f"snapshots.{count}").read_bytes()
         demand(digest(texts).hex().encode() == snapshots_sum, "other snapshots")
-        snapshots = read_snapshots(lines, texts)
+        snapshots = read_snapshots(read_image(lines), texts)
     return read_image(lines), snapshots, salt
 
 
@@ -229,6 +250,8 @@ class Store:
             data = bytes(self.tree[path][offset:offset + count])
             if data:
                 self.do("write", number(other[:8]), 0, other[8:], data)
+        elif what == "edits":
+            apply_delta(self.tree, path.splitlines())
         elif what != "mtime":
             self.keep(what, path)
 

@@ -11,6 +11,7 @@ from kept import TRUST, restore
 from mixed_trees import PIPE_BUFFER, change, change_at_random, make, same
 from own_mount import MOUNT, Mount, case, run_cases
 from own_store import WORKS, end_well, fill, kill, snapshot, store_mount, sync
+from read_store import Store
 from seen import alike, seen
 
 ROUNDS, KILLS, MANY, CHANGES = 25, 12, 1500, 8
@@ -184,7 +185,16 @@ def numbers_of_files_do_not_meet(folder: Path):
 
 
 def heading(image: bytes) -> bytes:
+    """The first line of a difference of format 1."""
     return b"delta 1 " + hashlib.sha256(image).hexdigest().encode() + b"\n"
+
+
+def unfit(line: int, mount: Mount) -> str:
+    return f"line {line} of the difference does not fit the tree of {mount.point}"
+
+
+def bad(line: int) -> str:
+    return f"no difference from line {line} on"
 
 
 @case
@@ -192,27 +202,99 @@ def texts_that_are_refused(folder: Path):
     one, other = two_mounts(folder)
     make(one.point)
     snapshot(one, "one")
-    text = send(one, "none", "one")
-    receive(other, text)
+    receive(other, send(one, "none", "one"))
+    change(one.point)
+    text = send(one, "one")
     snapshot(other, "mine")
     was, lines = seen(other.point), text.splitlines(keepends=True)
-    other_tree = f"it is the difference of another tree than that of {other.point}"
-    cases = [(text, other_tree), (b"", "no difference from line 1 on"),
-             (text[:-1], f"no difference from line {len(lines)} on"),
-             (text + b"x", f"no difference from line {len(lines) + 1} on"),
-             (b"".join(lines[:4] + [b"x" + lines[4]] + lines[5:]), "no difference from line 5 on"),
-             (heading(b"x") + b"end\n", other_tree)]
+    last = len(lines)
+    cases = [(send(one, "none", "one"), unfit(2, other)), (b"", bad(1)), (text[:-1], bad(last)),
+             (text + b"x", bad(last + 1)), (text + lines[-1], bad(last + 1)), (lines[0] + text, bad(2)),
+             (b"".join(lines[:4] + [b"x" + lines[4]] + lines[5:]), bad(5)),
+             (b"".join(lines[:5] + lines[4:]), unfit(6, other)),
+             (b"".join(lines[:-1] + [b"- F /not_there 0 0\n", b"end\n"]), unfit(last, other)),
+             (heading(b"x") + b"end\n", unfit(1, other)), (heading(b"x"), bad(2)), (b"delta 1 x\nend\n", bad(1)),
+             (b"delta 3\nend\n", bad(1))]
     for damaged, words in cases:
         said = refused("--receive", other.point, text=damaged)
-        assert said == words, said
+        assert said == words, (said, words)
         alike(seen(other.point), was)
     assert os.listdir(other.point / ".snapshots") == ["mine"]
+    receive(other, text)
+    same(one.point, other.point)
     end_well(one)
     end_well(other)
 
 
+ZEROS = hashlib.sha256(b"\1").hexdigest().encode()
+
+
+@case
+def edits_by_hand(folder: Path):
+    """Each text is of an empty tree, whose root has the mtime 0; behind it is the line that is bad, or does not fit."""
+    mount = Mount(folder)
+    unfitting = [(b"- F /a 0 0\n", 2), (b"- D / 0\n", 2), (b"! D / 1 2\n", 2), (b"! F /a 0 1 0 2\n", 2), (b"b /a 0 - 01\n", 2),
+                 (b"+ D / 1\n", 2), (b"+ F /a/b 0 1\n", 2), (b"+ F /a 0 1\n+ F /a 0 1\n", 3),
+                 (b"+ F /a 0 1\n+ F /a/b 0 1\n", 3), (b"+ D /a 1\n+ F /a/b 0 1\n- D /a 1\n", 4),
+                 (b"+ F /a 1099511627777 1\n", 2), (b"+ F /a 3 1\nb /a 0 - 01020304\n", 3), (b"+ F /a 3 1\nb /a 1 - 01\n", 3),
+                 (b"+ F /a 3 1\nb /a 0 %s 02\n" % ZEROS, 3), (b"+ F /a 0 1\n! F /a 1 1 2 1\n", 3),
+                 (b"! D / 0 7\n! D / 0 7\n", 3)]
+    no_lines = [b"\n", b"+ F /a 3\n", b"= 1\n", b"+ F /a 0 01\n", b"+ D /%00 1\n", b"+ D /%61 1\n", b"+ D a 1\n", b"+ D /../a 1\n",
+                b"b /a 0 - 0\n", b"x"]
+    for lines, line in unfitting:
+        said = refused("--receive", mount.point, text=b"delta 2\n" + lines + b"end\n")
+        assert said == unfit(line, mount), (lines, said)
+    for line in no_lines:
+        said = refused("--receive", mount.point, text=b"delta 2\n! D / 0 7\n" + line + b"end\n")
+        assert said == bad(3), (line, said)
+    assert os.listdir(mount.point) == []
+    receive(mount, b"delta 2\n! D / 0 7\n+ D /d 8\n+ F /d/a 5000 9\nb /d/a 0 - 68690a\nb /d/a 1 - 21\nend\n")
+    assert (mount.point / "d/a").read_bytes() == b"hi\n" + bytes(4093) + b"!" + bytes(903)
+    assert [os.stat(mount.point / it).st_mtime_ns for it in (".", "d", "d/a")] == [7, 8, 9]
+    end_well(mount)
+
+
+@case
+def a_text_of_format_1_is_received(folder: Path):
+    """Beside a snapshot, which stays; what it is not of is told by its first line."""
+    one, other = two_mounts(folder, "--store", folder / "store")
+    make(one.point)
+    snapshot(one, "one")
+    change(one.point)
+    text, back = (folder_image(one, folder, before, after) for before, after in (("none", ""), ("", "one")))
+    first = snapshot(other, "first")
+    receive(other, text)
+    same(one.point, other.point)
+    assert os.listdir(first) == [] and refused("--receive", other.point, text=text) == unfit(1, other)
+    receive(other, back)
+    same(one.point / ".snapshots/one", other.point)
+    other = killed_and_new(folder, other)
+    same(one.point / ".snapshots/one", other.point)
+    end_well(one)
+    end_well(other)
+
+
+def folder_image(mount: Mount, folder: Path, before: str, after: str) -> bytes:
+    """The difference of format 1 between two trees of a mount, all of whose lines go and come."""
+    old, new = (image_of(mount, folder, name) for name in (before, after))
+    gone, come = old.count(b"\n"), b"".join(b"+ " + line for line in new.splitlines(keepends=True))
+    return heading(old) + b"- %d\n" % gone + come + b"end\n"
+
+
+def image_of(mount: Mount, folder: Path, name: str) -> bytes:
+    """The image of a tree: that of a mount that received the difference between the empty tree and it."""
+    shutil.rmtree(folder / "images", ignore_errors=True)
+    (folder / "images").mkdir()
+    copy = Mount(folder / "images", *TRUST, "--image", folder / "images/image")
+    if name != "none":
+        receive(copy, send(mount, "none", *([name] if name else [])))
+    end_well(copy)
+    return (folder / "images/image").read_bytes()
+
+
 @case
 def what_makes_no_tree(folder: Path):
+    """By texts of format 1."""
     image = folder / "image"
     end_well(Mount(folder, "--image", image))
     assert image.read_bytes() == b"D / 0\n"
@@ -300,6 +382,30 @@ def what_was_received_outlives_a_kill(folder: Path):
 
 
 @case
+def what_was_received_is_one_entry_of_the_log(folder: Path):
+    """A reader that was written from the formats finds its tree too."""
+    one, other = two_mounts(folder, "--store", folder / "store")
+    (one.point / "folder").mkdir()
+    for number in range(5):
+        (one.point / f"folder/{number}").write_bytes(WORKS.randbytes(3000 * number))
+    snapshot(one, "one")
+    (one.point / "folder/3").unlink()
+    os.truncate(one.point / "folder/4", 5000)
+    wanted = [send(one, "none", "one"), send(one, "one")]
+    for text in wanted:
+        receive(other, text)
+    kill(other)
+    dumped = subprocess.run([MOUNT, "--dump-log", folder / "store"], stdout=subprocess.PIPE, check=True).stdout
+    lines = dumped.splitlines()
+    assert [it for it in lines if it.startswith(b"# edits ")] == [b"# edits %d" % len(it) for it in wanted], dumped
+    assert all(it.startswith(b"# ") for it in lines), dumped
+    found = Store(folder / "store").tree
+    assert {it: found[it] for it in found if it != b"/"} == {b"/folder": None} | {
+        b"/folder/%d" % it: (one.point / f"folder/{it}").read_bytes() for it in (0, 1, 2, 4)}
+    end_well(one)
+
+
+@case
 def a_kill_within_a_receive(folder: Path):
     """The tree is the old one or the new one then."""
     one, other = two_mounts(folder, "--store", folder / "store")
@@ -362,9 +468,9 @@ def goes_on(what: str, mount: Mount, process: subprocess.Popen) -> None:
 @case
 def requests_go_on_beside_a_send(folder: Path):
     mount = Mount(folder)
+    snapshot(mount, "none")
     fill_many(mount, 3000)
-    (mount.point / ".snapshots/one").mkdir()
-    with subprocess.Popen([MOUNT, "--send", "one", mount.point], stdout=subprocess.DEVNULL) as sends:
+    with subprocess.Popen([MOUNT, "--send", "none", mount.point], stdout=subprocess.DEVNULL) as sends:
         goes_on("send", mount, sends)
     assert mount.end() == 0, mount.said()
 
@@ -401,7 +507,7 @@ def a_change_beside_a_receive(folder: Path):
             (other.point / "mine").write_text(f"{number}")
             said = receives.communicate()[1]
         if receives.returncode:
-            assert said.endswith(f"it is the difference of another tree than that of {other.point}\n"), said
+            assert said.endswith(unfit(2, other) + "\n"), said
         assert receives.returncode or len(os.listdir(other.point / "folder")) == MANY
         assert sorted(os.listdir(other.point)) == (["mine"] if receives.returncode else ["folder", "mine"])
         refusals += receives.returncode
@@ -435,16 +541,17 @@ def beside_as_many_snapshots_as_there_may_be(folder: Path):
 
 @case
 def on_a_mount_that_traces(folder: Path):
-    """There each call has its line."""
-    one, other = two_mounts(folder, "--trace", folder / "calls")
+    """It sends, but no line of a script applies a difference."""
+    one, other = Mount(folder, "--trace", folder / "calls", name="from"), Mount(folder, *TRUST, name="to")
+    snapshot(one, "none")
     make(one.point)
+    snapshot(one, "one")
     receive(other, send(one, "none"))
     same(one.point, other.point)
-    text = send(one, "none")
-    assert "another tree" in refused("--receive", other.point, text=text)
+    assert "nor a receive with --trace" in refused("--receive", one.point, text=send(one, "one", "none"))
+    same(one.point, other.point)
     end_well(one)
     end_well(other)
-    assert b"mkdir /folder" in (folder / "calls.in").read_bytes()
 
 
 if __name__ == "__main__":

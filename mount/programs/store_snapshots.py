@@ -13,6 +13,7 @@ from pathlib import Path
 from typing import NamedTuple
 
 from cases import refused as not_made
+from edits_text import EditedImage
 from failing_disk import FailingDisk
 from kept import restore
 from mixed_trees import change, change_at_random, make, reported
@@ -242,17 +243,8 @@ def texts(folder: Path, number: int) -> list[tuple[str, list[bytes]]]:
     return out
 
 
-def applied(image: list[bytes], text: list[bytes]) -> Iterator[bytes]:
-    """What the lines of a difference make of those of an image."""
-    digest, at = hashlib.sha256(b"".join(image)).hexdigest(), 0
-    assert text[0] == f"delta 1 {digest}\n".encode() and text[-1] == b"end\n"
-    for line in text[1:-1]:
-        if line.startswith(b"+ "):
-            yield line[2:]
-        elif line.startswith(b"= "):
-            yield from image[at:at + int(line[2:])]
-        at += 0 if line.startswith(b"+ ") else int(line[2:])
-    assert at == len(image)
+def image_lines(folder: Path, number: int) -> list[bytes]:
+    return (folder / f"store/tree.{number}").read_bytes().splitlines(keepends=True)
 
 
 @case
@@ -261,10 +253,10 @@ def its_texts_are_differences_one_of_the_other(folder: Path):
     mount = stands(store_mount(folder, *AT_ONCE))
     write_image(folder, mount, 1)
     end_well(mount)
-    image, size = (folder / "store/tree.1").read_bytes().splitlines(keepends=True), 0
+    image, size = EditedImage(image_lines(folder, 1)), 0
     for name, text in texts(folder, 1):
-        image = list(applied(image, text))
-        (folder / "image").write_bytes(b"".join(image))
+        image.apply(text)
+        (folder / "image").write_bytes(b"".join(image.lines()))
         mount = stands(Mount(folder, "--load", folder / "image", "--trust-attributes"))
         same(state(mount.point), wanted[name])
         end_well(mount)
@@ -285,11 +277,73 @@ def they_are_those_that_the_library_prints(folder: Path):
     mount = stands(store_mount(folder, *AT_ONCE))
     write_image(folder, mount, 1)
     printed = texts(folder, 1)
-    assert [name for name, _ in printed] == [f"s{i:02}" for i in reversed(range(12))] and len(printed[0][1]) == 3
+    assert [name for name, _ in printed] == [f"s{i:02}" for i in reversed(range(12))]
+    assert printed[0][1] == [b"delta 2\n", b"end\n"]
     for (before, _), (name, text) in zip(printed, printed[1:]):
         sent = subprocess.run([MOUNT, "--send", before, name, mount.point], stdout=subprocess.PIPE, check=True).stdout
         assert sent == b"".join(text), (before, name)
     end_well(mount)
+
+
+# ---- texts of format 1, as earlier releases wrote them
+
+
+def in_format_1(old: list[bytes], new: list[bytes]) -> bytes:
+    """The difference between two images: their lines that are the same in front stay, and all others go and come."""
+    same = next((i for i, (one, other) in enumerate(zip(old, new)) if one != other), min(len(old), len(new)))
+    heading = b"delta 1 %s\n" % hashlib.sha256(b"".join(old)).hexdigest().encode()
+    stay, go = (b"%s %d\n" % (word, count) if count else b"" for word, count in ((b"=", same), (b"-", len(old) - same)))
+    return heading + stay + go + b"".join(b"+ " + line for line in new[same:]) + b"end\n"
+
+
+def write_in_format_1(folder: Path, number: int, which: set[int]) -> None:
+    """The texts with these indexes become such ones."""
+    image, out = EditedImage(image_lines(folder, number)), b""
+    for index, (name, text) in enumerate(texts(folder, number)):
+        old = image.lines()
+        image.apply(text)
+        out += b"snapshot %s\n" % name.encode() + (in_format_1(old, image.lines()) if index in which else b"".join(text))
+    (folder / f"store/snapshots.{number}").write_bytes(out)
+    write_sums(folder / "store", number)
+
+
+@case
+def texts_of_format_1_are_read(folder: Path):
+    wanted = three_trees(folder)
+    mount = stands(store_mount(folder, *AT_ONCE))
+    write_image(folder, mount, 1)
+    end_well(mount)
+    file = folder / "store/snapshots.1"
+    whole = file.read_bytes()
+    for which in ({0}, {1}, {0, 1}):
+        write_in_format_1(folder, 1, which)
+        assert file.read_bytes().count(b"delta 1 ") == len(which)
+        has(folder, wanted, *NEVER)
+        file.write_bytes(whole)
+    write_in_format_1(folder, 1, {0, 1})
+    mount = stands(store_mount(folder, *AT_ONCE))
+    (mount.point / "more").write_bytes(WORKS.randbytes(8 * MEBIBYTE))
+    write_image(folder, mount, 2)
+    wanted[""] = state(mount.point)
+    end_well(mount)
+    assert b"delta 1 " not in (folder / "store/snapshots.2").read_bytes()
+    has(folder, wanted, *NEVER)
+
+
+@case
+def damage_of_texts_of_format_1_is_reported(folder: Path):
+    three_trees(folder)
+    mount = stands(store_mount(folder, *AT_ONCE))
+    write_image(folder, mount, 1)
+    end_well(mount)
+    write_in_format_1(folder, 1, {0, 1})
+    file = folder / "store/snapshots.1"
+    whole = file.read_bytes()
+    for damaged in (whole.replace(b"\ndelta 1 ", b"\ndelta 1 0", 1), re.sub(rb"\ndelta 1 ....", b"\ndelta 1 0000", whole, 1),
+                    whole.replace(b"\n+ ", b"\n* ", 1), whole.replace(b"\n+ ", b"\n- 1\n+ ", 1)):
+        file.write_bytes(damaged)
+        write_sums(folder / "store", 1)
+        refused(folder, "snapshots.1: the snapshot .* is not made: ")
 
 
 # ---- kills
@@ -487,13 +541,13 @@ def and_so_it_is_where_the_checksum_is_right(folder: Path):
     whole, sum_of_whole = file.read_bytes(), reported_sum.read_bytes()
     some = b"snapshot 2nd\n"
     front, back = whole.split(some)
-    lines = list(applied((folder / "store/tree.1").read_bytes().splitlines(keepends=True), texts(folder, 1)[0][1]))
-    no_image = b"%s\n= %d\n+ F /zzz 3 4\n+ b 0 00\nend\n" % (back.split(b"\n")[0], len(lines))
+    no_tree = (b"delta 2\n+ F /zzz/zzz 3 4\nend\n", b"delta 2\n+ F /zzz 3 4\nb /zzz 0 - 01020304\nend\n")
     names = (b"snapshot the_first-1\n", b"snapshot a/b\n", b"snapshot \n", b"snapshot " + b"x" * 65 + b"\n")
-    lines_changed = (whole.replace(b"delta 1 ", b"delta 2 ", 1), whole.replace(b"\n+ ", b"\n+ x", 1),
-                     front.replace(b"\n+ ", b"\n- 1\n+ ", 1) + some + back)
+    lines_changed = (whole.replace(b"delta 2\n", b"delta 3\n", 1), whole.replace(b"\n+ ", b"\n+ x", 1),
+                     front.replace(b"\n+ ", b"\n- F /zzz 0 0\n+ ", 1) + some + back)
     cut = (whole[:-1], whole[:-5], whole + b"x", front + some, some + back, some + back + front)
-    for damaged in (*cut, *(front + name + back for name in names), *lines_changed, front + some + no_image):
+    for damaged in (*cut, *(front + name + back for name in names), *lines_changed,
+                    *(front + some + text for text in no_tree)):
         file.write_bytes(damaged)
         write_sums(folder / "store", 1)
         refused(folder, "snapshots.1: the snapshot .* is not made: ")
@@ -581,8 +635,9 @@ def hold_up(folder: Path, count: int) -> Held:
     return held
 
 
-def is_quick(held: Held) -> bool:
-    return held.longest < LONGEST + 2 * held.quiet and held.most < MORE * held.before
+def is_quick(held: Held, count: int) -> bool:
+    """The text of a difference is in memory until it is written: two digits for each byte that has changed."""
+    return held.longest < LONGEST + 2 * held.quiet and held.most < MORE * (held.before + 2 * count / 1024)
 
 
 @case
@@ -590,8 +645,9 @@ def an_image_holds_nothing_up(folder: Path):
     """On a busy machine a write may take longer by itself: so one of three images has to be quick. Of a build with
     sanitizers neither time nor memory is judged."""
     sanitized = "sanitized" in MOUNT
-    tries = (hold_up(folder, 20 if sanitized else 200) for _ in range(TRIES))
-    assert any(sanitized or is_quick(held) for held in tries)
+    count = 20 if sanitized else 200
+    tries = (hold_up(folder, count) for _ in range(TRIES))
+    assert any(sanitized or is_quick(held, count) for held in tries)
     began = time.monotonic()
     mount = stands(store_mount(folder))
     took, most = time.monotonic() - began, memory_of(mount.process.pid)

@@ -79,6 +79,9 @@ struct backend_ops {
     // Another backend that has a fork of the live tree, without its snapshots, and no log: used and closed by any thread,
     // with no lock. EOPNOTSUPP: there is to be none.
     int (*fork)(void *self, struct backend *out);
+    // Applies a text of edits to the live tree of the library or of a branch, all of them or none ("Format 2" in
+    // docs/FORMATS.md). EINVAL: line `*line` is bad; ENOENT: it does not fit.
+    int (*apply_edits)(void *self, const struct bytes *text, uint64_t *line);
     // The live tree becomes that of such a fork, by its `self`, where no call has changed the live one since: else EAGAIN.
     // A log takes `calls`, which made that tree of this one, as entries.
     int (*adopt)(void *self, void *fork, struct bytes *calls);

@@ -20,6 +20,7 @@ static const struct backend_ops noting_ops = {
     .write = wal_layer_write,
     .punch = wal_layer_punch,
     .copy_range = wal_layer_copy_range,
+    .apply_edits = wal_layer_apply_edits,
 };
 
 // Without a log nothing is noted.

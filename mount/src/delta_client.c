@@ -20,7 +20,7 @@ static int report(const char *what, const char *which, int err) {
 
 // Why a mount did not do what it was asked.
 static int report_error(const char *what, const char *mount_point, int err) {
-    const char *why = err == EOPNOTSUPP ? "not with --replica"
+    const char *why = err == EOPNOTSUPP ? "not with --replica, nor a receive with --trace"
                       : err == ENOSPC   ? "it has no room, or 64 snapshots"
                                         : strerror(err);
     fprintf(stderr, "doorvervain-mount: %s%s: %s\n", what, mount_point, why);
@@ -102,8 +102,9 @@ static int report_outcome(const struct delta_answer *answer, const char *mount_p
     case DELTA_IS_NONE:
         fprintf(stderr, "doorvervain-mount: no difference from line %" PRIu64 " on\n", answer->line);
         return 1;
-    case DELTA_IS_OF_OTHER:
-        fprintf(stderr, "doorvervain-mount: it is the difference of another tree than that of %s\n", mount_point);
+    case DELTA_DOES_NOT_FIT:
+        fprintf(stderr, "doorvervain-mount: line %" PRIu64 " of the difference does not fit the tree of %s\n",
+                answer->line, mount_point);
         return 1;
     default: fputs("doorvervain-mount: what the difference makes is no tree\n", stderr); return 1;
     }

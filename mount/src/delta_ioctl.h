@@ -23,26 +23,21 @@ struct delta_piece {
 // More of a text comes, in a piece that may have fewer bytes than fit.
 #define COMING_PIECE_REQUEST _IOW('D', 5, struct delta_piece)
 
-// All of it came: the live tree is to become what the difference makes of it.
-enum { DELTA_IS_DONE, DELTA_IS_NONE, DELTA_IS_OF_OTHER, DELTA_MAKES_NO_TREE };
+// All of it came: it is to be applied to the live tree.
+enum { DELTA_IS_DONE, DELTA_IS_NONE, DELTA_DOES_NOT_FIT, DELTA_MAKES_NO_TREE };
 struct delta_answer {
     uint32_t outcome;
-    uint64_t line; // DELTA_IS_NONE: the first that is bad
+    uint64_t line; // DELTA_IS_NONE, DELTA_DOES_NOT_FIT: the first that is bad, or does not fit
 };
 #define RECEIVE_REQUEST _IOR('D', 6, struct delta_answer)
 
 // These are called in the mount.
 
-// The trees of a difference, as they are printed while requests go on.
-struct delta_trees {
-    struct doorvervain_printer from, to;
-};
-// Under the request lock. They are to be closed whatever is answered, and printed once, with no lock.
-int delta_open_trees(struct mount *mount, const struct send_request *wanted, struct delta_trees *out);
-int delta_print(struct delta_trees *trees, struct bytes *out);
-void delta_close_trees(struct delta_trees *trees);
+// Under the request lock: takes both trees. They are printed with no lock, and freed by doorvervain_edits_end, whatever is
+// answered.
+int delta_begin(struct mount *mount, const struct send_request *wanted, struct doorvervain_edits *out);
 // With no lock: it is taken twice for a moment, and for all of it only where the tree changes thrice meanwhile, or memory
-// is wanting. The live tree becomes what a text makes of it, and snapshots stay. With a fault, and with another outcome, it
-// is as it was. What the kernel has to forget goes to `stale`, as with snapshot_restore.
-int delta_apply(struct request *request, const struct bytes *text, struct delta_answer *answer, struct bytes *stale);
+// is wanting. A text is applied to the live tree, and snapshots stay. With a fault, and with another outcome, the tree is
+// as it was. EOPNOTSUPP: nothing can be forked. What the kernel has to forget goes to `stale`, as with snapshot_restore.
+int delta_receive(struct request *request, const struct bytes *text, struct delta_answer *answer, struct bytes *stale);
 #endif

@@ -24,7 +24,7 @@ struct library {
     unsigned steps;
     size_t changes;     // for which no steps are due yet
     unsigned owed;      // steps that are due
-    bool has_backlog;   // a load put all changes into the root, and no change made steps due for them
+    bool has_backlog;   // a load or edits put changes into the root for which no steps are due
     uint64_t edits;     // how many calls changed the live tree
     uint64_t forked_at; // of a fork: the edits of the volume that it is one of
     // The tree of the snapshot that was looked into last; its name is empty where there is none.
@@ -188,6 +188,14 @@ static int save(struct library *library, struct image *image) {
     return failed ? failed : doorvervain_errno(number);
 }
 
+// As behind a load all changes are in the root.
+static int library_apply_edits(void *self, const struct bytes *text, uint64_t *line) {
+    struct library *library = self;
+    int err = done(library, doorvervain_apply_edits(&library->volume, text->at, text->length, line));
+    if (!err) library->has_backlog = library->steps;
+    return err;
+}
+
 static unsigned library_compact(void *self, unsigned steps) {
     struct library *library = self;
     unsigned done = doorvervain_compact(&library->volume, steps);
@@ -242,6 +250,7 @@ static const struct backend_ops library_ops = {
     .compact = library_compact,
     .compaction_debt = library_compaction_debt,
     .fork = library_fork,
+    .apply_edits = library_apply_edits,
     .adopt = library_adopt,
     .close = library_close,
 };

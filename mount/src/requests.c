@@ -11,6 +11,7 @@
 #include "orphan.h"
 #include "busy_poll.h"
 #include "copy_range.h"
+#include "delta.h"
 #include "delta_ioctl.h"
 #include "entry_count.h"
 #include "exit_report.h"
@@ -837,7 +838,7 @@ static void receive(void *argument) {
     struct request *request = &receiving->request;
     struct stale stale = find_stale();
     struct delta_answer answer;
-    int err = delta_apply(request, &receiving->text, &answer, noted(&stale));
+    int err = delta_receive(request, &receiving->text, &answer, noted(&stale));
     bool is_other_tree = !err && answer.outcome == DELTA_IS_DONE;
     if (!err && request->mount->store) err = store_sync(request->mount->store);
     notify_stale(&stale, is_other_tree);
@@ -888,12 +889,12 @@ struct sending {
 static void print_text(void *argument) {
     struct sending *sending = argument;
     struct request *request = &sending->request;
-    struct delta_trees trees = {{NULL}, {NULL}};
+    struct doorvervain_edits edits = {NULL};
     int err = requests_begin(request);
-    if (!err) err = delta_open_trees(request->mount, &sending->wanted, &trees);
+    if (!err) err = delta_begin(request->mount, &sending->wanted, &edits);
     err = requests_end(request, err);
-    if (!err) err = delta_print(&trees, &sending->handle->text);
-    delta_close_trees(&trees);
+    if (!err) err = delta_print(&edits, &sending->handle->text);
+    doorvervain_edits_end(&edits);
     if (err) bytes_free(&sending->handle->text);
     sending->handle->is_printing = false;
     if (!answer_failed(request, err)) fuse_reply_ioctl(request->req, 0, NULL, 0);

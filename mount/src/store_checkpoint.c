@@ -17,7 +17,7 @@ enum { PIECE = 1 << 18, PIECES_SYNCED = 64 };
 struct checkpoint_writer {
     struct checkpoint_file tree;
     struct doorvervain_printer printing;
-    struct frozen_snapshots snapshots;
+    struct snapshot_edits snapshots;
     struct snapshot_index index;
     uint64_t number, former_bytes;
     struct checkpoint_sum sum;
@@ -51,7 +51,7 @@ static int freeze(struct store *store, struct checkpoint_writer *writer) {
 static int take_and_freeze(struct store *store, struct checkpoint_writer *writer) {
     int err = store_has_too_many(store) ? EBUSY : wal_take_batches(store);
     if (!err) err = freeze(store, writer);
-    return err ? err : store_freeze_snapshots(store, &writer->snapshots);
+    return err ? err : store_begin_snapshots(store, &writer->snapshots);
 }
 
 // No image takes the place of one with its number: the snapshots beside it may be others.
@@ -109,12 +109,6 @@ int writeback_tick(struct checkpoint_file *file) {
     return file->store->ends ? ECANCELED : 0;
 }
 
-int store_print(struct checkpoint_file *file, struct doorvervain_printer *printing, uint8_t *out, size_t capacity,
-                size_t *size) {
-    int err = doorvervain_errno(doorvervain_print_next(printing, out, capacity, size));
-    return err ? err : writeback_tick(file);
-}
-
 int store_end_checkpoint_file(struct checkpoint_file *file, const char *sum, int err) {
     if (err) {
         image_drop(&file->image);
@@ -132,7 +126,8 @@ static int put_tree(struct checkpoint_writer *writer) {
     size_t size = 1;
     int err = 0;
     while (!err && size) {
-        err = store_print(&writer->tree, &writer->printing, piece, PIECE, &size);
+        err = doorvervain_errno(doorvervain_print_next(&writer->printing, piece, PIECE, &size));
+        if (!err) err = writeback_tick(&writer->tree);
         if (!err && size) err = store_put_bytes(&writer->tree, (const char *)piece, size);
     }
     doorvervain_print_end(&writer->printing);
@@ -194,7 +189,7 @@ int store_checkpoint(struct store *store, void (*meanwhile)(struct store *store)
     int err = begin(store, &writer);
     if (!err) err = put_image(&writer);
     doorvervain_print_end(&writer.printing);
-    store_thaw_snapshots(&writer.snapshots);
+    store_end_snapshots(&writer.snapshots);
     if (err) give_up(store, &writer, err);
     else succeed(store, &writer);
     return err;
@@ -205,10 +200,10 @@ int store_first_checkpoint(struct store *store) {
     writer.sum.salt = store->log.salt;
     requests_lock();
     int err = freeze(store, &writer);
-    if (!err) err = store_freeze_snapshots(store, &writer.snapshots);
+    if (!err) err = store_begin_snapshots(store, &writer.snapshots);
     requests_unlock();
     if (!err) err = put_image(&writer);
     doorvervain_print_end(&writer.printing);
-    store_thaw_snapshots(&writer.snapshots);
+    store_end_snapshots(&writer.snapshots);
     return err;
 }

@@ -48,9 +48,9 @@ struct snapshots {
 
 // The text of a snapshot in a file of them.
 struct snapshot_entry {
-    uint64_t number, over; // of the snapshot, and of the one that it is told of; 0: of the live tree
-    uint64_t from, length; // where the text stands
-    char text_sum[SHA256_DIGITS + 1], image_sum[SHA256_DIGITS + 1]; // of the text, and of the snapshot's image
+    uint64_t number, over;       // of the snapshot, and of the one that it is told of; 0: of the live tree
+    uint64_t from, length;       // where the text stands
+    char sum[SHA256_DIGITS + 1]; // of the text
 };
 
 struct snapshot_index {
@@ -260,9 +260,6 @@ struct checkpoint_file {
 
 int store_open_checkpoint_file(struct checkpoint_file *file, const char *kind, uint64_t number);
 int store_put_bytes(struct checkpoint_file *file, const char *bytes, size_t count);
-// The next bytes of an image, with no lock.
-int store_print(struct checkpoint_file *file, struct doorvervain_printer *printing, uint8_t *out, size_t capacity,
-                size_t *size);
 // Does what is due between two pieces: ECANCELED where the end of the mount has come.
 int writeback_tick(struct checkpoint_file *file);
 // Ends it with its fault: the file gets its name where there is none, with a file of these checksums beside it (null:
@@ -286,19 +283,18 @@ int store_find_snapshots(struct store *store);
 // Whether they are too many for an image: so the log goes on.
 bool store_has_too_many(const struct store *store);
 
-// Snapshots as they stood at one moment, from the last taken to the first, each with its tree and that which it is told
-// of: the live one, or that of the snapshot before it.
-struct frozen_snapshots {
+// Snapshots as they stood at one moment, from the last taken to the first, each with the edits to it from the tree that it
+// is told of: the live one, or that of the snapshot before it. Where the text is in the last file they are not begun.
+struct snapshot_edits {
     unsigned count;
     struct snapshot at[MAX_STORED_SNAPSHOTS];
-    struct doorvervain_frozen old[MAX_STORED_SNAPSHOTS], new[MAX_STORED_SNAPSHOTS];
+    struct doorvervain_edits edits[MAX_STORED_SNAPSHOTS];
 };
-// Under the request lock. They are to be thawed whatever is answered, with no lock.
-int store_freeze_snapshots(struct store *store, struct frozen_snapshots *out);
-void store_thaw_snapshots(struct frozen_snapshots *frozen);
-// Writes them into the file that belongs to an image, all of which was put; where there are none, no such file is left.
-// `sum` is its checksum.
-int store_put_snapshots(const struct checkpoint_file *tree, uint64_t number, struct frozen_snapshots *frozen,
+// Under the request lock. They are to be ended whatever is answered, with no lock.
+int store_begin_snapshots(struct store *store, struct snapshot_edits *out);
+void store_end_snapshots(struct snapshot_edits *snapshots);
+// Writes them into the file that belongs to an image; where there are none, no such file is left. `sum` is its checksum.
+int store_put_snapshots(const struct checkpoint_file *tree, uint64_t number, struct snapshot_edits *snapshots,
                         struct snapshot_index *out, char sum[SHA256_DIGITS + 1], uint64_t *size);
 // Makes those of the file that belongs to the image of a number, which the volume has. What failed is said. `size` is
 // that of the file.

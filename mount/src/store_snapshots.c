@@ -1,22 +1,23 @@
-// The snapshots of a store: which exist, how they are written beside a checkpoint, and how they are restored ("Delta"
-// in docs/FORMATS.md, at its end).
+// The snapshots of a store: which exist, how they are written beside a checkpoint, and how they are restored ("Deltas in
+// files" in docs/FORMATS.md).
 //
-// Validity: `snapshots.N` counts if its SHA-256 digest is that in `tree.N.sum`, and each delta applies to the tree before
-// it. Invariant: it is on the disk before `tree.N` gets its name.
-#include "delta_print.h"
-#include "delta_parse.h"
+// Validity: `snapshots.N` counts if its SHA-256 digest is that in `tree.N.sum`, and each delta fits the tree before it.
+// Invariant: it is on the disk before `tree.N` gets its name, and both trees of a text are taken before it is printed.
+#define _GNU_SOURCE
+#include "delta.h"
 #include "snapshots.h"
 #include "store_inside.h"
 #include "text.h"
 #include <errno.h>
 #include <fcntl.h>
+#include <pthread.h>
 #include <stdio.h>
 #include <string.h>
 #include <sys/mman.h>
 #include <sys/stat.h>
 #include <unistd.h>
 
-enum { PIECE = 1 << 18 };
+enum { PIECE = 1 << 18, NANOSECONDS = 1000000000, NANOSECONDS_BETWEEN_TICKS = 5000000 };
 
 static const char kind[] = "snapshots";
 
@@ -89,27 +90,38 @@ int store_find_snapshots(struct store *store) {
 
 // ---- their trees at one moment
 
-static int freeze(struct store *store, const char *name, struct doorvervain_frozen *out) {
-    return doorvervain_errno(doorvervain_open_snapshot(store->volume, name, strlen(name), out));
+// Snapshots do not change: so the text of one is in the last file, where it was told of the same one there.
+static const struct snapshot_entry *find_entry(const struct store *store, uint64_t number, uint64_t over) {
+    const struct snapshot_index *all = &store->snapshot_index;
+    for (unsigned i = 0; over && i < all->count; i++)
+        if (all->at[i].number == number && all->at[i].over == over) return &all->at[i];
+    return NULL;
 }
 
-int store_freeze_snapshots(struct store *store, struct frozen_snapshots *out) {
+static uint64_t over(const struct snapshot_edits *snapshots, unsigned index) {
+    return index ? snapshots->at[index - 1].number : 0;
+}
+
+static int begin_edits(const struct store *store, struct snapshot_edits *snapshots, unsigned index) {
+    const char *from = index ? snapshots->at[index - 1].name : "", *to = snapshots->at[index].name;
+    if (find_entry(store, snapshots->at[index].number, over(snapshots, index))) return 0;
+    return doorvervain_errno(
+        doorvervain_edits_begin(&snapshots->edits[index], store->volume, from, strlen(from), to, strlen(to)));
+}
+
+int store_begin_snapshots(struct store *store, struct snapshot_edits *out) {
     unsigned count = store->snapshots.count;
-    int err = count ? doorvervain_errno(doorvervain_freeze(store->volume, &out->old[0])) : 0;
+    int err = 0;
     for (unsigned i = 0; !err && i < count; i++) {
         out->at[i] = store->snapshots.at[count - 1 - i];
         out->count = i + 1;
-        err = freeze(store, out->at[i].name, &out->new[i]);
-        if (!err && i + 1 < count) err = freeze(store, out->at[i].name, &out->old[i + 1]);
+        err = begin_edits(store, out, i);
     }
     return err;
 }
 
-void store_thaw_snapshots(struct frozen_snapshots *frozen) {
-    for (unsigned i = 0; i < MAX_STORED_SNAPSHOTS; i++) {
-        doorvervain_frozen_close(&frozen->new[i]);
-        doorvervain_frozen_close(&frozen->old[i]);
-    }
+void store_end_snapshots(struct snapshot_edits *snapshots) {
+    for (unsigned i = 0; i < snapshots->count; i++) doorvervain_edits_end(&snapshots->edits[i]);
 }
 
 // ---- they are written
@@ -118,33 +130,56 @@ void store_thaw_snapshots(struct frozen_snapshots *frozen) {
 struct snapshot_writer {
     struct checkpoint_file file;
     struct snapshot_index *index;
-    struct sha256 text;          // of the one that is told
-    char sum[SHA256_DIGITS + 1]; // of the image of the tree that was told last
+    struct sha256 sum; // of the text that is written
 };
 
-static int next_piece(void *self, struct doorvervain_printer *image, uint8_t *out, size_t capacity, size_t *size) {
-    struct snapshot_writer *writer = self;
-    return store_print(&writer->file, image, out, capacity, size);
+static int put_text(struct snapshot_writer *writer, const char *bytes, size_t count) {
+    int err = sha256_add(&writer->sum, bytes, count);
+    if (!err) err = store_put_bytes(&writer->file, bytes, count);
+    return err ? err : writeback_tick(&writer->file);
 }
 
-static int put_text(void *self, const char *bytes, size_t count) {
-    struct snapshot_writer *writer = self;
-    int err = sha256_add(&writer->text, bytes, count);
-    return err ? err : store_put_bytes(&writer->file, bytes, count);
+// A text that is printed before the first of its bytes is wanted.
+struct printing {
+    struct doorvervain_edits *edits;
+    uint8_t number; // what the call returned
+};
+
+static void *print_text(void *self) {
+    struct printing *printing = self;
+    size_t size;
+    printing->number = doorvervain_edits_next(printing->edits, NULL, 0, &size);
+    return NULL;
 }
 
-static int put_difference(struct snapshot_writer *writer, struct doorvervain_frozen *old,
-                          struct doorvervain_frozen *new) {
-    struct delta_io io = {.next = next_piece, .put = put_text, .self = writer};
-    struct doorvervain_printer from = {NULL}, to = {NULL};
-    struct delta_sums sums;
-    memcpy(sums.old, writer->sum, sizeof sums.old);
-    int err = doorvervain_errno(doorvervain_print_begin(&from, old));
-    if (!err) err = doorvervain_errno(doorvervain_print_begin(&to, new));
-    if (!err) err = delta_print_images(&io, &from, &to, &sums);
-    if (!err) memcpy(writer->sum, sums.new, sizeof writer->sum);
-    doorvervain_print_end(&from);
-    doorvervain_print_end(&to);
+// Where there is no thread, nothing is done meanwhile.
+static int print_beside(struct snapshot_writer *writer, struct doorvervain_edits *edits) {
+    struct printing printing = {edits, DOORVERVAIN_DONE};
+    pthread_t thread;
+    int err = 0;
+    if (!writer->file.meanwhile || pthread_create(&thread, NULL, print_text, &printing)) return 0;
+    for (bool ends = false; !ends;) {
+        struct timespec until;
+        if (!err) err = writeback_tick(&writer->file);
+        clock_gettime(CLOCK_REALTIME, &until);
+        until.tv_nsec += NANOSECONDS_BETWEEN_TICKS;
+        until.tv_sec += until.tv_nsec / NANOSECONDS;
+        until.tv_nsec %= NANOSECONDS;
+        ends = !pthread_timedjoin_np(thread, NULL, &until);
+    }
+    return err ? err : doorvervain_errno(printing.number);
+}
+
+// The text is in memory until it is written.
+static int put_edits(struct snapshot_writer *writer, struct doorvervain_edits *edits) {
+    char piece[PIECE];
+    size_t size = 1;
+    int err = print_beside(writer, edits);
+    while (!err && size) {
+        err = doorvervain_errno(doorvervain_edits_next(edits, piece, PIECE, &size));
+        if (!err && size) err = put_text(writer, piece, size);
+    }
+    doorvervain_edits_end(edits);
     return err;
 }
 
@@ -156,8 +191,7 @@ static int copy_piece(struct snapshot_writer *writer, int file, uint64_t from, u
     while (got < 0 && errno == EINTR);
     if (got <= 0) return got ? errno : EIO;
     *size = (size_t)got;
-    int err = put_text(writer, piece, *size);
-    return err ? err : writeback_tick(&writer->file);
+    return put_text(writer, piece, *size);
 }
 
 static int copy_text(struct snapshot_writer *writer, const struct snapshot_entry *entry) {
@@ -172,52 +206,40 @@ static int copy_text(struct snapshot_writer *writer, const struct snapshot_entry
         done += size;
     }
     if (file >= 0) close(file);
-    memcpy(writer->sum, entry->image_sum, sizeof writer->sum);
     return err;
 }
 
-// Snapshots do not change: so the text of one stands in the last file, where it was told of the same one there.
-static const struct snapshot_entry *find_entry(const struct store *store, uint64_t number, uint64_t over) {
-    const struct snapshot_index *all = &store->snapshot_index;
-    for (unsigned i = 0; over && i < all->count; i++)
-        if (all->at[i].number == number && all->at[i].over == over) return &all->at[i];
-    return NULL;
-}
-
-static int put_body(struct snapshot_writer *writer, struct frozen_snapshots *frozen, unsigned index) {
+static int put_body(struct snapshot_writer *writer, struct doorvervain_edits *edits, struct snapshot_entry *entry) {
     struct store *store = writer->file.store;
-    struct snapshot_entry *entry = &writer->index->at[index];
     const struct snapshot_entry *before = find_entry(store, entry->number, entry->over);
-    int err = sha256_begin(&writer->text);
-    if (!err && before) err = copy_text(writer, before);
-    else if (!err) err = put_difference(writer, &frozen->old[index], &frozen->new[index]);
-    int other = sha256_end(&writer->text, entry->text_sum);
+    int err = sha256_begin(&writer->sum);
+    if (!err) err = before ? copy_text(writer, before) : put_edits(writer, edits);
+    int other = sha256_end(&writer->sum, entry->sum);
     if (!err) err = other;
-    if (!err && before && strcmp(before->text_sum, entry->text_sum)) err = EIO;
+    if (!err && before && strcmp(before->sum, entry->sum)) err = EIO;
     if (err && before) store->snapshot_index.count = 0; // What could not be copied is printed then.
     return err;
 }
 
-static int put_one(struct snapshot_writer *writer, struct frozen_snapshots *frozen, unsigned index) {
+static int put_one(struct snapshot_writer *writer, struct snapshot_edits *snapshots, unsigned index) {
     struct snapshot_entry *entry = &writer->index->at[index];
     struct bytes heading = {NULL};
-    int err = bytes_print(&heading, "snapshot %s\n", frozen->at[index].name);
+    int err = bytes_print(&heading, "snapshot %s\n", snapshots->at[index].name);
     if (!err) err = store_put_bytes(&writer->file, heading.at, heading.length);
     bytes_free(&heading);
     if (err) return err;
-    entry->number = frozen->at[index].number;
-    entry->over = index ? frozen->at[index - 1].number : 0;
+    entry->number = snapshots->at[index].number;
+    entry->over = over(snapshots, index);
     entry->from = writer->file.size;
-    err = put_body(writer, frozen, index);
+    err = put_body(writer, &snapshots->edits[index], entry);
     entry->length = writer->file.size - entry->from;
-    memcpy(entry->image_sum, writer->sum, sizeof entry->image_sum);
     writer->index->count = index + 1;
     return err;
 }
 
-static int put_all(struct snapshot_writer *writer, struct frozen_snapshots *frozen) {
+static int put_all(struct snapshot_writer *writer, struct snapshot_edits *snapshots) {
     int err = 0;
-    for (unsigned i = 0; !err && i < frozen->count; i++) err = put_one(writer, frozen, i);
+    for (unsigned i = 0; !err && i < snapshots->count; i++) err = put_one(writer, snapshots, i);
     return err;
 }
 
@@ -230,17 +252,16 @@ static void clear(const struct store *store, uint64_t number) {
     unlinkat(store->directory, name, 0);
 }
 
-int store_put_snapshots(const struct checkpoint_file *tree, uint64_t number, struct frozen_snapshots *frozen,
+int store_put_snapshots(const struct checkpoint_file *tree, uint64_t number, struct snapshot_edits *snapshots,
                         struct snapshot_index *out, char sum[SHA256_DIGITS + 1], uint64_t *size) {
     struct snapshot_writer writer = {.file = {.store = tree->store, .meanwhile = tree->meanwhile}, .index = out};
     clear(tree->store, number);
     *sum = 0;
-    if (!frozen->count) return 0;
+    if (!snapshots->count) return 0;
     out->file = number;
-    int err = image_sum(&tree->image, writer.sum);
-    if (!err) err = store_open_checkpoint_file(&writer.file, kind, number);
+    int err = store_open_checkpoint_file(&writer.file, kind, number);
     if (err) return err;
-    err = put_all(&writer, frozen);
+    err = put_all(&writer, snapshots);
     *size = writer.file.size;
     if (!err) err = image_sum(&writer.file.image, sum);
     return store_end_checkpoint_file(&writer.file, NULL, err);
@@ -253,7 +274,7 @@ struct snapshot_reader {
     struct store *store;
     const struct backend *backend;
     const char *at, *end;
-    char name[LONGEST_SNAPSHOT + 1], sum[SHA256_DIGITS + 1];
+    char name[LONGEST_SNAPSHOT + 1];
     struct bytes text; // in the file
     const char *why;   // it was refused; null: the fault tells
 };
@@ -298,38 +319,27 @@ static int call_snapshot(struct snapshot_reader *reader, enum snapshot_call what
 }
 
 static int apply(struct snapshot_reader *reader) {
-    struct delta delta;
-    int err = delta_parse(&delta, reader->backend->tree, &reader->text);
-    if (err == ENOENT) err = refuse(reader, "its text is the difference of another tree");
-    if (!err) err = delta_run(&delta, reader->backend);
-    memcpy(reader->sum, delta.sum, sizeof delta.sum);
-    delta_free(&delta);
+    uint64_t line = 0;
+    int err = delta_apply(reader->backend, &reader->text, &line);
+    if (err == ENOENT) return refuse(reader, "its text is the difference of another tree");
+    if (err == EINVAL) return refuse(reader, line ? "its text is no difference" : "what its text makes is no tree");
     return err;
 }
 
 // The live tree becomes that of the next snapshot.
 static int make_next(struct snapshot_reader *reader) {
-    uint64_t line = 0;
     text_copy(reader->name, sizeof reader->name, "?");
     if (!read_heading(reader) || !read_text(reader)) return refuse(reader, "its text is cut off, or none");
-    int err = delta_find_bad_line(&reader->text, &line);
-    if (line) err = refuse(reader, "its text is no difference");
-    if (!err) err = apply(reader);
+    int err = apply(reader);
     if (!err) err = call_snapshot(reader, TAKE_SNAPSHOT, reader->name);
     if (!err) add(reader->store, &reader->store->snapshots, reader->name);
     return err;
 }
 
-static int try_last(struct snapshot_reader *reader) {
-    int err = delta_check_sum(reader->backend->tree, reader->sum);
-    return err == EINVAL ? refuse(reader, "its tree has another checksum") : err;
-}
-
-// The image of each tree is held against the checksum in the next text, and that of the last by itself.
 static int make_each(struct snapshot_reader *reader) {
     int err = 0;
     while (!err && reader->at < reader->end) err = make_next(reader);
-    return err ? err : try_last(reader);
+    return err;
 }
 
 static int make_all(struct snapshot_reader *reader) {

@@ -9,10 +9,4 @@ void text_copy(char *out, size_t capacity, const char *text);
 int text_escape(struct bytes *out, const char *path);
 // `-` stands for no bytes.
 int text_hex(struct bytes *out, const char *bytes, size_t count);
-// Percent form read back.
-int text_unescape(struct bytes *out, const char *text, size_t length);
-// What one hexadecimal digit says, or -1 where it is none.
-int text_digit(char digit);
-// Hexadecimal digits read back into so much room: how many bytes they are, or -1 where they are none or too many.
-long text_read_hex(const char *digits, size_t length, char *out, size_t capacity);
 #endif

@@ -72,6 +72,12 @@ int wal_encode_copy_range(struct bytes *out, const struct copy_range *range, uin
     return put(out, number, &size);
 }
 
+int wal_encode_edits(struct bytes *out, const struct bytes *text) {
+    size_t size = 0;
+    if (reserve(out, text->length)) return ENOMEM;
+    return put(out, doorvervain_wal_edits(text->at, text->length, end_of(out), ENTRY + text->length, &size), &size);
+}
+
 int wal_encode_snapshot(struct bytes *out, enum snapshot_call what, const char *snapshot) {
     static uint8_t (*const calls[])(const char *, size_t, void *, size_t, size_t *) = {
         [TAKE_SNAPSHOT] = doorvervain_wal_snapshot,

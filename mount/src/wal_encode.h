@@ -12,6 +12,7 @@ int wal_encode_write(struct bytes *out, const char *path, uint64_t offset, const
                      uint64_t at);
 int wal_encode_punch(struct bytes *out, const char *path, uint64_t offset, uint64_t count, uint64_t at);
 int wal_encode_copy_range(struct bytes *out, const struct copy_range *range, uint64_t at);
+int wal_encode_edits(struct bytes *out, const struct bytes *text);
 int wal_encode_snapshot(struct bytes *out, enum snapshot_call what, const char *snapshot);
 
 // The random bytes of a log, which the digest of each of its records includes: so no record of another log, and no

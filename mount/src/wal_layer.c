@@ -91,3 +91,13 @@ int wal_layer_copy_range(void *self, const struct copy_range *range, uint64_t at
     if (err) *copied = 0;
     return err;
 }
+
+int wal_layer_apply_edits(void *self, const struct bytes *text, uint64_t *line) {
+    struct wal_layer *layer = self;
+    struct layer_call call;
+    if (!begin(layer, &call)) return 0;
+    if (!call.err) call.err = wal_encode_edits(call.calls, text);
+    if (!call.err) call.err = noted(layer);
+    if (!call.err) call.err = layer->inner.ops->apply_edits(layer->inner.self, text, line);
+    return end(layer, &call);
+}

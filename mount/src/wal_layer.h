@@ -24,4 +24,5 @@ int wal_layer_write(void *self, const char *path, uint64_t offset, const char *b
                     size_t *done);
 int wal_layer_punch(void *self, const char *path, uint64_t offset, uint64_t count, uint64_t at);
 int wal_layer_copy_range(void *self, const struct copy_range *range, uint64_t at, uint64_t *copied);
+int wal_layer_apply_edits(void *self, const struct bytes *text, uint64_t *line);
 #endif
