@@ -1,5 +1,6 @@
 pub mod Compiled
 pub mod Files
+pub mod Listed
 pub mod Measured
 pub mod Punched
 pub mod Copied

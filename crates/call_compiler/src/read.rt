@@ -1,13 +1,14 @@
 //! Calls that only read: `read`, `stat` and `readdir`. They send no messages.
-ghost use Rattle.std.specs.Prelude.{◌≡◌, ℕ, IfOk};
+ghost use Rattle.std.specs.Prelude.{◌≡◌, [], ℕ, IfOk};
 ghost use Rattle.call_compiler.specs.Compiled.{IsCompiled, messages, stat_at};
+ghost use Rattle.call_compiler.specs.Listed.{TellsEntries};
 ghost use Rattle.meta_index.specs.Means.{lookup_answer};
 ghost use Rattle.reference.specs.Tree as trees;
 
 use crate::batch::{Batch, refused, without_messages};
 use crate::files::find_file;
 use crate::indexes::Indexes;
-use meta_index::{At, Kind, Meta};
+use meta_index::{At, EntrySink, Kind, Meta};
 use pathkey::{Errno, NoMemory, Path};
 use reference::{Call, FileBytes, GREATEST_READ, Listing, Reply};
 use std::alloc::Global;
@@ -58,11 +59,30 @@ fn reply_of(at: At) -> Reply
 pub fn readdir(alloc: Global, indexes: &Indexes, path: &Path) -> Result<(Reply, Batch), NoMemory>
     ensures { (at : ℕ) → IfOk result (λ c. IsCompiled indexes.now (Call.Readdir path.now) at c.0 (messages c.1)) }
 {
+    let mut entries = Vec::new(alloc);
+    match list(alloc, indexes, path, &mut entries)? {
+        Ok(()) => Ok(without_messages(alloc, Reply::Names(Listing::from_vec(entries)))),
+        Err(fault) => Ok(refused(alloc, fault)),
+    }
+}
+
+/// Passes the entries of the directory at the path to the sink, in byte order of names; or returns why there is no directory
+/// (readdir). If it fails, the sink may have some of the entries.
+pub fn list<S: EntrySink>(
+    alloc: Global,
+    indexes: &Indexes,
+    path: &Path,
+    sink: &mut S,
+) -> Result<Result<(), Errno>, NoMemory>
+    ensures { S.has sink.old [] → IfOk result (TellsEntries indexes.now path.now (S.has sink.new)) }
+{
     let at = indexes.meta.find(alloc, path)?;
     if let Some(fault) = at.fault_of_directory() {
-        return Ok(refused(alloc, fault));
+        return Ok(Err(fault));
     }
-    let entries = indexes.meta.children(alloc, path)?;
-    let names = Listing::from_vec(entries);
-    Ok(without_messages(alloc, Reply::Names(names)))
+    let (mut walks, mut pairs) = (0, 0);
+    indexes
+        .meta
+        .list(alloc, path, sink, &mut walks, &mut pairs)?;
+    Ok(Ok(()))
 }

@@ -2,6 +2,7 @@
 pub mod Asking
 pub mod Fronts
 pub mod Laying
+pub mod Looking
 pub mod OfFiles
 pub mod Punching
 pub mod CopyTexts

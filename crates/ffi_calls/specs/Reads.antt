@@ -1,8 +1,13 @@
 -- Calls, given as texts, that only read, and what they write into a buffer.
-use Rattle.std.specs.Prelude.{◌≡◌, ℕ, ◌≤◌, List, [], ◌∷◌, ◌++◌, length, take, drop, flat_map, nat_le, if◌then◌else◌, Result, Ok, Err, MatchResult}
+use Rattle.std.specs.Prelude.{◌≡◌, ◌⊎◌, ℕ, ◌≤◌, List, [], ◌∷◌, ◌++◌, length, take, drop, flat_map, nat_le, if◌then◌else◌, Result, Ok, Err, MatchResult}
+use Rattle.call_compiler.specs.Compiled.{MeanTree}
+use Rattle.call_compiler.specs.declared.indexes.Indexes.{Indexes}
 use Rattle.volume.specs.declared.fs_root.FsRoot.{FsRoot}
 use Rattle.pathkey.specs.Names.{Name, Path}
 use Rattle.pathkey.specs.declared.errno.Errno.{Errno}
+use Rattle.pathkey.specs.declared.errno.Errno.TheVariants.{ENOMEM}
+use Rattle.reference.specs.Calls.{does}
+use Rattle.reference.specs.declared.call.Call.{Call}
 use Rattle.reference.specs.declared.call.Call.TheVariants.{Readdir}
 use Rattle.reference.specs.declared.reply.Kind.{Kind}
 use Rattle.reference.specs.declared.reply.Kind.TheVariants.{Dir as Directory, File as Plain}
@@ -10,9 +15,8 @@ use Rattle.reference.specs.declared.reply.Meta.{Meta}
 use Rattle.reference.specs.declared.reply.Meta.TheVariants.{Dir, File as FileMeta}
 use Rattle.reference.specs.declared.reply.Reply.{Reply}
 use Rattle.reference.specs.declared.reply.Reply.TheVariants.{Data, Stat, Names, Fault}
-use Rattle.reference.specs.Tree.{Tree, Found, File, entry_at}
+use Rattle.reference.specs.Tree.{Tree}
 use Rattle.volume.specs.HistoryOf.{Tells}
-use Rattle.volume.specs.Volumes.{MeanRooted}
 
 -- a text that is not a path fails; otherwise this holds of the path
 abbrev pub OnPath : {A : Type 0} → Result Path Errno → Result A Errno → (Path → Type 0) → Type 0
@@ -35,9 +39,9 @@ abbrev pub read_reply : Result ℕ Errno → List ℕ → Reply
 read_reply (Ok n) out = Data (take n out)
 read_reply (Err e) out = Fault e
 
--- in each tree of the indexes there is a file of so many bytes at the path
-abbrev pub IsLong : Path → FsRoot → ℕ → Type 0
-IsLong p i len = (t : Tree) → MeanRooted i t → (date : ℕ) × (b : List ℕ) × (entry_at t p ≡ Found (File date b)) × (length b ≡ len)
+-- the reply of a call that reads is that of the table of calls for each tree of the indexes, whatever the timestamp, or ENOMEM
+abbrev pub TellsIn : Call → Reply → Indexes → Type 0
+TellsIn c r i = (t : Tree) (at : ℕ) → MeanTree i t → (r ≡ (does at t c).1) ⊎ (r ≡ Fault ENOMEM)
 
 -- ---- the entry at a path
 
@@ -66,14 +70,22 @@ listing_bytes es = flat_map entry_bytes es
 abbrev pub copied : List ℕ → List ℕ → List ℕ
 copied bytes out = if nat_le (length bytes) (length out) then bytes ++ drop (length bytes) out else out
 
--- the entries of the tree at the path, and the length of their listing, which is in the buffer if it fits
-pub record ListsAll (p : Path) (i : FsRoot) (n : ℕ) (old new : List ℕ) : Type 0 where
+-- a reply with these entries, and the length of their listing, which is in the buffer if it fits
+pub record ListsAll (Told : Reply → Type 0) (n : ℕ) (old new : List ℕ) : Type 0 where
   pub entries : List (Kind × Name)
-  pub tells : Tells (Readdir p) (Names entries) i
+  pub tells : Told (Names entries)
   pub size : n ≡ length (listing_bytes entries)
   pub buffer : new ≡ copied (listing_bytes entries) old
 
 -- the same, or it failed, and the buffer is unchanged
+abbrev pub ListsIf : (Reply → Type 0) → Result ℕ Errno → List ℕ → List ℕ → Type 0
+ListsIf Told (Ok n) old new = ListsAll Told n old new
+ListsIf Told (Err e) old new = Told (Fault e) × (new ≡ old)
+
+-- the listing of a directory of the tree
 abbrev pub Lists : Path → FsRoot → Result ℕ Errno → List ℕ → List ℕ → Type 0
-Lists p i (Ok n) old new = ListsAll p i n old new
-Lists p i (Err e) old new = Tells (Readdir p) (Fault e) i × (new ≡ old)
+Lists p i = ListsIf (λ r. Tells (Readdir p) r i)
+
+-- and of the tree to which the indexes abstract
+abbrev pub ListsIn : Path → Indexes → Result ℕ Errno → List ℕ → List ℕ → Type 0
+ListsIn p i = ListsIf (λ r. TellsIn (Readdir p) r i)

@@ -1,14 +1,20 @@
 //! Calls that only read, either the live tree of a volume or a frozen tree. A listing is written only if the whole of
 //! it fits into the buffer; its length is returned in either case.
-ghost use Rattle.std.specs.Prelude.{◌≡◌, ◌≢◌, ◌≤◌, ◌^◌, ◌++◌, [], ℕ, drop, length, IfErr, IfOk, MatchResult};
+ghost use Rattle.std.specs.Prelude.{◌≡◌, ◌≤◌, ◌++◌, [], drop, length, IfErr};
+ghost use Rattle.call_compiler.specs.Compiled.{stat_at as stat_of};
+ghost use Rattle.meta_index.specs.Means.{lookup_answer};
 ghost use Rattle.pathkey.specs.Texts.{parsed};
-ghost use Rattle.reference.specs.Pairs.{pairs_of};
+ghost use Rattle.reference.specs.Tree as trees;
 ghost use Rattle.volume.specs.HistoryOf.{Tells};
-ghost use Rattle.ffi_calls.specs.Reads.{Fills, IsLong, Lists, OnPath, copied, letter_of, listing_bytes, read_reply, stat_reply};
+ghost use Rattle.ffi_calls.specs.Reads.{Fills, Lists, ListsIn, OnPath, TellsIn, copied, letter_of, listing_bytes, read_reply, stat_reply};
 
 use crate::read_into::{blocks_between, copy_blocks};
+use call_compiler::Indexes;
+use call_compiler::file_length::file_length;
+use call_compiler::read::list;
+use meta_index::{At, EntrySink};
 use pathkey::{Errno, NoMemory, Path};
-use reference::{Call, GREATEST_READ, Kind, Meta, Reply};
+use reference::{Call, GREATEST_READ, Kind, Meta};
 use std::alloc::Global;
 use volume::{Frozen, Volume};
 
@@ -25,8 +31,7 @@ pub fn read(
     ensures buffer { Fills result out.old out.new }
 {
     let path = Path::parse(alloc, path)?;
-    let tree = volume.freeze()?;
-    read_at(alloc, &tree, &path, offset, out)
+    read_at(alloc, volume.indexes(), &path, offset, out)
 }
 
 /// Reads a file of a frozen tree, as `read` does for the live tree.
@@ -41,7 +46,7 @@ pub fn frozen_read(
     ensures buffer { Fills result out.old out.new }
 {
     let path = Path::parse(alloc, path)?;
-    read_at(alloc, tree, &path, offset, out)
+    read_at(alloc, tree.indexes(), &path, offset, out)
 }
 
 /// Returns the attributes of the file or directory at a path of the live tree.
@@ -49,8 +54,7 @@ pub fn stat(alloc: Global, volume: &Volume, path: &[u8]) -> Result<Meta, Errno>
     ensures { OnPath (parsed path.now) result (λ p. Tells (Call.Stat p) (stat_reply result) volume.now.live) }
 {
     let path = Path::parse(alloc, path)?;
-    let tree = volume.freeze()?;
-    stat_at(alloc, &tree, &path)
+    stat_at(alloc, volume.indexes(), &path)
 }
 
 /// Returns the attributes of the file or directory at a path of a frozen tree.
@@ -58,7 +62,7 @@ pub fn frozen_stat(alloc: Global, tree: &Frozen, path: &[u8]) -> Result<Meta, Er
     ensures { OnPath (parsed path.now) result (λ p. Tells (Call.Stat p) (stat_reply result) tree.now) }
 {
     let path = Path::parse(alloc, path)?;
-    stat_at(alloc, tree, &path)
+    stat_at(alloc, tree.indexes(), &path)
 }
 
 /// Lists a directory of the live tree: for each entry the letter `d` or `f`, its name and a zero byte, in byte order of
@@ -69,8 +73,7 @@ pub fn readdir(alloc: Global, volume: &Volume, path: &[u8], out: &mut [u8]) -> R
     ensures refused { IfErr result (λ _. out.new ≡ out.old) }
 {
     let path = Path::parse(alloc, path)?;
-    let tree = volume.freeze()?;
-    readdir_at(alloc, &tree, &path, out)
+    readdir_at(alloc, volume.indexes(), &path, out)
 }
 
 /// Lists a directory of a frozen tree, as `readdir` does for the live tree.
@@ -84,22 +87,21 @@ pub fn frozen_readdir(
     ensures refused { IfErr result (λ _. out.new ≡ out.old) }
 {
     let path = Path::parse(alloc, path)?;
-    readdir_at(alloc, tree, &path, out)
+    readdir_at(alloc, tree.indexes(), &path, out)
 }
 
 // Reads the file at a path directly from its blocks. All of them are found first, so an error leaves the buffer unchanged.
 fn read_at(
     alloc: Global,
-    tree: &Frozen,
+    indexes: &Indexes,
     path: &Path,
     offset: u64,
     out: &mut [u8],
 ) -> Result<usize, Errno>
-    ensures reply { Tells (Call.Read path.now offset (length out.old)) (read_reply result out.new) tree.now }
+    ensures reply { TellsIn (Call.Read path.now offset (length out.old)) (read_reply result out.new) indexes.now }
     ensures buffer { Fills result out.old out.new }
 {
-    tree.assert_invariant();
-    let len = length_at(alloc, tree, path)?;
+    let len = file_length(alloc, indexes, path)??;
     let count = out.len() as u64;
     if count > GREATEST_READ {
         return Err(Errno::EINVAL);
@@ -109,42 +111,37 @@ fn read_at(
     if end <= offset {
         return Ok(0);
     }
-    let blocks = blocks_between(alloc, &tree.indexes().block, path, offset, end)?;
+    let blocks = blocks_between(alloc, &indexes.block, path, offset, end)?;
     copy_blocks(blocks.as_slice(), offset, end, out);
     Ok((end - offset) as usize)
 }
 
-// The length of the file at a path, or the error of a read there.
-fn length_at(alloc: Global, tree: &Frozen, path: &Path) -> Result<u64, Errno>
-    ensures reported { MatchResult result (IsLong path.now tree.now) (λ e. (off n : ℕ) → Tells (Call.Read path.now off n) (Reply.Fault e) tree.now) }
-    ensures file { IfOk result (λ _. path.now ≢ []) }
-    ensures short { IfOk result (λ len. len ≤ 2 ^ 40) }
+// Returns the attributes of the file or directory at a path.
+fn stat_at(alloc: Global, indexes: &Indexes, path: &Path) -> Result<Meta, Errno>
+    ensures { TellsIn (Call.Stat path.now) (stat_reply result) indexes.now }
 {
-    tree.assert_invariant();
-    match stat_at(alloc, tree, path)? {
-        Meta::Dir { .. } => Err(Errno::EISDIR),
-        Meta::File { len, .. } => Ok(len),
-    }
+    let at = indexes.meta.find(alloc, path)?;
+    meta_at(at)
 }
 
-// Returns the attributes of the file or directory at a path.
-fn stat_at(alloc: Global, tree: &Frozen, path: &Path) -> Result<Meta, Errno>
-    ensures { Tells (Call.Stat path.now) (stat_reply result) tree.now }
+// The attributes that a look-up found, or why there are none.
+fn meta_at(at: At) -> Result<Meta, Errno>
+    ensures { (here : trees.At) → at ≡ lookup_answer here → stat_reply result ≡ stat_of here }
 {
-    tree.assert_invariant();
-    match tree.try_stat(alloc, path)? {
-        (Kind::Dir, _, modified) => Ok(Meta::Dir { modified }),
-        (Kind::File, len, modified) => Ok(Meta::File { len, modified }),
+    match at {
+        At::Found(meta) => Ok(meta),
+        At::Missing => Err(Errno::ENOENT),
+        At::Blocked => Err(Errno::ENOTDIR),
     }
 }
 
 // Lists the directory at a path.
-fn readdir_at(alloc: Global, tree: &Frozen, path: &Path, out: &mut [u8]) -> Result<usize, Errno>
-    ensures { Lists path.now tree.now result out.old out.new }
+fn readdir_at(alloc: Global, indexes: &Indexes, path: &Path, out: &mut [u8]) -> Result<usize, Errno>
+    ensures { ListsIn path.now indexes.now result out.old out.new }
 {
-    let entries = tree.try_readdir(alloc, path)?;
-    let text = listing_bytes(alloc, entries.as_slice())?;
-    Ok(copy_if_fits(text.as_slice(), out))
+    let mut listing = ListingText::new(alloc);
+    list(alloc, indexes, path, &mut listing)??;
+    Ok(copy_if_fits(listing.text.as_slice(), out))
 }
 
 // Copies bytes to the start of a buffer, if it is large enough for all of them. Returns their number.
@@ -166,17 +163,33 @@ fn lay(bytes: &[u8], out: &mut [u8])
     out[..bytes.len()].copy_from_slice(bytes);
 }
 
-// The listing of entries as bytes.
-fn listing_bytes(alloc: Global, entries: &[(Kind, Vec<u8>)]) -> Result<Vec<u8>, NoMemory>
-    ensures { IfOk result (λ text. text.items ≡ listing_bytes (pairs_of entries.now)) }
-{
-    let mut text = Vec::new(alloc);
-    for (kind, name) in entries {
-        text.push(letter_of(*kind))?;
-        text.extend_from_slice(name.as_slice())?;
-        text.push(0)?;
+// The text of a listing.
+#[derive(Drop)]
+struct ListingText {
+    text: Vec<u8>,
+}
+
+impl ListingText {
+    // The text of no entries.
+    fn new(alloc: Global) -> ListingText
+        ensures { result.text.items ≡ [] }
+    {
+        let text = Vec::new(alloc);
+        ListingText { text }
     }
-    Ok(text)
+}
+
+impl EntrySink for ListingText {
+    ghost has = { λ l es. l.text.items ≡ listing_bytes es };
+
+    ghost size = { λ l. length l.text.items };
+
+    fn receive(&mut self, alloc: Global, kind: Kind, name: &[u8]) -> Result<(), NoMemory> {
+        self.text.push(letter_of(kind))?;
+        self.text.extend_from_slice(name)?;
+        self.text.push(0)?;
+        Ok(())
+    }
 }
 
 // The letter of a kind.

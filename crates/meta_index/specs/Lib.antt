@@ -2,3 +2,4 @@ pub mod Updates
 pub mod Means
 pub mod Below
 pub mod Asked
+pub mod Listing

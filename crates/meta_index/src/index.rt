@@ -5,18 +5,22 @@
 ghost use Rattle.std.specs.Prelude.{◌≡◌, ◌+◌, ◌*◌, ◌<◌, ◌≤◌, ◌∷◌, ◌++◌, ℕ, List, [], IfOk, OnOk, IsTrue, None, length, not, true};
 ghost use Rattle.std.specs.Result.{result_err};
 ghost use Rattle.meta_index.specs.Asked.{AsksFor, IsFrugal};
+ghost use Rattle.meta_index.specs.Listing.{IsListing};
 ghost use Rattle.meta_index.specs.Below.{HasPair};
 ghost use Rattle.meta_index.specs.Means.{IsMeantBy, found_meta, metadata, moment_in, moment_reported, lookup_answer};
 ghost use Rattle.node.specs.Shapes.{is_shape};
 ghost use Rattle.pathkey.specs.Keys.{enc, next_key, subtree};
+ghost use Rattle.pathkey.specs.Names.{Name};
 ghost use Rattle.reference.specs.Calls.{is_found, is_full, names_of, parent, parent_fault};
 ghost use Rattle.reference.specs.Reads.{look};
 ghost use Rattle.reference.specs.Pairs.{pairs_of};
 ghost use Rattle.reference.specs.Tree.{Dir, Tree as DirectoryTree, entry_at, nothing};
+ghost use Rattle.reference.specs.declared.reply.Kind.{Kind as EntryKind};
 ghost use Rattle.scan.specs.Pairs.{AreFrom, IsGiven, IsScan};
 
 use crate::at::At;
 use crate::entries::{end_below, keys_below, kind_of, name_behind};
+use crate::entry_sink::EntrySink;
 use crate::likely::{given_in_root, last_of_leaf};
 use crate::update::MetaUpdate;
 use lookup::get;
@@ -254,17 +258,32 @@ impl MetaIndex {
         ensures each { OnOk result (pairs.new ≤ 256 * walks.new) }
     {
         let mut entries = Vec::new(alloc);
+        self.list(alloc, path, &mut entries, walks, pairs)?;
+        Ok(entries)
+    }
+
+    /// Passes the entries of the directory at the path to the sink, in byte order of names. It stores in `walks` and `pairs` what
+    /// `children_measured` stores there. If an allocation fails, the sink may have some of the entries.
+    pub fn list<S: EntrySink>(
+        &self,
+        alloc: Global,
+        path: &Path,
+        sink: &mut S,
+        walks: &mut u64,
+        pairs: &mut u64,
+    ) -> Result<(), NoMemory>
+        ensures { S.has sink.old [] → OnOk result ((es : List (EntryKind × Name)) × S.has sink.new es × IsListing self.now path.now es walks.new pairs.new) }
+    {
         let mut rest = keys_below(alloc, path)?;
         let mut pieces = Readahead::new(alloc);
         let mut next = pieces.first(alloc, &self.tree, &rest)?;
         'entries: while let Some((key, meta)) = next {
-            let name = Vec::from_slice(alloc, name_behind(path.key(), &key))?;
-            entries.push((kind_of(meta), name))?;
+            sink.receive(alloc, kind_of(meta), name_behind(path.key(), &key))?;
             next = self.first_past(alloc, &key, &mut rest, &mut pieces)?;
         }
         *walks = pieces.walks;
         *pairs = pieces.asked;
-        Ok(entries)
+        Ok(())
     }
 
     /// The first pair of the range after everything at or below the path with this key.

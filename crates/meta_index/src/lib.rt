@@ -8,11 +8,13 @@
 
 pub mod at;
 mod entries;
+pub mod entry_sink;
 pub mod index;
 mod likely;
 pub mod update;
 
 pub use at::At;
+pub use entry_sink::EntrySink;
 pub use index::MetaIndex;
 pub use reference::{Kind, Meta};
 pub use update::MetaUpdate;
