@@ -716,9 +716,10 @@ static inline void doorvervain_list_end(struct doorvervain_list *list) {
     list->ptr = NULL;
 }
 
-// Makes room in a list for a listing of `size` bytes.
+// Replaces the memory of a list by room for a listing of `size` bytes.
 static inline uint8_t doorvervain_list_room(struct doorvervain_list *list, size_t size) {
-    list->ptr = malloc(size ? size : 1);
+    free(list->ptr);
+    list->ptr = malloc(size);
     list->size = list->ptr ? size : 0;
     return list->ptr ? DOORVERVAIN_DONE : DOORVERVAIN_ENOMEM;
 }
@@ -730,10 +731,13 @@ static inline uint8_t doorvervain_list_begin(
     if (!list) return DOORVERVAIN_NULL;
     list->ptr = NULL;
     list->size = list->next = 0;
-    size_t size;
-    uint8_t err = doorvervain_readdir(fs, path, length, NULL, 0, &size);
-    if (!err) err = doorvervain_list_room(list, size);
-    if (!err) err = doorvervain_readdir(fs, path, length, list->ptr, list->size, &size);
+    size_t size = 4096;
+    uint8_t err;
+    do {
+        err = doorvervain_list_room(list, size);
+        if (!err) err = doorvervain_readdir(fs, path, length, list->ptr, list->size, &size);
+    } while (err == DOORVERVAIN_ERANGE);
+    list->size = size;
     if (err) doorvervain_list_end(list);
     return err;
 }
@@ -744,10 +748,13 @@ static inline uint8_t doorvervain_frozen_list_begin(
     if (!list) return DOORVERVAIN_NULL;
     list->ptr = NULL;
     list->size = list->next = 0;
-    size_t size;
-    uint8_t err = doorvervain_frozen_readdir(tree, path, length, NULL, 0, &size);
-    if (!err) err = doorvervain_list_room(list, size);
-    if (!err) err = doorvervain_frozen_readdir(tree, path, length, list->ptr, list->size, &size);
+    size_t size = 4096;
+    uint8_t err;
+    do {
+        err = doorvervain_list_room(list, size);
+        if (!err) err = doorvervain_frozen_readdir(tree, path, length, list->ptr, list->size, &size);
+    } while (err == DOORVERVAIN_ERANGE);
+    list->size = size;
     if (err) doorvervain_list_end(list);
     return err;
 }

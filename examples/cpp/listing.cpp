@@ -49,6 +49,15 @@ static void print(struct doorvervain_list *list) {
     std::cout << "then " << doorvervain_strerror(number) << ", and the entry is " << (entry.name ? "left" : "empty") << "\n";
 }
 
+// The entries of a list, and the bytes of their names.
+static void count(struct doorvervain_list *list) {
+    struct doorvervain_entry entry;
+    size_t entries = 0, bytes = 0;
+    for (; !doorvervain_list_next(list, &entry); entries++) bytes += entry.length;
+    std::cout << entries << " entries with " << bytes << " bytes of names\n";
+    doorvervain_list_end(list);
+}
+
 int main() {
     Volume volume;
     const std::string_view directory = "/docs";
@@ -78,6 +87,15 @@ int main() {
     doorvervain_list_end(&live);
     doorvervain_list_end(&frozen);
     doorvervain_list_end(&empty);
+    doorvervain_frozen_close(&tree);
+
+    // More than a list has room for at first.
+    for (int i = 1000; i < 3000; i++) volume.create("/docs/old/" + std::to_string(i));
+    check(doorvervain_freeze(volume.get(), &tree));
+    check(doorvervain_list_begin(&live, volume.get(), "/docs/old", 9));
+    check(doorvervain_frozen_list_begin(&frozen, &tree, "/docs/old", 9));
+    count(&live);
+    count(&frozen);
     doorvervain_frozen_close(&tree);
 
     // Three pieces and a part of one more, each byte by its place.
