@@ -168,6 +168,7 @@ def by_hand():
     image = volume.image()
     yield "edits applied twice", applied(volume, lines), (ENOENT, 2, image)
     yield "edits with a bad line", applied(volume, b"delta 2\n! F /e 0 9 0 8\n?\n"), (EINVAL, 3, image)
+    yield "edits with a line that does not fit before a bad one", applied(volume, b"delta 2\n- D /d 1\n?\n"), (ENOENT, 2, image)
     yield "edits with a line that does not fit", applied(volume, b"delta 2\n! F /e 0 9 0 8\n- D /d 1\nend\n"), (ENOENT, 3, image)
     yield "edits by which snapshots stay", (applied(volume, b"delta 2\n- F /e 0 9\nend\n")[0], volume.told("snapshot_name", 0)), (0, b"s")
 
