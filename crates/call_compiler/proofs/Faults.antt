@@ -5,11 +5,12 @@ use Rattle.pathkey.specs.Names.{Path}
 use Rattle.pathkey.specs.declared.errno.Errno.{Errno}
 use Rattle.pathkey.specs.declared.errno.Errno.TheVariants.{EEXIST, EISDIR, EPERM, EINVAL, ENAMETOOLONG, EFBIG}
 use Rattle.reference.specs.Tree.{Tree, Dir, File, nothing, At, Found, entry_at, with_entry, without, over, sized}
-use Rattle.reference.specs.Calls.{Outcome, when, is_found, parent_fault, first_fault, unless, is_empty, bytes_of, greatest_file, greatest_read, faults_of_new, faults_of_file, faults_of_write, faults_of_truncate, faults_of_unlink, faults_of_rmdir, faults_of_rmtree, faults_of_read, same_path, text_len, deepest_at, placed, faults_of_rename_from, faults_of_place, faults_of_rename, parent, once, renamed, all_touching, changed, does}
+use Rattle.reference.specs.Calls.{Outcome, when, is_found, parent_fault, first_fault, unless, is_empty, bytes_of, greatest_file, greatest_read, faults_of_new, faults_of_file, faults_of_write, faults_of_truncate, faults_of_unlink, faults_of_rmdir, faults_of_rmtree, faults_of_read, same_path, placed, faults_of_rename_from, faults_of_place, faults_of_rename, parent, once, renamed, all_touching, changed, does}
 use Rattle.reference.specs.declared.call.Call.TheVariants.{Mkdir, Create, Write, Truncate, Unlink, Rmdir, Rename, Rmtree, Read}
 use Rattle.reference.specs.declared.reply.Reply.TheVariants.{Done, Count, Data, Fault}
 use Rattle.reference.proofs.Faults.{unless_fault, unless_none}
 use Rattle.reference.proofs.Touching.{reply_is}
+use Rattle.call_compiler.specs.Moves.{gets_too_long}
 
 -- ---- lists of faults
 
@@ -166,10 +167,6 @@ module _ (at : ℕ) (t : Tree) (p : Path) (off n : ℕ) (date : ℕ) (b : List �
 -- ---- `rename`
 
 module _ (at : ℕ) (t : Tree) (o n : Path) where
-  -- a text becomes too long
-  abbrev pub too_long : Bool
-  too_long = nat_lt 1023 (text_len n + deepest_at (entry_at t o))
-
   -- the outcome of a rename between two paths
   abbrev to_new : Outcome
   to_new = unless t (faults_of_rename t o n) (placed (without t o) n (entry_at t o), Done)
@@ -201,15 +198,15 @@ module _ (at : ℕ) (t : Tree) (o n : Path) where
       rename_no_place e h =
           replied
           ∙ ap (λ (x : Outcome). x.1) rename_between
-          ∙ refused t (faults_of_rename t o n) (placed (without t o) n (entry_at t o), Done) e (first_of (faults_of_place t o n) (when too_long ENAMETOOLONG ∷ []) e h)
+          ∙ refused t (faults_of_rename t o n) (placed (without t o) n (entry_at t o), Done) e (first_of (faults_of_place t o n) (when (gets_too_long t o n) ENAMETOOLONG ∷ []) e h)
 
-      pub rename_too_long : first_fault (faults_of_place t o n) ≡ None → too_long ≡ true → (does at t (Rename o n)).1 ≡ Fault ENAMETOOLONG
+      pub rename_too_long : first_fault (faults_of_place t o n) ≡ None → gets_too_long t o n ≡ true → (does at t (Rename o n)).1 ≡ Fault ENAMETOOLONG
       rename_too_long fits h =
           replied
           ∙ ap (λ (x : Outcome). x.1) rename_between
-          ∙ refused t (faults_of_rename t o n) (placed (without t o) n (entry_at t o), Done) ENAMETOOLONG (first_behind (faults_of_place t o n) (when too_long ENAMETOOLONG ∷ []) fits ∙ last_comes too_long ENAMETOOLONG h)
+          ∙ refused t (faults_of_rename t o n) (placed (without t o) n (entry_at t o), Done) ENAMETOOLONG (first_behind (faults_of_place t o n) (when (gets_too_long t o n) ENAMETOOLONG ∷ []) fits ∙ last_comes (gets_too_long t o n) ENAMETOOLONG h)
 
-      pub rename_done : first_fault (faults_of_place t o n) ≡ None → too_long ≡ false → (does at t (Rename o n)).1 ≡ Done
+      pub rename_done : first_fault (faults_of_place t o n) ≡ None → gets_too_long t o n ≡ false → (does at t (Rename o n)).1 ≡ Done
       rename_done fits h =
           replied
-          ∙ ap (λ (x : Outcome). x.1) (rename_between ∙ unless_none t (faults_of_rename t o n) (placed (without t o) n (entry_at t o), Done) (first_behind (faults_of_place t o n) (when too_long ENAMETOOLONG ∷ []) fits ∙ last_stays_away too_long ENAMETOOLONG h))
+          ∙ ap (λ (x : Outcome). x.1) (rename_between ∙ unless_none t (faults_of_rename t o n) (placed (without t o) n (entry_at t o), Done) (first_behind (faults_of_place t o n) (when (gets_too_long t o n) ENAMETOOLONG ∷ []) fits ∙ last_stays_away (gets_too_long t o n) ENAMETOOLONG h))

@@ -5,7 +5,9 @@ pub mod OnFiles
 pub mod Replies
 pub mod Appending
 pub mod Overlay
+pub mod Clearing
 pub mod Renames
+pub mod Moving
 pub mod Walking
 pub mod RootMoment
 pub mod Idle

@@ -3,7 +3,7 @@ use Rattle.std.proofs.Common.{◌≡◌, ℕ, zero, suc, ◌<◌, List, [], ◌�
 use Rattle.std.specs.Prelude.{All, Contains}
 use Rattle.std.proofs.lemmas.List.{drop_at}
 use Rattle.std.proofs.lemmas.List.Elements.{All-head, All-tail, All-weaker}
-use Rattle.message.specs.declared.msg.Msg.TheVariants.{DelRange}
+use Rattle.message.specs.declared.msg.Msg.{Msg}
 use Rattle.message.specs.Effects.{effect, effects}
 use Rattle.message.proofs.Lists.{effects-append}
 use Rattle.pathkey.specs.Keys.{Key, enc, subtree, is_in}
@@ -12,7 +12,7 @@ use Rattle.pathkey.specs.Order.{same}
 use Rattle.pathkey.proofs.KeyFacts.{in_subtree, in_subtree_from}
 use Rattle.pathkey.proofs.OrderFacts.{same_itself, same_true}
 use Rattle.reference.specs.Indexes.{moved}
-use Rattle.call_compiler.specs.Moves.{AreBelow, put_under}
+use Rattle.call_compiler.specs.Moves.{AreBelow, Clears, put_under}
 
 module _ {V : Type 0} (o n : Path) (f : Key → Option V) where
   -- what is moved to the key: for a key below n, the value at the corresponding key below o
@@ -90,16 +90,19 @@ module _ {U V : Type 0} (means : U → Option V → Option V) (o n : Path) (f : 
     outside_new : (k : Key) (x : Option V) → is_in (subtree n) k ≡ false → effects means (map (put_under o n) ps) k x ≡ x
     outside_new k x outside = put_elsewhere ps k x (ap (λ (b : Bool). cond b (f (enc o ++ drop (length (enc n)) k)) None) outside) all_belong
 
-    -- the puts, and then the range-delete of o, move the values, if n does not overlap with o and has no value except those
-    -- that are replaced
-    pub puts_move : (x : Key → Option V) → ((k : Key) → is_in (subtree n) k ≡ true → is_in (subtree o) k ≡ false) → ((k : Key) → is_in (subtree n) k ≡ true → source o n f k ≡ None → x k ≡ None) → ((k : Key) → is_in (subtree n) k ≡ false → x k ≡ f k)
-        → (k : Key) → effects means (map (put_under o n) ps ++ DelRange (subtree o) ∷ []) k (x k) ≡ moved o n f k
-    puts_move x apart inside outside k =
-        effects-append means (map (put_under o n) ps) (DelRange (subtree o) ∷ []) k (x k)
-        ∙ elim (is_in (subtree n) k) as (λ b. is_in (subtree n) k ≡ b → cond (is_in (subtree o) k) None (effects means (map (put_under o n) ps) k (x k)) ≡ cond b (f (enc o ++ drop (length (enc n)) k)) (cond (is_in (subtree o) k) None (f k))) [
+    -- the puts, and then what removes the values at or below o, move the values, if n does not overlap with o and has no value
+    -- except those that are replaced
+    pub puts_move : (gone : List (Msg U V)) → Clears means f o gone → (x : Key → Option V) → ((k : Key) → is_in (subtree n) k ≡ true → is_in (subtree o) k ≡ false) → ((k : Key) → is_in (subtree n) k ≡ true → source o n f k ≡ None → x k ≡ None) → ((k : Key) → is_in (subtree n) k ≡ false → x k ≡ f k)
+        → (k : Key) → effects means (map (put_under o n) ps ++ gone) k (x k) ≡ moved o n f k
+    puts_move gone clears x apart inside outside k =
+        effects-append means (map (put_under o n) ps) gone k (x k)
+        ∙ elim (is_in (subtree n) k) as (λ b. is_in (subtree n) k ≡ b → effects means gone k (effects means (map (put_under o n) ps) k (x k)) ≡ cond b (f (enc o ++ drop (length (enc n)) k)) (cond (is_in (subtree o) k) None (f k))) [
           | true ↦ λ e.
-              ap (λ (b : Bool). cond b None (effects means (map (put_under o n) ps) k (x k))) (apart k e)
+              clears.outside k (effects means (map (put_under o n) ps) k (x k)) (apart k e)
               ∙ inside_new k (x k) e (inside k e)
               ∙ ap (λ (b : Bool). cond b (f (enc o ++ drop (length (enc n)) k)) None) e
-          | false ↦ λ e. ap (λ (y : Option V). cond (is_in (subtree o) k) None y) (outside_new k (x k) e ∙ outside k e)
+          | false ↦ λ e. ap (effects means gone k) (outside_new k (x k) e ∙ outside k e) ∙ elim (is_in (subtree o) k) as (λ b. is_in (subtree o) k ≡ b → effects means gone k (f k) ≡ cond b None (f k)) [
+            | true ↦ λ h. clears.inside k h
+            | false ↦ λ h. clears.outside k (f k) h
+          ] refl
         ] refl

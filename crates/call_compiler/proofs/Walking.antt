@@ -14,7 +14,7 @@ use Rattle.scan.specs.Pairs.{HasNone, IsFirst, IsScan}
 use Rattle.message.proofs.NextKey.{in_range}
 use Rattle.scan.proofs.Parts.{IsPart, part_start, part_more, scan_all}
 use Rattle.scan.proofs.ReadaheadFacts.{short_law}
-use Rattle.call_compiler.specs.Moves.{Moves, put_under}
+use Rattle.call_compiler.specs.Moves.{Puts, put_under}
 
 module _ {U V : Type 0} (f : Key → Option V) (o n : Path) (first : List (Msg U V)) where
   -- the pairs below o that are before the rest of the range have their messages
@@ -39,7 +39,7 @@ module _ {U V : Type 0} (f : Key → Option V) (o n : Path) (first : List (Msg U
     found r q e h = subst (λ (x : Option (Key × V)). IsFirst f rest.lo (subtree o).hi x) e (subst (λ (hi : Option Key). IsFirst f rest.lo hi r) w.end h)
 
     -- all of them
-    pub walk_ends : (r : Option (Key × V)) → r ≡ None → IsFirst f rest.lo rest.hi r → Moves f o n first msgs
+    pub walk_ends : (r : Option (Key × V)) → r ≡ None → IsFirst f rest.lo rest.hi r → Puts f o n first msgs
     walk_ends r is h =
         let lo = (subtree o).lo in
         let hi = (subtree o).hi in

@@ -26,7 +26,7 @@ use Rattle.reference.specs.declared.reply.Meta.{Meta}
 use Rattle.reference.specs.declared.reply.Meta.TheVariants.{File as FileMeta}
 use Rattle.reference.specs.declared.reply.Reply.{Reply}
 use Rattle.reference.specs.declared.reply.Reply.TheVariants.{Fault}
-use Rattle.call_compiler.specs.Moves.{AreBelow}
+use Rattle.call_compiler.specs.Moves.{AreFirstBelow}
 use Rattle.call_compiler.specs.declared.batch.Batch.{Batch}
 use Rattle.call_compiler.specs.declared.indexes.Indexes.{Indexes}
 
@@ -129,7 +129,7 @@ Sends i (AskStat p) at msgs = msgs ≡ no_messages
 Sends i (Readdir p) at msgs = msgs ≡ no_messages
 Sends i (Rename o n) at msgs =
     (msgs ≡ no_messages)
-    ⊎ ((es : List (Key × Meta)) × (bs : List (Key × List ℕ)) × AreBelow (metadata i.meta) o es × AreBelow (blocks i.block) o bs × (count msgs ≤ length es + length bs + 3 + length (parents_of (Rename o n))))
+    ⊎ ((es : List (Key × Meta)) × (bs : List (Key × List ℕ)) × AreFirstBelow (metadata i.meta) o es × AreFirstBelow (blocks i.block) o bs × (count msgs ≤ length es + length bs + 3 + length (parents_of (Rename o n))))
 
 -- what a call at a timestamp is compiled to
 pub record IsCompiled (i : Indexes) (call : Call) (at : ℕ) (answer : Reply) (msgs : Messages) : Type 0 where

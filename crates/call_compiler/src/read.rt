@@ -1,5 +1,5 @@
 //! Calls that only read: `read`, `stat` and `readdir`. They send no messages.
-ghost use Rattle.std.specs.Prelude.{◌≡◌, [], ℕ, IfOk};
+ghost use Rattle.std.specs.Prelude.{◌≡◌, [], ℕ, IfOk, OnErr};
 ghost use Rattle.call_compiler.specs.Compiled.{IsCompiled, messages, stat_at};
 ghost use Rattle.call_compiler.specs.Listed.{TellsEntries};
 ghost use Rattle.meta_index.specs.Means.{lookup_answer};
@@ -67,14 +67,15 @@ pub fn readdir(alloc: Global, indexes: &Indexes, path: &Path) -> Result<(Reply, 
 }
 
 /// Passes the entries of the directory at the path to the sink, in byte order of names; or returns why there is no directory
-/// (readdir). If it fails, the sink may have some of the entries.
+/// (readdir). Where there is no directory, the sink is unchanged; if an allocation fails, it may have some of the entries.
 pub fn list<S: EntrySink>(
     alloc: Global,
     indexes: &Indexes,
     path: &Path,
     sink: &mut S,
 ) -> Result<Result<(), Errno>, NoMemory>
-    ensures { S.has sink.old [] → IfOk result (TellsEntries indexes.now path.now (S.has sink.new)) }
+    ensures entries { S.has sink.old [] → IfOk result (TellsEntries indexes.now path.now (S.has sink.new)) }
+    ensures unchanged { IfOk result (λ listed. OnErr listed (sink.new ≡ sink.old)) }
 {
     let at = indexes.meta.find(alloc, path)?;
     if let Some(fault) = at.fault_of_directory() {

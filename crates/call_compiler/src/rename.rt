@@ -1,11 +1,12 @@
-//! `rename`: re-keys the pairs of a subtree, and replaces what is at the new path.
-ghost use Rattle.std.specs.Prelude.{◌≡◌, ◌≤◌, [], ◌∷◌, ◌++◌, ◌≢◌, IfOk, None, length, not, true};
-ghost use Rattle.call_compiler.specs.Compiled.{IsCompiled, messages, touches};
-ghost use Rattle.call_compiler.specs.Moves.{replaced};
-ghost use Rattle.message.specs.declared.msg.Msg.TheVariants.{DelRange};
-ghost use Rattle.meta_index.specs.Means.{IsMeantBy, lookup_answer};
-ghost use Rattle.pathkey.specs.Keys.{subtree as subtree_of};
-ghost use Rattle.reference.specs.Calls.{faults_of_place, faults_of_replacing, first_fault, is_directory as stands_directory, is_file, is_full, once, parent, path_fault};
+//! `rename`: moves an entry with everything below it, and replaces what is at the new path.
+ghost use Rattle.std.specs.Prelude.{◌≡◌, ◌≤◌, [], ◌∷◌, ◌≢◌, IfOk, IfSome, None, is_none, length, not, true};
+ghost use Rattle.call_compiler.specs.Compiled.{IsCompiled, messages};
+ghost use Rattle.call_compiler.specs.Moves.{IsFoundAt, MovesBlocks, MovesEntries, gets_too_long, replaced};
+ghost use Rattle.message.specs.declared.msg.Msg.TheVariants.{Del, Put};
+ghost use Rattle.meta_index.specs.Means.{IsMeantBy, found_meta, lookup_answer, metadata};
+ghost use Rattle.pathkey.specs.Keys.{enc};
+ghost use Rattle.pathkey.specs.Names.{IsPath};
+ghost use Rattle.reference.specs.Calls.{faults_of_place, faults_of_replacing, first_fault, is_directory as stands_directory, is_file, is_full, path_fault};
 ghost use Rattle.reference.specs.Shape.{IsTree};
 ghost use Rattle.reference.specs.Tree as trees;
 
@@ -24,9 +25,9 @@ use std::alloc::Global;
 /// Moves the entry at `old`, with everything below it, to `new`, where it replaces a file or an empty directory (POSIX.1-2017,
 /// rename). If both paths are the same, nothing changes.
 ///
-/// Each entry and each block at or below `old` is put under its new key, and then one range-delete in each index removes what was
-/// at or below `old`; the blocks of a file that is replaced are removed first, and the mtimes of both directories are set last.
-/// No byte of a file is copied.
+/// Each entry and each block at or below `old` is put under its new key. Then what was at or below `old` is removed: a file's entry
+/// by its key, everything else by one range-delete in each index, that of blocks only if there was one. The blocks of a file that
+/// is replaced are removed first, and the mtimes of both directories are set last. No byte of a file is copied.
 pub fn rename(
     alloc: Global,
     indexes: &Indexes,
@@ -50,14 +51,13 @@ pub fn rename(
     if let Some(fault) = fault_of_place(alloc, indexes, old, from, new, to)? {
         return Ok(refused(alloc, fault));
     }
-    let entries = rekeyed_msgs(alloc, &indexes.meta.tree, old, new, Vec::new(alloc))?;
-    if has_too_long_key(entries.as_slice()) {
+    let Some(entries) = moved_entries(alloc, indexes, old, from, new)? else {
         return Ok(refused(alloc, Errno::ENAMETOOLONG));
-    }
-    let replaced = delete_target_blocks(alloc, to, new)?;
-    let blocks = rekeyed_msgs(alloc, &indexes.block.tree, old, new, replaced)?;
-    let batch = with_source_deleted(alloc, old, new, at, entries, blocks)?;
-    Ok((Reply::Done, batch))
+    };
+    let block = moved_blocks(alloc, indexes, old, new, to)?;
+    let mut meta = entries;
+    touch_directories(alloc, &mut meta, old, new, at)?;
+    Ok((Reply::Done, Batch { meta, block }))
 }
 
 /// Why the entry `from`, found at `old`, cannot be moved to `new`, another path, where `to` was found, whatever the length of
@@ -149,23 +149,66 @@ fn has_file(path: &Path, here: At) -> bool
     }
 }
 
-/// The batch of a rename: after the messages, a range-delete in each index over what is at or below the old path, and the mtimes
-/// of both directories.
-fn with_source_deleted(
+/// The messages that move the entry `from`, found at `old`, with everything below it, to `new`; `None` if a text would get too
+/// long. Nothing is below a file, so the index is not read for one.
+fn moved_entries(
+    alloc: Global,
+    indexes: &Indexes,
+    old: &Path,
+    from: At,
+    new: &Path,
+) -> Result<Option<Vec<Msg<MetaUpdate>>>, NoMemory>
+    ensures moves { found_meta from ≡ metadata indexes.now.meta (enc old.now) → IfOk result (λ moved. IfSome moved (λ msgs. MovesEntries indexes.now.meta old.now new.now from msgs.items)) }
+    ensures long { IfOk result (λ moved. (t : trees.Tree) → IsFoundAt indexes.now.meta old.now from t → path_fault (trees.entry_at t old.now) ≡ None → is_none moved ≡ gets_too_long t old.now new.now) }
+{
+    // The postcondition of `key` states that the path is valid.
+    let _old_key = old.key();
+    if let At::Found(Meta::File { len, modified }) = from {
+        let msgs = moved_file(alloc, old, new, Meta::File { len, modified })?;
+        return Ok(Some(msgs));
+    }
+    let mut msgs = rekeyed_msgs(alloc, &indexes.meta.tree, old, new, Vec::new(alloc))?;
+    if has_too_long_key(msgs.as_slice()) {
+        return Ok(None);
+    }
+    msgs.push(Msg::DelRange(subtree(alloc, old)?))?;
+    Ok(Some(msgs))
+}
+
+/// The messages that put a file's metadata at `new` and delete those at `old`.
+fn moved_file(
     alloc: Global,
     old: &Path,
     new: &Path,
-    at: u64,
-    entries: Vec<Msg<MetaUpdate>>,
-    blocks: Vec<Msg<BlockUpdate>>,
-) -> Result<Batch, NoMemory>
-    ensures { IfOk result (λ b. messages b ≡ record { meta = (entries.items ++ DelRange (subtree_of old.now) ∷ []) ++ touches at (once (parent old.now) (parent new.now)); block = blocks.items ++ DelRange (subtree_of old.now) ∷ [] }) }
+    file: Meta,
+) -> Result<Vec<Msg<MetaUpdate>>, NoMemory>
+    ensures messages { IfOk result (λ msgs. msgs.items ≡ Put (enc new.now) file ∷ Del (enc old.now) ∷ []) }
+    ensures path { IfOk result (λ _. IsPath new.now) }
 {
-    let range = subtree(alloc, old)?;
-    let mut block = blocks;
-    block.push(Msg::DelRange(range.copy(alloc)?))?;
-    let mut meta = entries;
-    meta.push(Msg::DelRange(range))?;
-    touch_directories(alloc, &mut meta, old, new, at)?;
-    Ok(Batch { meta, block })
+    // The mtimes of both directories will follow.
+    let mut msgs = Vec::with_capacity(alloc, 4)?;
+    msgs.push(Msg::Put(new.key().copy(alloc)?, file))?;
+    msgs.push(Msg::Del(old.key().copy(alloc)?))?;
+    Ok(msgs)
+}
+
+/// The messages that move the blocks of everything at or below `old` to `new`, where `to` was found: those of a file that is
+/// replaced are deleted first. If there is no block to move, none is deleted at `old`.
+fn moved_blocks(
+    alloc: Global,
+    indexes: &Indexes,
+    old: &Path,
+    new: &Path,
+    to: At,
+) -> Result<Vec<Msg<BlockUpdate>>, NoMemory>
+    ensures { IfOk result (λ msgs. MovesBlocks indexes.now.block old.now new.now to msgs.items) }
+{
+    let first = delete_target_blocks(alloc, to, new)?;
+    let before = first.len();
+    let mut msgs = rekeyed_msgs(alloc, &indexes.block.tree, old, new, first)?;
+    if msgs.len() == before {
+        return Ok(msgs);
+    }
+    msgs.push(Msg::DelRange(subtree(alloc, old)?))?;
+    Ok(msgs)
 }

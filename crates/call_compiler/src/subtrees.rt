@@ -1,6 +1,6 @@
 //! Messages that move everything at or below a path: each pair is put under the key that it has below the new path.
 ghost use Rattle.std.specs.Prelude.{◌≡◌, IfOk};
-ghost use Rattle.call_compiler.specs.Moves.{Moves, is_key_too_long};
+ghost use Rattle.call_compiler.specs.Moves.{Puts, is_key_too_long};
 ghost use Rattle.node.specs.Meaning.{value as value_at};
 ghost use Rattle.std.specs.List.{list_any};
 
@@ -25,7 +25,7 @@ pub(crate) fn rekeyed_msgs<U: Update>(
     new: &Path,
     first: Vec<Msg<U>>,
 ) -> Result<Vec<Msg<U>>, NoMemory>
-    ensures { IfOk result (λ msgs. Moves (value_at U.means tree.now.root) old.now new.now first.items msgs.items) }
+    ensures { IfOk result (λ msgs. Puts (value_at U.means tree.now.root) old.now new.now first.items msgs.items) }
 {
     let mut msgs = first;
     let mut rest = subtree(alloc, old)?;

@@ -1,15 +1,13 @@
-use Rattle.std.proofs.Common.{arith, ◌≡◌, List, ℕ, [], ◌∷◌, ◌++◌, map, Bool, cond, refl, sym, ap, ◌∙◌}
-use Rattle.std.specs.List.{list_any}
-use Rattle.block_index.specs.declared.update.BlockUpdate.{BlockUpdate}
+use Rattle.std.proofs.Common.{arith, ◌++◌, [], Option, Bool, cond, refl, sym, subst, ap, ◌∙◌}
+use Rattle.std.specs.Prelude.{IfSome, is_none}
+use Rattle.std.specs.Global.{Vec}
 use Rattle.message.specs.declared.msg.Msg.{Msg}
-use Rattle.message.specs.declared.msg.Msg.TheVariants.{DelRange}
 use Rattle.meta_index.specs.declared.update.MetaUpdate.{MetaUpdate}
-use Rattle.pathkey.specs.Keys.{subtree}
+use Rattle.reference.specs.Calls.{once, parent}
 use Rattle.reference.specs.declared.reply.Meta.{Meta}
 use Rattle.reference.specs.declared.reply.Reply.TheVariants.{Done}
 use Rattle.call_compiler.specs.Compiled.{messages, touches}
-use Rattle.reference.specs.Calls.{once, parent}
-use Rattle.call_compiler.specs.Moves.{put_under, is_key_too_long}
+use Rattle.call_compiler.specs.Moves.{MovesEntries}
 use Rattle.call_compiler.proofs.Compiling.{halves}
 use Rattle.call_compiler.proofs.Renames.{rename_is_of_nothing, rename_is_to_itself, rename_is_without_place, rename_is_too_long, rename_is_done}
 use Rattle.call_compiler.proofs.rename.rename.Goals as goal
@@ -27,28 +25,23 @@ returns-in-Some-2 c = rename_is_without_place c.args.indexes.now c.args.old.now 
     c.fault_of_taking.result (λ t means. c.fault_of_taking.ensures t (c.in_ok-from.ensures.reported t means)) c.in_default.is (sym c.is_same.ensures ∙ c.if-is_same.false)
     c.in_ok-fault.field-0 (λ t means. c.in_ok-fault.ensures t means (c.in_ok-from.ensures.reported t means) (c.in_ok-to.ensures.reported t means)) c.in-Some-2.fault c.in-Some-2.is c.refused-in-Some-2.ensures.reply c.refused-in-Some-2.ensures.messages
 
-pub returns-then-has_too_long_key : goal.returns-then-has_too_long_key
-returns-then-has_too_long_key c =
-    let es = c.in_ok-entries.ensures.0 in
-    let list : c.in_ok-entries.entries.items ≡ map (put_under c.args.old.now c.args.new.now) es = c.in_ok-entries.ensures.2 ∙ ap (λ (ms : List (Msg MetaUpdate Meta)). ms ++ map (put_under c.args.old.now c.args.new.now) es) c.new.ensures.items in
-    rename_is_too_long c.args.indexes.now c.args.old.now c.args.new.now c.args.at c.refused-then-has_too_long_key.result.0 (messages c.refused-then-has_too_long_key.result.1)
+pub returns-in_default-3 : goal.returns-in_default-3
+returns-in_default-3 c = rename_is_too_long c.args.indexes.now c.args.old.now c.args.new.now c.args.at c.refused-in_default-3.result.0 (messages c.refused-in_default-3.result.1)
     c.fault_of_taking.result (λ t means. c.fault_of_taking.ensures t (c.in_ok-from.ensures.reported t means)) c.in_default.is (sym c.is_same.ensures ∙ c.if-is_same.false)
-    c.in_ok-fault.field-0 (λ t means. c.in_ok-fault.ensures t means (c.in_ok-from.ensures.reported t means) (c.in_ok-to.ensures.reported t means)) c.in_default-2.is c.key-old_key.ensures.valid es c.in_ok-entries.ensures.1
-    (ap (list_any is_key_too_long) (sym list ∙ sym c.as_slice.ensures.value) ∙ sym c.has_too_long_key.ensures ∙ c.if-has_too_long_key.true)
-    c.refused-then-has_too_long_key.ensures.reply c.refused-then-has_too_long_key.ensures.messages
+    c.in_ok-fault.field-0 (λ t means. c.in_ok-fault.ensures t means (c.in_ok-from.ensures.reported t means) (c.in_ok-to.ensures.reported t means)) c.in_default-2.is
+    (is_none c.in_ok-entries.field-0) (λ t means. c.in_ok-entries.ensures.long t (means, c.in_ok-from.ensures.reported t means))
+    (ap is_none c.in_default-3.is) c.refused-in_default-3.ensures.reply c.refused-in_default-3.ensures.messages
 
 pub returns : goal.returns
 returns c =
-    let es = c.in_ok-entries.ensures.0 in
-    let bs = c.in_ok-blocks.ensures.0 in
-    let list : c.in_ok-entries.entries.items ≡ map (put_under c.args.old.now c.args.new.now) es = c.in_ok-entries.ensures.2 ∙ ap (λ (ms : List (Msg MetaUpdate Meta)). ms ++ map (put_under c.args.old.now c.args.new.now) es) c.new.ensures.items in
-    rename_is_done c.args.indexes.now c.args.old.now c.args.new.now c.args.at Done (messages c.in_ok-batch.batch)
+    let entries : MovesEntries c.args.indexes.now.meta c.args.old.now c.args.new.now c.in_ok-from.from c.in-Some-3.entries.items =
+    subst (λ (moved : Option (Vec (Msg MetaUpdate Meta))). IfSome moved (λ msgs. MovesEntries c.args.indexes.now.meta c.args.old.now c.args.new.now c.in_ok-from.from msgs.items)) c.in-Some-3.is (c.in_ok-entries.ensures.moves c.in_ok-from.ensures.value) in
+    rename_is_done c.args.indexes.now c.args.old.now c.args.new.now c.args.at Done (messages (record { meta = c.touch_directories.new.msgs; block = c.in_ok-block.block }))
     c.fault_of_taking.result (λ t means. c.fault_of_taking.ensures t (c.in_ok-from.ensures.reported t means)) c.in_default.is (sym c.is_same.ensures ∙ c.if-is_same.false)
-    c.in_ok-fault.field-0 (λ t means. c.in_ok-fault.ensures t means (c.in_ok-from.ensures.reported t means) (c.in_ok-to.ensures.reported t means)) c.in_default-2.is c.key-old_key.ensures.valid es c.in_ok-entries.ensures.1
-    (ap (list_any is_key_too_long) (sym list ∙ sym c.as_slice.ensures.value) ∙ sym c.has_too_long_key.ensures ∙ c.if-has_too_long_key.false)
-    c.key-new_key.ensures.valid (omega (arith, c.ranges.at.fits)) bs c.in_ok-blocks.ensures.1 c.in_ok-replaced.replaced.items (λ t means. c.in_ok-replaced.ensures.blocks t means.tree (c.in_ok-to.ensures.reported t means)) c.in_ok-replaced.ensures.few
-    refl
-    (c.in_ok-batch.ensures ∙ halves _ _ _ _
-    (ap (λ (ms : List (Msg MetaUpdate Meta)). (ms ++ DelRange (subtree c.args.old.now) ∷ []) ++ touches c.args.at (once (parent c.args.old.now) (parent c.args.new.now))) list
-    ∙ ap (λ (b : Bool). (map (put_under c.args.old.now c.args.new.now) es ++ DelRange (subtree c.args.old.now) ∷ []) ++ touches c.args.at (cond b [] (once (parent c.args.old.now) (parent c.args.new.now)))) (sym (sym c.is_same.ensures ∙ c.if-is_same.false)))
-    (ap (λ (ms : List (Msg BlockUpdate (List ℕ))). ms ++ DelRange (subtree c.args.old.now) ∷ []) c.in_ok-blocks.ensures.2))
+    c.in_ok-fault.field-0 (λ t means. c.in_ok-fault.ensures t means (c.in_ok-from.ensures.reported t means) (c.in_ok-to.ensures.reported t means)) c.in_default-2.is
+    (is_none c.in_ok-entries.field-0) (λ t means. c.in_ok-entries.ensures.long t (means, c.in_ok-from.ensures.reported t means))
+    (ap is_none c.in-Some-3.is) c.key-old_key.ensures.valid c.key-new_key.ensures.valid c.in_ok-from.from c.in_ok-to.to c.in_ok-from.ensures.reported c.in_ok-to.ensures.reported
+    c.in-Some-3.entries.items c.in_ok-block.block.items entries c.in_ok-block.ensures (omega (arith, c.ranges.at.fits)) refl
+    (halves _ _ _ _
+    (c.in_ok-touch_directories.ensures ∙ ap (λ (b : Bool). c.in-Some-3.entries.items ++ touches c.args.at (cond b [] (once (parent c.args.old.now) (parent c.args.new.now)))) (sym (sym c.is_same.ensures ∙ c.if-is_same.false)))
+    refl)
