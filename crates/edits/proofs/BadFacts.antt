@@ -18,7 +18,7 @@ whole : (es : List Edit) → text_of (heading ∷ map spelled es) ++ text_of (co
 whole es = sym (text_append (heading ∷ map spelled es) (codes "end" ∷ []))
 
 -- edits, the end, and more text
-behind_end : (es : List Edit) (text behind : Text) → text ≡ text_of (heading ∷ map spelled es) ++ (codes "end" ++ 10 ∷ behind) → text ≡ text_of (heading ∷ listed es) ++ behind
+pub behind_end : (es : List Edit) (text behind : Text) → text ≡ text_of (heading ∷ map spelled es) ++ (codes "end" ++ 10 ∷ behind) → text ≡ text_of (heading ∷ listed es) ++ behind
 behind_end es text behind e = e ∙ sym (append_assoc (text_of (heading ∷ map spelled es)) (text_of (codes "end" ∷ [])) behind) ∙ ap (λ t. t ++ behind) (whole es)
 
 pub all_edits : (es : List Edit) (text behind : Text) → All IsEdit es → text ≡ text_of (heading ∷ map spelled es) ++ (codes "end" ++ 10 ∷ behind) → behind ≡ [] → AreEdits text es

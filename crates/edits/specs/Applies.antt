@@ -1,5 +1,5 @@
 -- What edits make of a volume.
-use Rattle.std.specs.Prelude.{◌≡◌, ◌+◌, ℕ, Bool, true, false, List, [], ◌∷◌, ◌++◌, length, map, Result, Ok, Err, All}
+use Rattle.std.specs.Prelude.{◌≡◌, ◌+◌, ◌-◌, ℕ, Bool, true, false, List, [], ◌∷◌, ◌++◌, length, map, take, Result, Ok, Err, All}
 use Rattle.pathkey.specs.declared.errno.NoMemory.{NoMemory}
 use Rattle.reference.specs.Image.{Text}
 use Rattle.reference.specs.Tree.{Tree}
@@ -8,7 +8,7 @@ use Rattle.textio.specs.Lines.{text_of}
 use Rattle.volume.specs.Marked.{KeepsMarks}
 use Rattle.volume.specs.Volumes.{Means, PVolume, live_of}
 use Rattle.edits.specs.Edits.{AreEdited, IsEdited, IsRefused}
-use Rattle.edits.specs.Lines.{AreEdits, IsEdit, heading, spelled}
+use Rattle.edits.specs.Lines.{AreEdits, IsEdit, heading, listed, spelled}
 use Rattle.edits.specs.declared.edit.Edit.{Edit}
 
 -- snapshots and marks stay, and each mark still fits its slot
@@ -41,3 +41,12 @@ pub record DoesNotFit (n : ℕ) (text : Text) (t : Tree) : Type 0 where
   pub begins : text ≡ text_of (heading ∷ map spelled (before ++ edit ∷ [])) ++ rest
   pub number : n ≡ length before + 2
   pub refused : IsRefused before edit t
+
+-- the lines of the text before line n are the first of a text of edits, and these edits can be done in the tree, one after the other
+pub record FitsBefore (n : ℕ) (text : Text) (t : Tree) : Type 0 where
+  pub edits : List Edit
+  pub rest : Text
+  pub there : Tree
+  pub are : All IsEdit edits
+  pub begins : text ≡ text_of (take (n - 1) (heading ∷ listed edits)) ++ rest
+  pub done : AreEdited edits t there

@@ -5,7 +5,7 @@ use Rattle.reference.specs.Tree.{Tree}
 use Rattle.reference.specs.Worlds.{World}
 use Rattle.textio.specs.Lines.{IsFirstBad, Line, text_of}
 use Rattle.volume.specs.Volumes.{Means, PVolume}
-use Rattle.edits.specs.Applies.{Applied, DoesEdits, DoesNotFit}
+use Rattle.edits.specs.Applies.{Applied, DoesEdits, DoesNotFit, FitsBefore}
 use Rattle.edits.specs.Edits.{IsEdited}
 use Rattle.edits.specs.Lines.{AreSomeEdits, IsEdit, heading, spelled}
 use Rattle.edits.specs.declared.apply.EditFault.{EditFault}
@@ -41,5 +41,5 @@ pub record HasDone (text rest : Text) (number : ℕ) (old now : PVolume) : Type 
 abbrev pub DoesText : Text → Result (Unit {0}) EditFault → PVolume → PVolume → Type 0
 DoesText text (Ok u) old new = Applied text old new
 DoesText text (Err Memory) old new = ⊤
-DoesText text (Err (Bad n)) old new = IsFirstBad AreSomeEdits n text
+DoesText text (Err (Bad n)) old new = IsFirstBad AreSomeEdits n text × ((w : World) → Means old w → FitsBefore n text w.live)
 DoesText text (Err (Unfit n)) old new = (w : World) → Means old w → DoesNotFit n text w.live

@@ -3,7 +3,7 @@ ghost use Rattle.std.specs.Prelude.{◌≡◌, ◌≢◌, [], ℕ, Err, MatchRes
 ghost use Rattle.reference.specs.Worlds.{World};
 ghost use Rattle.volume.specs.Volumes.{Means};
 ghost use Rattle.textio.specs.Lines.{IsFirstBad};
-ghost use Rattle.edits.specs.Applies.{Applied, DoesNotFit, Stays};
+ghost use Rattle.edits.specs.Applies.{Applied, DoesNotFit, FitsBefore, Stays};
 ghost use Rattle.edits.specs.Applying.{DoesLine, DoesText};
 ghost use Rattle.edits.specs.Lines.{AreSomeEdits, IsEdit, spelled};
 
@@ -37,6 +37,7 @@ pub fn apply_edits(alloc: Global, volume: &mut Volume, text: &[u8]) -> Result<()
     ensures applied { OnOk result (Applied text.now volume.old volume.new) }
     ensures unchanged { OnErr result (volume.new ≡ volume.old) }
     ensures bad { (n : ℕ) → result ≡ Err (EditFault.Bad n) → IsFirstBad AreSomeEdits n text.now }
+    ensures fitting { (n : ℕ) (w : World) → Means volume.old w → result ≡ Err (EditFault.Bad n) → FitsBefore n text.now w.live }
     ensures unfit { (n : ℕ) (w : World) → Means volume.old w → result ≡ Err (EditFault.Unfit n) → DoesNotFit n text.now w.live }
 {
     volume.assert_invariant();

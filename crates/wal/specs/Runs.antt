@@ -11,7 +11,7 @@ use Rattle.reference.specs.Worlds.{World, Event, Ask, TakeSnapshot, DropSnapshot
 use Rattle.reference.specs.declared.call.Call.TheVariants as ask
 use Rattle.reference.specs.declared.reply.Reply.TheVariants.{Fault}
 use Rattle.textio.specs.Lines.{IsFirstBad}
-use Rattle.edits.specs.Applies.{DoesNotFit}
+use Rattle.edits.specs.Applies.{DoesNotFit, FitsBefore}
 use Rattle.edits.specs.Edits.{AreEdited}
 use Rattle.edits.specs.Lines.{AreEdits, AreSomeEdits}
 use Rattle.edits.specs.declared.edit.Edit.{Edit}
@@ -64,10 +64,11 @@ Leads w (Happens e) m = Succeeds (outcome w e) m
 Leads w (HasMtime p at) m = Succeeds (with_mtime p at w, Replied (mtime_set at w.live p).1) m
 Leads w (HasEdits text) m = LeadsEdits w text m
 
--- a text of edits is refused with this error: it is none, an edit does not fit, or an allocation failed
+-- a text of edits is refused with this error: it is none, and the edits before its first bad line fit; an edit does not fit; or an
+-- allocation failed
 abbrev pub RefusesEdits : World → Text → Errno → Type 0
 RefusesEdits w text e =
-    ((e ≡ EINVAL) × (n : ℕ) × IsFirstBad AreSomeEdits n text) ⊎ ((e ≡ ENOENT) × (n : ℕ) × DoesNotFit n text w.live) ⊎ (e ≡ ENOMEM)
+    ((e ≡ EINVAL) × (n : ℕ) × IsFirstBad AreSomeEdits n text × FitsBefore n text w.live) ⊎ ((e ≡ ENOENT) × (n : ℕ) × DoesNotFit n text w.live) ⊎ (e ≡ ENOMEM)
 
 -- the effect fails with this error: its own, or an allocation failure if one is possible
 abbrev pub Fails : World → Effect → Errno → Type 0

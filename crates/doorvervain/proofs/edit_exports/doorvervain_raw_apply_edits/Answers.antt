@@ -13,4 +13,5 @@ pub returns-clause-refused : goal.returns-clause-refused
 returns-clause-refused c = λ w n.
     let m : Means c.volume.result.now w = subst (λ (v : PVolume). Means v w) (sym c.volume.ensures.value) n in
     subst (λ (r : Result (Unit {0}) Errno). IfErr r (λ e. NotEdited c.args.text.now w.live e c.answer.new.line)) (sym c.number.ensures.reported)
-    (edited_refused c.args.text.now w.live c.apply_edits.result c.answer.result c.answer.new.line c.answer.ensures c.apply_edits.ensures.bad (λ line is. c.apply_edits.ensures.unfit line w m is))
+    (edited_refused c.args.text.now w.live c.apply_edits.result c.answer.result c.answer.new.line c.answer.ensures
+    (λ line is. (c.apply_edits.ensures.bad line is, c.apply_edits.ensures.fitting line w m is)) (λ line is. c.apply_edits.ensures.unfit line w m is))

@@ -1,7 +1,10 @@
 use Rattle.std.proofs.Common.{sym, ◌∙◌, arith}
-use Rattle.edits.proofs.ApplyFacts.{begun, ended, few_lines, line_failed, one_done, stopped}
+use Rattle.edits.proofs.ApplyFacts.{begun, ended, few_lines, line_failed, no_heading, one_done, stopped}
 use Rattle.edits.proofs.WordFacts.{not_same, same_word}
 use Rattle.edits.proofs.apply.apply_lines.Goals as goal
+
+pub returns-in_default-clause-does : goal.returns-in_default-clause-does
+returns-in_default-clause-does c = no_heading c.args.text.now c.args.volume.now c.args.volume.now c.in_default.ensures
 
 pub lines-init : goal.lines-init
 lines-init c = begun c.args.text.now c.in-Some.lines.now c.args.volume.now c.in-Some.ensures
