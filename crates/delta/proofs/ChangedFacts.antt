@@ -39,7 +39,7 @@ use Rattle.delta.specs.Changed.{AreAlikeBlocks, AreBlocksDiffering, AreChanged, 
 
 -- ---- bytes of a block
 
-held_byte : (o : Option (List ℕ)) (j : ℕ) → byte_of o j ≡ get_or (held o) j 0
+pub held_byte : (o : Option (List ℕ)) (j : ℕ) → byte_of o j ≡ get_or (held o) j 0
 held_byte None j = refl
 held_byte (Some v) j = refl
 
@@ -69,7 +69,7 @@ same_sights t u m n d e p of_t of_u v same alike = agree (sight t p) (sight u p)
 -- ---- trees that are the same at a path
 
 -- a block has no byte past its end
-past_block : (f : ℕ → Option (List ℕ)) (b : List ℕ) (i j : ℕ) → Hold f b → i < most_blocks → 4096 ≤ j → get_or (held (f i)) j 0 ≡ 0
+pub past_block : (f : ℕ → Option (List ℕ)) (b : List ℕ) (i j : ℕ) → Hold f b → i < most_blocks → 4096 ≤ j → get_or (held (f i)) j 0 ≡ 0
 past_block f b i j h li lj = elim (f i) as (λ o. f i ≡ o → get_or (held o) j 0 ≡ 0) [
   | None ↦ λ e. refl
   | Some v ↦ λ e. ⊎_elim (λ (lt : j < length v). absurd (let g = h.within i v j li e lt in omega (arith, g.0, lj))) (λ (le : length v ≤ j). get_or_past v j 0 le) (cases_lt j (length v))

@@ -1,22 +1,26 @@
 -- The text of edits, as it is printed.
-use Rattle.std.proofs.Common.{subst, ◌≡◌, ℕ, ◌+◌, ◌<◌, List, [], ◌∷◌, ◌++◌, length, get_or, map, take, drop, codes, refl, sym, ap, ◌∙◌, append_assoc, append-nil}
+use Rattle.std.proofs.Common.{subst, ◌≡◌, ⊎_elim, ℕ, ◌+◌, ◌<◌, List, [], ◌∷◌, ◌++◌, length, get_or, map, take, drop, codes, refl, sym, ap, ◌∙◌, append_assoc, append-nil}
+use Rattle.std.specs.List.{Contains}
 use Rattle.std.proofs.lemmas.List.{drop_more, map-append, take_more}
+use Rattle.pathkey.specs.Enc.{enc}
+use Rattle.pathkey.specs.Names.{IsPath}
 use Rattle.reference.specs.Indexes.{meta_of}
 use Rattle.reference.specs.Reads.{sight}
 use Rattle.reference.specs.Shape.{IsTree}
 use Rattle.reference.specs.Tree.{Path, Tree}
 use Rattle.textio.specs.Lines.{text_of}
 use Rattle.textio.proofs.LineFacts.{text_append}
-use Rattle.edits.specs.Between.{AreBlocksBetween, AreEntriesBetween, arrival, arrivals, block_change, edit_of, edits_between, removal, removals, rewrites}
+use Rattle.edits.specs.Between.{AreBlocksBetween, AreEntriesBetween, arrival, arrivals, block_change, edit_of, edits_between, key_of, removal, removals, rewrites}
 use Rattle.edits.specs.Lines.{edits_text, heading, listed, spelled}
 use Rattle.edits.specs.declared.edit.Edit.{Edit}
 use Rattle.edits.specs.Edits.{AreEdited}
 use Rattle.edits.proofs.BetweenFacts.{edits_make}
 use Rattle.edits.proofs.EditsValid.{edits_valid}
+use Rattle.edits.proofs.Ordered.{one_rising, ordered}
 use Rattle.edits.proofs.TextFacts.{one_reading}
 use Rattle.edits.proofs.Ways.{edits_one_tree}
 use Rattle.volume.specs.Volumes.{Means}
-use Rattle.delta.specs.Changed.{EditsRoundTripLaw, PrintsEdits}
+use Rattle.delta.specs.Changed.{EditsRoundTripLaw, OneTextLaw, PrintsEdits}
 
 edits_append : (es fs : List Edit) → edits_text (es ++ fs) ≡ edits_text es ++ edits_text fs
 edits_append es fs = ap text_of (map-append spelled es fs) ∙ text_append (map spelled es) (map spelled fs)
@@ -61,14 +65,31 @@ printed t u ps bs none first a b c text is_t is_u entries blocks empty head one 
     let es : List Edit = edits_between t u ps bs in
     let start : first ≡ codes "delta 2\n" = head ∙ ap (λ (x : List ℕ). x ++ codes "delta 2\n") empty in
     let two_three : c ≡ a ++ edits_text (arrivals t u ps ++ rewrites t u bs) = text_more c b a (arrivals t u ps) (rewrites t u bs) (arrivals t u ps ++ rewrites t u bs) three two refl in
-    let all : c ≡ first ++ edits_text es = text_more c a first (removals t u ps) (arrivals t u ps ++ rewrites t u bs) es two_three one refl in (
-      es,
-      record {
+    let all : c ≡ first ++ edits_text es = text_more c a first (removals t u ps) (arrivals t u ps ++ rewrites t u bs) es two_three one refl in
+    record {
+      paths = ps;
+      blocks = bs;
+      entries = entries;
+      differing = blocks;
+      are = record {
         edits = edits_valid t u is_t is_u ps bs entries blocks;
         is = end ∙ ap (λ (x : List ℕ). x ++ codes "end\n") (all ∙ ap (λ (x : List ℕ). x ++ edits_text es) start) ∙ whole_text es;
-      },
-      edits_make t u ps bs is_t is_u entries blocks,
-    )
+      };
+      make = edits_make t u ps bs is_t is_u entries blocks;
+    }
+
+-- there is one list of paths, and one of blocks
+pub one_text : OneTextLaw
+one_text text other t u one two =
+    let paths : one.paths ≡ two.paths = one_rising enc one.paths two.paths (ordered enc one.paths one.entries.rising) (ordered enc two.paths two.entries.rising) (in_both one two) (in_both two one) in
+    let blocks : one.blocks ≡ two.blocks = one_rising key_of one.blocks two.blocks (ordered key_of one.blocks one.differing.rising) (ordered key_of two.blocks two.differing.rising) (block_in_both one two) (block_in_both two one) in
+    one.are.is ∙ (λ i. text_of (heading ∷ listed (edits_between t u (paths i) (blocks i)))) ∙ sym two.are.is
+  where
+    in_both : {a b : List ℕ} (x : PrintsEdits a t u) (y : PrintsEdits b t u) (p : Path) → Contains x.paths p → Contains y.paths p
+    in_both x y p there = ⊎_elim (λ c. c) (λ same. absurd (x.entries.differ p there same)) (y.entries.all p (subst IsPath there.2 (x.entries.paths there.0 p there.1)))
+
+    block_in_both : {a b : List ℕ} (x : PrintsEdits a t u) (y : PrintsEdits b t u) (p : Path × ℕ) → Contains x.blocks p → Contains y.blocks p
+    block_in_both x y p there = let is = x.differing.paths p there in ⊎_elim (λ c. c) (λ same. absurd (x.differing.differ p there same)) (y.differing.all p.0 p.1 is.0 is.1)
 
 -- a text has one list of edits, which make one tree
 pub edits_round_trip : EditsRoundTripLaw

@@ -1,34 +1,53 @@
 -- From the keys at which two indexes differ to the edits between the trees that they mean.
-use Rattle.std.proofs.Common.{◌≡◌, ⊎_elim, inl, inr, ℕ, ◌+◌, ◌*◌, ◌<◌, true, List, length, get_or, map, replicate, refl, sym, ap, subst, ◌∙◌, arith, zero, suc, Option, Some, None, All}
-use Rattle.std.specs.Prelude.{option_map}
+use Rattle.std.proofs.Common.{◌≡◌, ⊎_elim, inl, inr, ℕ, ◌*◌, ◌<◌, ◌≤◌, true, List, [], map, refl, sym, ap, subst, ◌∙◌, arith, Option, Some, None, All}
 use Rattle.std.specs.List.{Contains}
 use Rattle.std.specs.List.Sorted.{IsStrictlySortedBy}
+use Rattle.std.proofs.lemmas.Bool.{cases_lt}
+use Rattle.std.proofs.lemmas.List.{get_or_past}
 use Rattle.pathkey.specs.Keys.{Key, block_key, enc}
 use Rattle.pathkey.specs.Names.{IsPath}
 use Rattle.pathkey.specs.Order.{by_bytes}
 use Rattle.pathkey.proofs.KeyFacts.{block_key_injective, enc_law}
+use Rattle.reference.specs.Calls.{bytes_of}
 use Rattle.reference.specs.Image.{trimmed}
-use Rattle.reference.specs.Indexes.{BlockOf, Blocks, Hold, IndexesMean, Metadata, PathOf, byte_of, held, most_blocks}
-use Rattle.reference.specs.Reads.{Bytes, Directory, Seen, Sight, look, look_of, sight}
-use Rattle.reference.specs.Tree.{Path, Tree}
+use Rattle.reference.specs.Indexes.{BlockOf, Blocks, BlocksMean, Hold, IndexesMean, Metadata, PathOf, held, most_blocks}
+use Rattle.reference.specs.Reads.{Bytes, Directory, look, seen}
+use Rattle.reference.specs.Tree.{At, Blocked, Dir, File, Found, Missing, Path, Tree, entry_at}
 use Rattle.reference.specs.declared.reply.Meta.{Meta}
-use Rattle.reference.proofs.Edits.{look_from, look_sighted}
-use Rattle.reference.proofs.FileBlocks.{sized_at}
+use Rattle.reference.proofs.LastBlock.{trimmed_same}
 use Rattle.reference.proofs.PointIndexes.{no_blocks}
 use Rattle.block_index.specs.Means.{blocks}
 use Rattle.meta_index.specs.Means.{metadata}
 use Rattle.volume.specs.Volumes.{MeanRooted}
 use Rattle.volume.specs.declared.fs_root.FsRoot.{FsRoot}
-use Rattle.edits.specs.Between.{AreBlocksBetween, AreEntriesBetween, IsKeptBlock, key_of, resized}
+use Rattle.edits.specs.Between.{AreBlocksBetween, AreEntriesBetween, key_of, trimmed_block}
+use Rattle.edits.specs.Edits.{block_at}
 use Rattle.delta.specs.Changed.{AreAlikeBlocks, AreBlocksDiffering, AreDiffering, AreFound, AreMetasDiffering, HaveSame, IsBlockKey}
-use Rattle.delta.proofs.ChangedFacts.{alike_bytes, contains_mapped, map_contains}
-use Rattle.edits.proofs.BlockFacts.{same_block}
-use Rattle.edits.proofs.Rewrites.{length-resized}
+use Rattle.delta.proofs.ChangedFacts.{contains_mapped, held_byte, map_contains, past_block}
+use Rattle.delta.proofs.PartFacts.{nothing_read}
+use Rattle.edits.proofs.BlockFacts.{block_byte, length-block}
 
-zero_byte : (n j : ℕ) → get_or (replicate {A = ℕ} n 0) j 0 ≡ 0
-zero_byte zero j = refl
-zero_byte (suc n) zero = refl
-zero_byte (suc n) (suc j) = zero_byte n j
+-- the block at a key is that of the tree
+trimmed_at : (t : Tree) (d : Blocks) (p : Path) (i : ℕ) → BlocksMean t d → IsPath p → i < most_blocks → trimmed (held (d (block_key p i))) ≡ trimmed_block t (p, i)
+trimmed_at t d p i of v lt = cases (entry_at t p) refl
+  where
+    file : (b : List ℕ) → look t p ≡ Some (Bytes b) → trimmed (held (d (block_key p i))) ≡ trimmed (block_at i b)
+    file b is =
+        let hold : Hold (λ k. d (block_key p k)) b = of.blocks p b v is in
+        trimmed_same (held (d (block_key p i))) (block_at i b) (λ j. ⊎_elim
+        (λ (lj : j < 4096). sym (held_byte (d (block_key p i)) j) ∙ hold.byte i j lt lj ∙ sym (block_byte i b j lj))
+        (λ (le : 4096 ≤ j). past_block (λ k. d (block_key p k)) b i j hold lt le ∙ sym (get_or_past (block_at i b) j 0 (omega (arith, le, length-block i b))))
+        (cases_lt j 4096))
+
+    no_file : ((b : List ℕ) → look t p ≡ Some (Bytes b) → ⊥) → (o : Option (List ℕ)) → d (block_key p i) ≡ o → trimmed (held o) ≡ trimmed (block_at i [])
+    no_file not None e = ap trimmed (sym (nothing_read 4096 (4096 * i)))
+    no_file not (Some w) e = absurd (no_blocks t p d v not of i w lt e)
+
+    cases : (a : At) → entry_at t p ≡ a → trimmed (held (d (block_key p i))) ≡ trimmed (block_at i (bytes_of a))
+    cases (Found (Dir date es)) e = no_file (λ b f. let g : Some Directory ≡ Some (Bytes b) = sym (ap seen e) ∙ f in cc) (d (block_key p i)) refl
+    cases (Found (File date b)) e = file b (ap seen e)
+    cases Missing e = no_file (λ b f. let g : None ≡ Some (Bytes b) = sym (ap seen e) ∙ f in cc) (d (block_key p i)) refl
+    cases Blocked e = no_file (λ b f. let g : None ≡ Some (Bytes b) = sym (ap seen e) ∙ f in cc) (d (block_key p i)) refl
 
 module _ (t u : Tree) (m n : Metadata) (d e : Blocks) (of_t : IndexesMean t m d) (of_u : IndexesMean u n e) where
   module _ (ms keys : List Key) (of : AreDiffering (λ a b. a ≡ b) m n (λ k. true) ms) (same : HaveSame keys ms) (rising : IsStrictlySortedBy by_bytes keys) (ps : List Path) (paths : All IsPath ps) (have : map enc ps ≡ keys) where
@@ -69,36 +88,21 @@ module _ (t u : Tree) (m n : Metadata) (d e : Blocks) (of_t : IndexesMean t m d)
       cases None (Some v) x y = let b : BlockOf u k = of_u.blocks.only_blocks k v y in record { path = b.path; index = b.index; is_path = b.is_path; few = b.few; key = b.key }
       cases None None x y = absurd (of.differ k there (ap (λ (o : Option (List ℕ)). trimmed (held o)) (x ∙ sym y)))
 
-  -- blocks that are alike are kept
-  kept_block : (p : Path) (i : ℕ) → IsPath p → i < most_blocks → AreAlikeBlocks (d (block_key p i)) (e (block_key p i)) → IsKeptBlock (sight t p) (sight u p) i
-  kept_block p i v lt alike new at there =
-      let hold : Hold (λ k. e (block_key p k)) new = of_u.blocks.blocks p new v (look_from u p (Seen (Bytes new) at) there) in
-      same_block i (resized (sight t p) (length new)) new (length-resized (sight t p) (length new)) (λ j lj within.
-      let l = length-resized (sight t p) (length new) in
-      old_byte (sight t p) refl j lj (omega (arith, within, l)) ∙ alike_bytes (d (block_key p i)) (e (block_key p i)) j alike ∙ hold.byte i j lt lj)
-    where
-      no_file : ((b : List ℕ) → look t p ≡ Some (Bytes b) → ⊥) → (o : Option (List ℕ)) → d (block_key p i) ≡ o → (j : ℕ) → 0 ≡ byte_of o j
-      no_file not None x j = refl
-      no_file not (Some w) x j = absurd (no_blocks t p d v not of_t.blocks i w lt x)
-
-      old_byte : (s : Option Sight) → sight t p ≡ s → (j : ℕ) → j < 4096 → 4096 * i + j < length new → get_or (resized s (length new)) (4096 * i + j) 0 ≡ byte_of (d (block_key p i)) j
-      old_byte None x j lj within = zero_byte (length new) (4096 * i + j) ∙ no_file (λ b y. let z : None ≡ Some (Bytes b) = sym (look_sighted t p ∙ ap (option_map look_of) x) ∙ y in cc) (d (block_key p i)) refl j
-      old_byte (Some (Seen Directory date)) x j lj within = zero_byte (length new) (4096 * i + j) ∙ no_file (λ b y. let z : Some Directory ≡ Some (Bytes b) = sym (look_sighted t p ∙ ap (option_map look_of) x) ∙ y in cc) (d (block_key p i)) refl j
-      old_byte (Some (Seen (Bytes b) date)) x j lj within =
-          let hold : Hold (λ k. d (block_key p k)) b = of_t.blocks.blocks p b v (look_from t p (Seen (Bytes b) date) x) in
-          sized_at b (length new) (4096 * i + j) within ∙ sym (hold.byte i j lt lj)
-
   module _ (bs keys : List Key) (of : AreDiffering AreAlikeBlocks d e (λ k. true) bs) (same : HaveSame keys bs) (rising : IsStrictlySortedBy by_bytes keys) (found : List (Path × ℕ)) (few : (b : Path × ℕ) → Contains found b → IsPath b.0 × (b.1 < most_blocks)) (have : map key_of found ≡ keys) where
     pub blocks_between : AreBlocksBetween t u found
     blocks_between = record {
       paths = few;
+      differ = λ b there alike.
+          let v = few b there in
+          of.differ (key_of b) (same.to (key_of b) (subst (λ (l : List Key). Contains l (key_of b)) have (contains_mapped key_of found b there)))
+          (trimmed_at t d b.0 b.1 of_t.blocks v.0 v.1 ∙ alike ∙ sym (trimmed_at u e b.0 b.1 of_u.blocks v.0 v.1));
       all = λ p i v lt. ⊎_elim
           (λ c.
           let f = map_contains key_of found (block_key p i) (subst (λ (l : List Key). Contains l (block_key p i)) (sym have) (same.from (block_key p i) c)) in
           let w = few f.0 f.1 in
           let g = block_key_injective f.0.0 p f.0.1 i w.0.names v.names (omega (arith, w.1)) (omega (arith, lt)) f.2 in
           inl (subst (λ (q : Path). Contains found (q, i)) g.0 (subst (λ (x : ℕ). Contains found (f.0.0, x)) g.1 f.1)))
-          (λ s. inr (kept_block p i v lt (⊎_elim (λ x. x) (λ x. ap (λ (o : Option (List ℕ)). trimmed (held o)) (x.0 ∙ sym x.1)) s)))
+          (λ s. inr (sym (trimmed_at t d p i of_t.blocks v lt) ∙ ⊎_elim (λ x. x) (λ x. ap (λ (o : Option (List ℕ)). trimmed (held o)) (x.0 ∙ sym x.1)) s ∙ trimmed_at u e p i of_u.blocks v lt))
           (of.all (block_key p i) refl);
       rising = subst (IsStrictlySortedBy by_bytes) (sym have) rising;
     }

@@ -1,5 +1,5 @@
 -- Parts of files as they are read, and the blocks that they are.
-use Rattle.std.proofs.Common.{◌≡◌, ◌≢◌, ◌⊎◌, ⊎_elim, inl, inr, ℕ, zero, suc, ◌+◌, ◌-◌, ◌*◌, ◌<◌, ◌≤◌, min, Bool, false, List, [], ◌∷◌, ◌++◌, length, get_or, take, drop, replicate, refl, sym, ap, subst, ◌∙◌, arith, Option, Some, None, Ok, Err, cond, length-take, length-drop}
+use Rattle.std.proofs.Common.{◌≡◌, ◌≢◌, ◌⊎◌, ⊎_elim, inl, inr, ℕ, zero, suc, ◌+◌, ◌-◌, ◌*◌, ◌<◌, ◌≤◌, min, Bool, false, List, [], ◌∷◌, ◌++◌, length, take, drop, refl, sym, ap, subst, ◌∙◌, arith, Option, Some, None, Ok, Err, cond, length-take, length-drop}
 use Rattle.std.specs.Prelude.{MatchResult, Result, nat_lt}
 use Rattle.std.specs.Global.{Vec}
 use Rattle.std.proofs.lemmas.Bool.{cases_lt, lt-ltb, le-ltb}
@@ -16,15 +16,13 @@ use Rattle.reference.specs.declared.call.Call.TheVariants.{Read}
 use Rattle.reference.specs.declared.reply.Meta.TheVariants.{File as FileMeta}
 use Rattle.reference.specs.declared.reply.Reply.{Reply}
 use Rattle.reference.specs.declared.reply.Reply.TheVariants.{Data, Fault}
-use Rattle.reference.proofs.FileBlocks.{sized_at}
 use Rattle.reference.proofs.LastBlock.{trimmed_same}
 use Rattle.reference.proofs.Touching.{reply_is}
 use Rattle.volume.specs.Typed.{replied}
 use Rattle.edits.specs.Between.{block_change, resized, rewrite}
 use Rattle.edits.specs.Edits.{block_at, block_digest, digest}
 use Rattle.edits.specs.declared.edit.Change.TheVariants.{Block}
-use Rattle.edits.proofs.BlockFacts.{block_byte, length-block}
-use Rattle.edits.proofs.Rewrites.{length-resized}
+use Rattle.edits.proofs.BlockFacts.{block_byte, length-block, length-resized, resized_byte, seen_bytes}
 
 -- ---- what is read
 
@@ -38,7 +36,8 @@ few_read t off n (Found (File date b)) few r h =
 few_read t off n Missing few r h = inr (ENOENT, h, refl)
 few_read t off n Blocked few r h = inr (ENOTDIR, h, refl)
 
-nothing_read : (n off : ℕ) → take n (drop {A = ℕ} off []) ≡ []
+-- no bytes have no part
+pub nothing_read : (n off : ℕ) → take n (drop {A = ℕ} off []) ≡ []
 nothing_read zero zero = refl
 nothing_read zero (suc l) = refl
 nothing_read (suc k) zero = refl
@@ -65,45 +64,16 @@ part_read t p off n answer bytes few told found = ⊎_elim (λ h. go answer foun
 
 -- ---- blocks
 
--- the bytes of a file that is seen
-seen_bytes : Option Sight → List ℕ
-seen_bytes (Some (Seen (Bytes b) at)) = b
-seen_bytes s = []
-
-bytes_seen : (a : At) → bytes_of a ≡ seen_bytes (sighted a)
-unfolding seen_bytes
-bytes_seen (Found (Dir date es)) = refl
-bytes_seen (Found (File date b)) = refl
-bytes_seen Missing = refl
-bytes_seen Blocked = refl
-
--- a byte of a file, where there is one, before its blocks are rewritten
-resized_byte : (s : Option Sight) (n x : ℕ) → x < n → get_or (resized s n) x 0 ≡ get_or (seen_bytes s) x 0
-unfolding seen_bytes
-resized_byte None n x lt = zero_byte n x
-  where
-    zero_byte : (m j : ℕ) → get_or (replicate {A = ℕ} m 0) j 0 ≡ 0
-    zero_byte zero j = refl
-    zero_byte (suc m) zero = refl
-    zero_byte (suc m) (suc j) = zero_byte m j
-resized_byte (Some (Seen Directory at)) n x lt = zero_byte n x
-  where
-    zero_byte : (m j : ℕ) → get_or (replicate {A = ℕ} m 0) j 0 ≡ 0
-    zero_byte zero j = refl
-    zero_byte (suc m) zero = refl
-    zero_byte (suc m) (suc j) = zero_byte m j
-resized_byte (Some (Seen (Bytes b) at)) n x lt = sized_at b n x lt
-
 -- as many bytes as a block of the new file has, from the old one
-old_block : (s : Option Sight) (n i count : ℕ) → count ≡ min (n - 4096 * i) 4096 → trimmed (take count (drop (4096 * i) (seen_bytes s))) ≡ trimmed (block_at i (resized s n))
-old_block s n i count is = trimmed_same (take count (drop (4096 * i) (seen_bytes s))) (block_at i (resized s n)) (λ k. ⊎_elim
+old_block : (a : At) (n i count : ℕ) → count ≡ min (n - 4096 * i) 4096 → trimmed (take count (drop (4096 * i) (bytes_of a))) ≡ trimmed (block_at i (resized (sighted a) n))
+old_block a n i count is = trimmed_same (take count (drop (4096 * i) (bytes_of a))) (block_at i (resized (sighted a) n)) (λ k. ⊎_elim
     (λ (lt : k < count).
-    get_or-take count (drop (4096 * i) (seen_bytes s)) k 0 lt ∙ get_or-drop (4096 * i) (seen_bytes s) k 0
-    ∙ sym (resized_byte s n (4096 * i + k) (omega (arith, is, lt))) ∙ sym (block_byte i (resized s n) k (omega (arith, is, lt))))
+    get_or-take count (drop (4096 * i) (bytes_of a)) k 0 lt ∙ get_or-drop (4096 * i) (bytes_of a) k 0
+    ∙ sym (resized_byte a n (4096 * i + k) (omega (arith, is, lt))) ∙ sym (block_byte i (resized (sighted a) n) k (omega (arith, is, lt))))
     (λ (le : count ≤ k).
-    let l : length (block_at i (resized s n)) ≡ min 4096 (length (resized s n) - 4096 * i) = length-block i (resized s n) in
-    let m : length (take count (drop (4096 * i) (seen_bytes s))) ≡ min count (length (drop (4096 * i) (seen_bytes s))) = length-take count (drop (4096 * i) (seen_bytes s)) in
-    get_or_past (take count (drop (4096 * i) (seen_bytes s))) k 0 (omega (arith, m, le)) ∙ sym (get_or_past (block_at i (resized s n)) k 0 (omega (arith, l, length-resized s n, is, le))))
+    let l : length (block_at i (resized (sighted a) n)) ≡ min 4096 (length (resized (sighted a) n) - 4096 * i) = length-block i (resized (sighted a) n) in
+    let m : length (take count (drop (4096 * i) (bytes_of a))) ≡ min count (length (drop (4096 * i) (bytes_of a))) = length-take count (drop (4096 * i) (bytes_of a)) in
+    get_or_past (take count (drop (4096 * i) (bytes_of a))) k 0 (omega (arith, m, le)) ∙ sym (get_or_past (block_at i (resized (sighted a) n)) k 0 (omega (arith, l, length-resized (sighted a) n, is, le))))
     (cases_lt k count))
 
 new_block : (c : List ℕ) (i count : ℕ) → count ≡ min (length c - 4096 * i) 4096 → take count (drop (4096 * i) c) ≡ block_at i c
@@ -134,13 +104,12 @@ block_past s r n at i h past =
 pub block_rewritten : (t u : Tree) (p : Path) (n at i count : ℕ) (was is : List ℕ) (sum : Option (List ℕ)) (bytes : List ℕ) → meta_of (sight u p) ≡ Some (FileMeta n at) → 4096 * i < n → count ≡ min (n - 4096 * i) 4096
     → was ≡ take count (drop (4096 * i) (bytes_of (entry_at t p))) → is ≡ take count (drop (4096 * i) (bytes_of (entry_at u p))) → sum ≡ block_digest was → bytes ≡ trimmed is
     → Some (Block i sum bytes) ≡ block_change (sight t p) (sight u p) i
-unfolding seen_bytes
 block_rewritten t u p n at i count was is sum bytes h inside few read_was read_is digested kept =
     let (c, e, l) = file_seen (sight u p) n at h in
     let size : count ≡ min (length c - 4096 * i) 4096 = omega (arith, few, l) in
     let old : sum ≡ block_digest (block_at i (resized (sight t p) (length c))) =
-    digested ∙ ap digest (ap trimmed (read_was ∙ ap (λ (x : List ℕ). take count (drop (4096 * i) x)) (bytes_seen (entry_at t p))) ∙ old_block (sight t p) (length c) i count size) in
+    digested ∙ ap digest (ap trimmed read_was ∙ old_block (entry_at t p) (length c) i count size) in
     let new : bytes ≡ trimmed (block_at i c) =
-    kept ∙ ap trimmed (read_is ∙ ap (λ (x : List ℕ). take count (drop (4096 * i) x)) (bytes_seen (entry_at u p) ∙ ap seen_bytes e) ∙ new_block c i count size) in
+    kept ∙ ap trimmed (read_is ∙ ap (λ (x : List ℕ). take count (drop (4096 * i) x)) (seen_bytes (entry_at u p) c at e) ∙ new_block c i count size) in
     ap (λ (x : Option (List ℕ)). Some (Block i x bytes)) old ∙ ap (λ (x : List ℕ). Some (Block i (block_digest (block_at i (resized (sight t p) (length c)))) x)) new
     ∙ sym (ap (λ (x : Option Sight). block_change (sight t p) x i) e ∙ ap (λ (b : Bool). cond b (Some (rewrite (sight t p) i c)) None) (lt-ltb (4096 * i) (length c) (omega (arith, inside, l))))

@@ -19,7 +19,7 @@ use Rattle.reference.specs.Shape.{IsTree}
 use Rattle.reference.specs.Worlds.{World}
 use Rattle.volume.specs.Volumes.{Means, PVolume}
 use Rattle.edits.specs.Applies.{Applied}
-use Rattle.edits.specs.Between.{key_of}
+use Rattle.edits.specs.Between.{AreBlocksBetween, AreEntriesBetween, edits_between, key_of}
 use Rattle.edits.specs.Edits.{AreEdited}
 use Rattle.edits.specs.Lines.{AreEdits}
 use Rattle.edits.specs.declared.edit.Edit.{Edit}
@@ -98,10 +98,24 @@ pub record AreChanged (t u : Tree) (ps : List Path) : Type 0 where
 -- ---- the edits between trees
 
 -- the text has edits that make the second tree of the first
-abbrev pub PrintsEdits : Text → Tree → Tree → Type 0
-PrintsEdits text t u = (es : List Edit) × AreEdits text es × AreEdited es t u
+abbrev pub EditsMake : Text → Tree → Tree → Type 0
+EditsMake text t u = (es : List Edit) × AreEdits text es × AreEdited es t u
 
--- applying the edits that were printed of two trees to a volume that abstracts to the first gives one that abstracts to the second, and
--- snapshots stay
+-- the text has the edits between the trees: those for exactly the paths at which their entries differ, and exactly the blocks that do; and
+-- they make the second tree of the first
+pub record PrintsEdits (text : Text) (t u : Tree) : Type 0 where
+  pub paths : List Path
+  pub blocks : List (Path × ℕ)
+  pub entries : AreEntriesBetween t u paths
+  pub differing : AreBlocksBetween t u blocks
+  pub are : AreEdits text (edits_between t u paths blocks)
+  pub make : AreEdited (edits_between t u paths blocks) t u
+
+-- there is one such text
+abbrev pub OneTextLaw : Type 0
+OneTextLaw = (text other : Text) (t u : Tree) → PrintsEdits text t u → PrintsEdits other t u → text ≡ other
+
+-- applying edits that make one tree of another, as those that are printed of two trees do, to a volume that abstracts to the first gives
+-- one that abstracts to the second, and snapshots stay
 abbrev pub EditsRoundTripLaw : Type 0
-EditsRoundTripLaw = (text : Text) (t u : Tree) (old new : PVolume) (w : World) → IsTree t → PrintsEdits text t u → Means old w → w.live ≡ t → Applied text old new → Means new (record w { live = u })
+EditsRoundTripLaw = (text : Text) (t u : Tree) (old new : PVolume) (w : World) → IsTree t → EditsMake text t u → Means old w → w.live ≡ t → Applied text old new → Means new (record w { live = u })

@@ -1,15 +1,18 @@
 -- Blocks of a file's bytes.
-use Rattle.std.proofs.Common.{◌≡◌, ◌≢◌, ⊎_elim, ℕ, ◌+◌, ◌-◌, ◌*◌, ◌/◌, ◌%◌, ◌<◌, ◌≤◌, min, List, length, get_or, drop, [], ◌∷◌, zero, suc, sym, ap, subst, ◌∙◌, arith, length-take, length-drop}
+use Rattle.std.proofs.Common.{◌≡◌, ◌≢◌, ⊎_elim, ℕ, ◌+◌, ◌-◌, ◌*◌, ◌/◌, ◌%◌, ◌<◌, ◌≤◌, min, List, length, get_or, drop, replicate, [], ◌∷◌, zero, suc, Option, None, Some, refl, sym, ap, subst, ◌∙◌, arith, length-take, length-drop}
 use Rattle.std.proofs.lemmas.Bool.{cases_lt}
 use Rattle.std.proofs.lemmas.Grind.{same_number_lists}
 use Rattle.std.proofs.lemmas.List.Elements.{All-cons, All-drop, All-head, All-tail, All-take}
-use Rattle.std.proofs.lemmas.List.{get_or-drop, get_or-take}
+use Rattle.std.proofs.lemmas.List.{get_or-drop, get_or-take, length-replicate}
+use Rattle.reference.specs.Calls.{bytes_of}
 use Rattle.reference.specs.Image.{trimmed}
+use Rattle.reference.specs.Reads.{Bytes, Directory, Seen, Sight, sighted}
 use Rattle.reference.specs.Shape.{AreBytes}
-use Rattle.reference.specs.Tree.{sized}
+use Rattle.reference.specs.Tree.{At, Blocked, Dir, File, Found, Missing, sized}
 use Rattle.reference.proofs.Contents.{length-over, length-sized}
 use Rattle.reference.proofs.FileBlocks.{over_after, over_before, over_inside, sized_at}
 use Rattle.reference.proofs.ImageBytes.{keep, trimmed_byte, trimmed_is}
+use Rattle.edits.specs.Between.{resized}
 use Rattle.edits.specs.Edits.{block_at, with_block}
 
 pub length-block : (i : ℕ) (b : List ℕ) → length (block_at i b) ≡ min 4096 (length b - 4096 * i)
@@ -91,3 +94,37 @@ bytes-trimmed (b ∷ bs) all = subst AreBytes (sym (trimmed_is b bs)) (bytes-kep
 
 pub bytes-block : (i : ℕ) (b : List ℕ) → AreBytes b → AreBytes (block_at i b)
 bytes-block i b all = All-take (λ z. z < 256) 4096 (drop (4096 * i) b) (All-drop (λ z. z < 256) (4096 * i) b all)
+
+-- ---- a file before its blocks are rewritten
+
+pub length-resized : (s : Option Sight) (n : ℕ) → length (resized s n) ≡ n
+length-resized None n = length-replicate {A = ℕ} n 0
+length-resized (Some (Seen Directory at)) n = length-replicate {A = ℕ} n 0
+length-resized (Some (Seen (Bytes b) at)) n = length-sized b n
+
+zero_byte : (n x : ℕ) → get_or (replicate {A = ℕ} n 0) x 0 ≡ 0
+zero_byte zero x = refl
+zero_byte (suc n) zero = refl
+zero_byte (suc n) (suc x) = zero_byte n x
+
+-- a byte of it is that of the old file
+pub resized_byte : (a : At) (n x : ℕ) → x < n → get_or (resized (sighted a) n) x 0 ≡ get_or (bytes_of a) x 0
+resized_byte (Found (Dir date es)) n x lt = zero_byte n x
+resized_byte (Found (File date b)) n x lt = sized_at b n x lt
+resized_byte Missing n x lt = zero_byte n x
+resized_byte Blocked n x lt = zero_byte n x
+
+-- the bytes of a file that is seen
+pub seen_bytes : (a : At) (c : List ℕ) (at : ℕ) → sighted a ≡ Some (Seen (Bytes c) at) → bytes_of a ≡ c
+seen_bytes (Found (Dir date es)) c at e = absurd (cc)
+seen_bytes (Found (File date b)) c at e = cc
+seen_bytes Missing c at e = absurd (cc)
+seen_bytes Blocked c at e = absurd (cc)
+
+-- a block with the same bytes up to zeros at the end is already that of the new file
+pub kept_block : (a r : At) (i : ℕ) (c : List ℕ) (at : ℕ) → trimmed (block_at i (bytes_of a)) ≡ trimmed (block_at i (bytes_of r)) → sighted r ≡ Some (Seen (Bytes c) at) → block_at i (resized (sighted a) (length c)) ≡ block_at i c
+kept_block a r i c at alike seen =
+    let l : length (resized (sighted a) (length c)) ≡ length c = length-resized (sighted a) (length c) in
+    same_block i (resized (sighted a) (length c)) c l (λ j lj within.
+    resized_byte a (length c) (4096 * i + j) (omega (arith, within, l)) ∙ sym (block_byte i (bytes_of a) j lj) ∙ sym (trimmed_byte (block_at i (bytes_of a)) j)
+    ∙ ap (λ (x : List ℕ). get_or x j 0) (alike ∙ ap (λ (x : List ℕ). trimmed (block_at i x)) (seen_bytes r c at seen)) ∙ trimmed_byte (block_at i c) j ∙ block_byte i c j lj)

@@ -1,5 +1,5 @@
 -- Lists of which each element stands in a relation to all later ones.
-use Rattle.std.proofs.Common.{◌≡◌, ◌⊎◌, ⊎_elim, inl, inr, ℕ, zero, suc, List, [], ◌∷◌, ◌++◌, refl, ap, subst, arith}
+use Rattle.std.proofs.Common.{◌≡◌, ◌⊎◌, ⊎_elim, inl, inr, ℕ, zero, suc, List, [], ◌∷◌, ◌++◌, refl, sym, ap, subst, ◌∙◌, arith}
 use Rattle.std.specs.Prelude.{map}
 use Rattle.std.specs.List.{AllByRecursion, Contains}
 use Rattle.std.specs.List.Sorted.{IsStrictlySortedBy}
@@ -7,6 +7,7 @@ use Rattle.std.specs.declared.cmp.Ordering.TheVariants.{Less}
 use Rattle.std.specs.Ordering.{is_lt}
 use Rattle.pathkey.specs.Order.{by_bytes}
 use Rattle.pathkey.proofs.KeyOrder.{less_from_lt, lt_le, reaches-from_before}
+use Rattle.reference.proofs.PathOrder.{not_below_itself}
 use Rattle.std.proofs.lemmas.List.Elements.{Contains-append_cases, Contains-append_right}
 
 -- the first element, or one of the others
@@ -61,3 +62,25 @@ module _ {X : Type 0} (key : X → List ℕ) where
 -- keys below one another
 pub below_below : (a b c : List ℕ) → by_bytes a b ≡ Less → by_bytes b c ≡ Less → by_bytes a c ≡ Less
 below_below a b c x y = less_from_lt (by_bytes a c) (lt_le a b c (ap is_lt x) (reaches-from_before b c (ap is_lt y)))
+
+below_other : (a b : List ℕ) → by_bytes a b ≡ Less → by_bytes b a ≡ Less → ⊥
+below_other a b x y = not_below_itself a (below_below a b a x y)
+
+-- two lists with rising keys that have the same elements are one
+pub one_rising : {X : Type 0} (key : X → List ℕ) (xs ys : List X) → Ordered (Below key) xs → Ordered (Below key) ys → ((x : X) → Contains xs x → Contains ys x) → ((y : X) → Contains ys y → Contains xs y) → xs ≡ ys
+one_rising key [] [] o r to from = refl
+one_rising key [] (y ∷ ys) o r to from = absurd (contains_none y (from y (contains_first y ys)))
+one_rising key (x ∷ xs) [] o r to from = absurd (contains_none x (to x (contains_first x xs)))
+one_rising {X} key (x ∷ xs) (y ∷ ys) o r to from =
+    let rest : xs ≡ ys = one_rising key xs ys o.1 r.1 (λ z there. ⊎_elim (λ (e : y ≡ z). absurd (none z (same ∙ e) (o.0 z there))) (λ c. c) (contains_cases y ys z (to z (contains_more x xs z there))))
+    (λ z there. ⊎_elim (λ (e : x ≡ z). absurd (none z e (subst (λ (w : X). Below key w z) (sym same) (r.0 z there)))) (λ c. c) (contains_cases x xs z (from z (contains_more y ys z there)))) in
+    let first : x ≡ y = same in
+    cc
+  where
+    same : x ≡ y
+    same = ⊎_elim (λ (e : y ≡ x). sym e)
+        (λ (in_ys : Contains ys x). ⊎_elim (λ e. e) (λ (in_xs : Contains xs y). absurd (below_other (key x) (key y) (o.0 y in_xs) (r.0 x in_ys))) (contains_cases x xs y (from y (contains_first y ys))))
+        (contains_cases y ys x (to x (contains_first x xs)))
+
+    none : (z : X) → x ≡ z → Below key x z → ⊥
+    none z e b = not_below_itself (key x) (subst (λ (w : X). Below key x w) (sym e) b)

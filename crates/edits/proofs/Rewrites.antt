@@ -3,7 +3,6 @@ use Rattle.std.proofs.Common.{◌≡◌, ◌≢◌, ◌⊎◌, ⊎_elim, inl, in
 use Rattle.std.specs.Prelude.{nat_lt}
 use Rattle.std.specs.List.{Contains}
 use Rattle.std.proofs.lemmas.Bool.{cases_eq, cases_lt, ltb-false, ltb-true}
-use Rattle.std.proofs.lemmas.List.{length-replicate}
 use Rattle.std.proofs.lemmas.List.Elements.{Contains-append_right}
 use Rattle.message.proofs.NextKey.{by_bool}
 use Rattle.pathkey.specs.Enc.{enc}
@@ -15,23 +14,17 @@ use Rattle.reference.specs.Image.{trimmed}
 use Rattle.reference.specs.Indexes.{most_blocks}
 use Rattle.reference.specs.Reads.{Bytes, Directory, Seen, Sight, sight}
 use Rattle.reference.specs.Shape.{IsContent, IsMoment, IsTree}
-use Rattle.reference.specs.Tree.{Path, Tree}
-use Rattle.reference.proofs.Contents.{length-sized}
+use Rattle.reference.specs.Tree.{Path, Tree, entry_at}
 use Rattle.reference.proofs.PathOrder.{not_below_itself}
 use Rattle.reference.proofs.TreeEdits.{sights_may}
 use Rattle.edits.specs.Between.{AreBlocksBetween, block_change, edit_of, key_of, resized, rewrite, rewrites}
 use Rattle.edits.specs.Edits.{AreEdited, FitsBlock, IsEdited, block_at, block_digest, seen_after, with_block}
 use Rattle.edits.specs.declared.edit.Change.{Change}
 use Rattle.edits.proofs.Arrivals.{between}
-use Rattle.edits.proofs.BlockFacts.{block_past, bytes-block, bytes-trimmed, length-block, length-trimmed, length-with_block, same_blocks, with_block_itself, with_block_other}
+use Rattle.edits.proofs.BlockFacts.{block_past, bytes-block, bytes-trimmed, kept_block, length-block, length-resized, length-trimmed, length-with_block, same_blocks, with_block_itself, with_block_other}
 use Rattle.edits.proofs.EditTrees.{Makes, content_seen, rewritten_block}
 use Rattle.edits.proofs.Ordered.{Below, Ordered, contains_first, contains_more, contains_none, contains_cases, later, ordered}
 use Rattle.edits.proofs.Removals.{edited_append, one_edit}
-
-pub length-resized : (s : Option Sight) (n : ℕ) → length (resized s n) ≡ n
-length-resized None n = length-replicate {A = ℕ} n 0
-length-resized (Some (Seen Directory at)) n = length-replicate {A = ℕ} n 0
-length-resized (Some (Seen (Bytes b) at)) n = length-sized b n
 
 pub path_cases : (p q : Path) → IsPath p → IsPath q → (p ≡ q) ⊎ (p ≢ q)
 path_cases p q v w = by_bool (same (enc p) (enc q)) ((p ≡ q) ⊎ (p ≢ q))
@@ -66,7 +59,7 @@ module _ (t u : Tree) (is_u : IsTree u) (bs : List (Path × ℕ)) (of : AreBlock
       record {
         size = length-resized (sight t q) (length c);
         before = λ i lt there. refl;
-        after = λ i lt off. ⊎_elim (λ there. absurd (off there)) (λ k. k c date e) (of.all q i v lt);
+        after = λ i lt off. ⊎_elim (λ there. absurd (off there)) (λ alike. kept_block (entry_at t q) (entry_at u q) i c date alike e) (of.all q i v lt);
       },
     );
     other = λ q v none. at q v ∙ plain (sight t q) (sight u q) none;

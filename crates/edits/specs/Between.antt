@@ -5,10 +5,11 @@ use Rattle.std.specs.List.Sorted.{IsStrictlySortedBy}
 use Rattle.pathkey.specs.Keys.{Key, block_key, enc}
 use Rattle.pathkey.specs.Names.{IsPath}
 use Rattle.pathkey.specs.Order.{by_bytes}
+use Rattle.reference.specs.Calls.{bytes_of}
 use Rattle.reference.specs.Image.{trimmed}
 use Rattle.reference.specs.Indexes.{meta_of, most_blocks}
 use Rattle.reference.specs.Reads.{Bytes, Seen, Sight, sight}
-use Rattle.reference.specs.Tree.{Path, Tree, sized}
+use Rattle.reference.specs.Tree.{Path, Tree, entry_at, sized}
 use Rattle.reference.specs.declared.reply.Meta.{Meta}
 use Rattle.reference.specs.declared.reply.Meta.TheVariants.{Dir as DirMeta, File as FileMeta}
 use Rattle.edits.specs.Edits.{block_at, block_digest}
@@ -78,16 +79,17 @@ pub record AreEntriesBetween (t u : Tree) (ps : List Path) : Type 0 where
   pub all : (p : Path) → IsPath p → Contains ps p ⊎ (meta_of (sight t p) ≡ meta_of (sight u p))
   pub rising : IsStrictlySortedBy by_bytes (map enc ps)
 
--- a block of a file is that of the old file, cut or extended to the new length
-abbrev pub IsKeptBlock : Option Sight → Option Sight → ℕ → Type 0
-IsKeptBlock s r i = (new : List ℕ) (at : ℕ) → r ≡ Some (Seen (Bytes new) at) → block_at i (resized s (length new)) ≡ block_at i new
-
 -- the key of a block
 abbrev pub key_of : Path × ℕ → Key
 key_of b = block_key b.0 b.1
 
--- all blocks at which files differ are among these, which rise
+-- the bytes of a block of a tree, without zeros at the end; none if there is no such file, or if it ends before the block
+abbrev pub trimmed_block : Tree → Path × ℕ → List ℕ
+trimmed_block t b = trimmed (block_at b.1 (bytes_of (entry_at t b.0)))
+
+-- at exactly these blocks the trees have different bytes, up to zeros at the end, and their keys rise
 pub record AreBlocksBetween (t u : Tree) (bs : List (Path × ℕ)) : Type 0 where
   pub paths : (b : Path × ℕ) → Contains bs b → IsPath b.0 × (b.1 < most_blocks)
-  pub all : (p : Path) (i : ℕ) → IsPath p → i < most_blocks → Contains bs (p, i) ⊎ IsKeptBlock (sight t p) (sight u p) i
+  pub differ : (b : Path × ℕ) → Contains bs b → trimmed_block t b ≢ trimmed_block u b
+  pub all : (p : Path) (i : ℕ) → IsPath p → i < most_blocks → Contains bs (p, i) ⊎ (trimmed_block t (p, i) ≡ trimmed_block u (p, i))
   pub rising : IsStrictlySortedBy by_bytes (map key_of bs)
