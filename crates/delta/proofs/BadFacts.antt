@@ -10,9 +10,10 @@ use Rattle.reference.specs.Image.{Text}
 use Rattle.delta.specs.Deltas.{IsLine, text_of, Command, Stay, Go, Come, IsCommand, IsDigest, IsSomeDelta, commands_text, heading, spelled, parsed}
 use Rattle.textio.specs.Lines.{IsBadBehind}
 use Rattle.textio.proofs.LineFacts.{first_line, same_line}
+use Rattle.textio.proofs.Spelled.{behind_values}
 use Rattle.delta.specs.Texts.{HasNoCommand, IsBadAt, IsNext, NoEnd, Passes, ReadsDelta, command_of, end_text}
 use Rattle.delta.specs.declared.command.DeltaCommand.{DeltaCommand}
-use Rattle.delta.proofs.TextFacts.{behind_commands, commands_append, end_is_no_command, end_line, heading_line, spelled_line, reported_text}
+use Rattle.delta.proofs.TextFacts.{commands_append, end_is_no_command, end_line, heading_line, spelled_line, reported_text}
 
 -- ---- commands that were passed
 
@@ -102,7 +103,7 @@ goes_on : (digest : List ℕ) (cs : List Command) (rest : Text) → IsDigest dig
 goes_on digest cs rest sum are (d, es, is) =
     let cut : heading digest ++ 10 ∷ (commands_text cs ++ rest) ≡ heading d ++ 10 ∷ text_of (parsed es) = sym (append_assoc (heading digest) (10 ∷ commands_text cs) rest) ∙ is.is in
     let both = same_line (heading digest) (heading d) (commands_text cs ++ rest) (text_of (parsed es)) (heading_line digest sum) (heading_line d is.sum) cut in
-    behind_commands cs es rest are is.commands (sym both.1)
+    behind_values Command IsCommand spelled (codes "end") spelled_line end_line end_is_no_command cs es rest are is.commands (sym both.1)
 
 spelled_lines : (cs : List Command) → All IsCommand cs → All IsLine (map spelled cs)
 spelled_lines cs are = All-map IsLine spelled cs (All-weaker IsCommand (λ c. IsLine (spelled c)) spelled_line cs are)

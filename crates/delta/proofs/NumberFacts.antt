@@ -1,18 +1,22 @@
 -- Numbers and digests as words of a line.
-use Rattle.std.proofs.Common.{◌≡◌, ◌≢◌, ℕ, ◌*◌, ◌^◌, ◌<◌, nat_lt, ◌&&◌, List, [], ◌∷◌, length, ◌==◌, true, false, Bool, cond, refl, sym, ap, subst, ◌∙◌, arith, decimal, get_or, Some, None, Option, Result, Ok, Err}
-use Rattle.std.specs.Prelude.{MatchResult, bytes_eq, not}
+use Rattle.std.proofs.Common.{◌≡◌, ◌≢◌, ⊎_elim, ℕ, ◌^◌, ◌<◌, ◌≤◌, nat_lt, ◌&&◌, List, [], ◌∷◌, length, ◌==◌, true, false, Bool, cond, refl, sym, ap, subst, ◌∙◌, arith, decimal, get_or, Some, None, Option, Result, Ok}
+use Rattle.std.specs.Prelude.{bytes_eq, not}
 use Rattle.std.proofs.lemmas.Slice.Eq.{bytes_eq-Decides}
 use Rattle.std.specs.Bool.{Decides}
 use Rattle.std.specs.List.{list_all}
 use Rattle.std.specs.Char.{is_ascii_digit}
 use Rattle.std.specs.Str.Parse.{digits_value}
-use Rattle.std.proofs.lemmas.Bool.{lt-ltb, ltb-true, eqb-true, ne_eqb, false≢true}
+use Rattle.std.proofs.lemmas.Bool.{cases_lt, lt-ltb, ltb-true, eqb-true, ne_eqb, false≢true}
 use Rattle.std.proofs.lemmas.Fmt.{decimal-digits_value, decimal_nonempty, digits_decimal, digits_value-decimal, first_decimal}
+use Rattle.std.proofs.lemmas.List.{get_or_past}
+use Rattle.std.proofs.lemmas.List.Elements.{All-get_or}
 use Rattle.hex.specs.Hex.{IsBytes, decode_sized, encode_lower}
 use Rattle.hex.specs.declared.error.FromHexError.{FromHexError}
-use Rattle.hex.proofs.HexLemmas.{decode_of-ok, decode_sized-encode_lower, decode_sized-ok, decode_sized-twice}
+use Rattle.hex.proofs.HexLemmas.{decode_sized-encode_lower}
+use Rattle.reference.specs.Shape.{AreBytes}
 use Rattle.textio.specs.Values.{is_decimal, number_of}
 use Rattle.textio.proofs.ValueFacts.{own}
+use Rattle.edits.proofs.WordFacts.{Decodes, decoded_as, decoded_digest}
 use Rattle.delta.specs.Deltas.{IsDigest}
 
 -- ---- numbers
@@ -75,27 +79,15 @@ no_number word n none some small e =
 
 -- ---- digests
 
--- the result of decoding into a buffer of 32 bytes, and the contents of the buffer then
-abbrev pub Decodes : List ℕ → Result (Unit {0}) FromHexError → List ℕ → Type 0
-Decodes word r out = MatchResult (decode_sized word 32) (λ bytes. (r ≡ Ok tt) × (out ≡ bytes)) (λ e. r ≡ Err e)
-
 pub digest_decoded : (word out digest : List ℕ) (r : Result (Unit {0}) FromHexError) → Decodes word r out → IsDigest digest → word ≡ encode_lower digest → (r ≡ Ok tt) × (out ≡ digest)
-digest_decoded word out digest r h is e =
-    subst
-    (λ (d : Result (List ℕ) FromHexError). MatchResult d (λ bytes. (r ≡ Ok tt) × (out ≡ bytes)) (λ e. r ≡ Err e))
-    (ap (λ w. decode_sized w 32) e ∙ decode_sized-encode_lower digest 32 is.size is.bytes)
-    h
+digest_decoded word out digest r h is e = decoded_as word out digest r h (ap (λ w. decode_sized w 32) e ∙ decode_sized-encode_lower digest 32 is.size is.bytes)
 
-pub decoded_digest : (word out : List ℕ) (r : Result (Unit {0}) FromHexError) → Decodes word r out → r ≡ Ok tt → IsDigest out
-decoded_digest word out r h ok = go (decode_sized word 32) refl h
-  where
-    go : (d : Result (List ℕ) FromHexError) → decode_sized word 32 ≡ d → MatchResult d (λ bytes. (r ≡ Ok tt) × (out ≡ bytes)) (λ e. r ≡ Err e) → IsDigest out
-    go (Ok bytes) is (parsed, same) =
-        let long : length word ≡ 2 * 32 = decode_sized-ok word 32 bytes is in
-        let all = decode_of-ok word bytes (sym (decode_sized-twice word 32 long) ∙ is) in
-        let size : length out ≡ length bytes = ap length same in
-        record { size = omega (arith, size, long, all.2); bytes = subst IsBytes (sym same) all.3 }
-    go (Err e) is parsed = absurd (let clash : ◌≡◌ {A = Result (Unit {0}) FromHexError} (Ok tt) (Err e) = sym ok ∙ parsed in cc)
+-- numbers that are bytes, also past the end
+are_bytes : (v : List ℕ) → AreBytes v → IsBytes v
+are_bytes v all i = ⊎_elim (λ (lt : i < length v). All-get_or (λ x. x < 256) v i 0 lt all) (λ (le : length v ≤ i). omega (arith, get_or_past v i 0 le)) (cases_lt i (length v))
+
+pub digest_read : (word out : List ℕ) (r : Result (Unit {0}) FromHexError) → Decodes word r out → r ≡ Ok tt → IsDigest out
+digest_read word out r h ok = let d = decoded_digest word out r h ok in record { size = d.size; bytes = are_bytes out d.bytes }
 
 -- ---- words that are compared
 

@@ -1,14 +1,14 @@
 -- Lines of a text, and the lines of commands.
 use Rattle.std.proofs.Common.{◌≡◌, ◌≢◌, ℕ, ◌+◌, ◌%◌, ◌^◌, ◌<◌, List, [], ◌∷◌, ◌++◌, get_or, codes, decimal, refl, sym, ap, subst, ◌∙◌, append_assoc, arith, rules, true}
-use Rattle.std.specs.List.{All}
 use Rattle.std.proofs.lemmas.Bool.{false≢true}
 use Rattle.std.proofs.lemmas.Fmt.{decimal_by_steps, decimal_injective}
 use Rattle.std.proofs.lemmas.List.{append_cancel_left}
-use Rattle.std.proofs.lemmas.List.Elements.{All-nil, All-cons, All-head, All-tail, All-append, All-from_recursion}
+use Rattle.std.proofs.lemmas.List.Elements.{All-nil, All-cons, All-append, All-from_recursion}
 use Rattle.hex.specs.Hex.{encode_lower, decode_of, is_hex_digit}
 use Rattle.hex.proofs.HexLemmas.{decode_of-encode_lower, decode_of-ok, decode_of-same}
 use Rattle.reference.specs.Image.{Text}
 use Rattle.textio.proofs.LineFacts.{same_line}
+use Rattle.textio.proofs.Spelled.{same_values}
 use Rattle.delta.specs.Deltas.{Line, IsLine, text_of, Command, Stay, Go, Come, IsCommand, IsDigest, IsDelta, commands_text, heading, spelled, parsed}
 use Rattle.delta.specs.Texts.{end_text}
 
@@ -89,35 +89,8 @@ same_digits d e a b same = decode_of-same (encode_lower d) d e (decode_of-encode
 pub same_heading : (d e : List ℕ) → IsDigest d → IsDigest e → heading d ≡ heading e → d ≡ e
 same_heading d e a b same = same_digits d e a b (append_cancel_left (codes "delta 1 ") (encode_lower d) (encode_lower e) same)
 
--- ---- the text after commands
-
--- a text that begins with commands, and is the part of a delta after its first line, continues with commands and the end
-pub behind_commands : (cs es : List Command) (rest : Text) → All IsCommand cs → All IsCommand es → text_of (parsed es) ≡ commands_text cs ++ rest
-    → (ds : List Command) × All IsCommand ds × (rest ≡ text_of (parsed ds))
-behind_commands [] es rest a b e = (es, b, sym e)
-behind_commands (c ∷ cs) [] rest a b e =
-    let cut : codes "end" ++ 10 ∷ [] ≡ spelled c ++ 10 ∷ (commands_text cs ++ rest) = e ∙ append_assoc (spelled c) (10 ∷ commands_text cs) rest in
-    absurd (end_is_no_command c (same_line (codes "end") (spelled c) [] (commands_text cs ++ rest) end_line (spelled_line c (All-head IsCommand c cs a)) cut).0)
-behind_commands (c ∷ cs) (d ∷ es) rest a b e =
-    let cut : spelled d ++ 10 ∷ text_of (parsed es) ≡ spelled c ++ 10 ∷ (commands_text cs ++ rest) = e ∙ append_assoc (spelled c) (10 ∷ commands_text cs) rest in
-    let both = same_line (spelled d) (spelled c) (text_of (parsed es)) (commands_text cs ++ rest) (spelled_line d (All-head IsCommand d es b)) (spelled_line c (All-head IsCommand c cs a)) cut in
-    behind_commands cs es rest (All-tail IsCommand c cs a) (All-tail IsCommand d es b) both.1
-
--- commands are known from their text
-pub same_commands : (cs es : List Command) → All IsCommand cs → All IsCommand es → text_of (parsed cs) ≡ text_of (parsed es) → cs ≡ es
-same_commands [] [] a b e = refl
-same_commands [] (d ∷ es) a b e = absurd (end_is_no_command d (same_line (codes "end") (spelled d) [] (text_of (parsed es)) end_line (spelled_line d (All-head IsCommand d es b)) e).0)
-same_commands (c ∷ cs) [] a b e = absurd (end_is_no_command c (same_line (codes "end") (spelled c) [] (text_of (parsed cs)) end_line (spelled_line c (All-head IsCommand c cs a)) (sym e)).0)
-same_commands (c ∷ cs) (d ∷ es) a b e =
-    let is_c = All-head IsCommand c cs a in
-    let is_d = All-head IsCommand d es b in
-    let both = same_line (spelled c) (spelled d) (text_of (parsed cs)) (text_of (parsed es)) (spelled_line c is_c) (spelled_line d is_d) e in
-    let first : c ≡ d = same_spelled c d is_c is_d both.0 in
-    let more : cs ≡ es = same_commands cs es (All-tail IsCommand c cs a) (All-tail IsCommand d es b) both.1 in
-    cc
-
 -- a delta has one digest and one list of commands
 pub one_reading : (text : Text) (d e : List ℕ) (cs es : List Command) → IsDelta text d cs → IsDelta text e es → (d ≡ e) × (cs ≡ es)
 one_reading text d e cs es a b =
     let both = same_line (heading d) (heading e) (text_of (parsed cs)) (text_of (parsed es)) (heading_line d a.sum) (heading_line e b.sum) (sym a.is ∙ b.is) in
-    (same_heading d e a.sum b.sum both.0, same_commands cs es a.commands b.commands both.1)
+    (same_heading d e a.sum b.sum both.0, same_values Command IsCommand spelled (codes "end") spelled_line end_line end_is_no_command same_spelled cs es a.commands b.commands both.1)

@@ -7,9 +7,10 @@ use Rattle.pathkey.proofs.Pieces.{not_lacking}
 use Rattle.reference.specs.Image.{Text}
 use Rattle.textio.specs.Lines.{IsBadBehind, IsFirstBad, IsLine, Line, text_of}
 use Rattle.textio.proofs.LineFacts.{first_line, same_line, text_append}
+use Rattle.textio.proofs.Spelled.{behind_values}
 use Rattle.edits.specs.Lines.{AreEdits, AreSomeEdits, IsEdit, heading, listed, spelled}
 use Rattle.edits.specs.declared.edit.Edit.{Edit}
-use Rattle.edits.proofs.TextFacts.{behind_edits, end_is_no_edit, end_line, heading_line, spelled_line, spelled_lines}
+use Rattle.edits.proofs.TextFacts.{end_is_no_edit, end_line, heading_line, spelled_line, spelled_lines}
 
 -- ---- texts of edits
 
@@ -46,7 +47,7 @@ goes_on : (es : List Edit) (rest : Text) → All IsEdit es → AreSomeEdits (tex
 goes_on es rest are (fs, is) =
     let cut : heading ++ 10 ∷ (text_of (map spelled es) ++ rest) ≡ heading ++ 10 ∷ text_of (listed fs) = sym (append_assoc heading (10 ∷ text_of (map spelled es)) rest) ∙ is.is in
     let both = same_line heading heading (text_of (map spelled es) ++ rest) (text_of (listed fs)) heading_line heading_line cut in
-    behind_edits es fs rest are is.edits (sym both.1)
+    behind_values Edit IsEdit spelled (codes "end") spelled_line end_line end_is_no_edit es fs rest are is.edits (sym both.1)
 
 -- it has a line feed
 never_a_line : (fs : List Edit) → IsLine (text_of (listed fs)) → ⊥

@@ -22,7 +22,7 @@ use Rattle.volume.specs.Typed.{replied}
 use Rattle.volume.specs.Volumes.{Means, PVolume}
 use Rattle.edits.specs.Applies.{Performs}
 use Rattle.edits.specs.Edits.{FitsBlock, block_at, block_digest}
-use Rattle.edits.specs.Tried.{EachSight, Tells}
+use Rattle.edits.specs.Tried.{EachSight, WhetherDone}
 use Rattle.edits.specs.declared.edit.Change.{Change}
 use Rattle.edits.specs.declared.edit.Change.TheVariants.{Add, Alter, Block, Remove}
 use Rattle.edits.specs.declared.edit.Edit.{Edit}
@@ -79,12 +79,12 @@ parent_from v p found at seen is = λ w m. subst (λ (x : Option ℕ). MatchOpti
 
 -- ---- an entry that is removed
 
-pub directory_removed : (p : Path) (date at : ℕ) (r : Answer) (told : Told) (old new : PVolume) → p ≢ [] → HasMeta old p (DirMeta date) → HasParent old p at → Called (Rmdir p) at (replied (λ _. Done) r) old new → Tells r told
+pub directory_removed : (p : Path) (date at : ℕ) (r : Answer) (told : Told) (old new : PVolume) → p ≢ [] → HasMeta old p (DirMeta date) → HasParent old p at → Called (Rmdir p) at (replied (λ _. Done) r) old new → WhetherDone r told
     → Performs (record { path = p; change = Remove (DirMeta date) }) told old new
 directory_removed p date at r told old new ne fits above h tells =
     tried (record { path = p; change = Remove (DirMeta date) }) (λ t. does at t (Rmdir p)) (λ _. Done) r told old new (λ x. refl) (call_tries (Rmdir p) at (replied (λ _. Done) r) old new h) (λ w m. rmdir_carries at w.live p date ne (fits w m) (above w m)) tells
 
-pub file_removed : (p : Path) (n date at : ℕ) (r : Answer) (told : Told) (old new : PVolume) → HasMeta old p (FileMeta n date) → HasParent old p at → Called (Unlink p) at (replied (λ _. Done) r) old new → Tells r told
+pub file_removed : (p : Path) (n date at : ℕ) (r : Answer) (told : Told) (old new : PVolume) → HasMeta old p (FileMeta n date) → HasParent old p at → Called (Unlink p) at (replied (λ _. Done) r) old new → WhetherDone r told
     → Performs (record { path = p; change = Remove (FileMeta n date) }) told old new
 file_removed p n date at r told old new fits above h tells =
     tried (record { path = p; change = Remove (FileMeta n date) }) (λ t. does at t (Unlink p)) (λ _. Done) r told old new (λ x. refl) (call_tries (Unlink p) at (replied (λ _. Done) r) old new h)
@@ -92,18 +92,18 @@ file_removed p n date at r told old new fits above h tells =
 
 -- ---- an entry that is added
 
-pub entry_added : (p : Path) (m : Meta) (r : Answer) (told : Told) (old new : PVolume) → EachSight old p (λ s. s ≡ None) → Plants p m r old new → Tells r told → Performs (record { path = p; change = Add m }) told old new
+pub entry_added : (p : Path) (m : Meta) (r : Answer) (told : Told) (old new : PVolume) → EachSight old p (λ s. s ≡ None) → Plants p m r old new → WhetherDone r told → Performs (record { path = p; change = Add m }) told old new
 entry_added p m r told old new free h tells =
     tried (record { path = p; change = Add m }) (λ t. planting (planted t p m)) (λ _. Done) r told old new (λ x. refl) (plant_tries p m r old new h) (λ w mw. plant_carries w.live p m mw.live.indexes.tree (free w mw)) tells
 
 -- ---- an entry that is altered
 
-pub directory_altered : (p : Path) (date at : ℕ) (r : Answer) (told : Told) (old new : PVolume) → HasMeta old p (DirMeta date) → SetsMtime p at (replied (λ _. Done) r) old new → Tells r told
+pub directory_altered : (p : Path) (date at : ℕ) (r : Answer) (told : Told) (old new : PVolume) → HasMeta old p (DirMeta date) → SetsMtime p at (replied (λ _. Done) r) old new → WhetherDone r told
     → Performs (record { path = p; change = Alter (DirMeta date) (DirMeta at) }) told old new
 directory_altered p date at r told old new fits h tells =
     tried (record { path = p; change = Alter (DirMeta date) (DirMeta at) }) (λ t. mtime_set at t p) (λ _. Done) r told old new (λ x. refl) (mtime_tries p at (replied (λ _. Done) r) old new h) (λ w m. mtime_carries at w.live p date (fits w m)) tells
 
-pub file_altered : (p : Path) (len date n at : ℕ) (r : Answer) (told : Told) (old new : PVolume) → HasMeta old p (FileMeta len date) → Called (Truncate p n) at (replied (λ _. Done) r) old new → Tells r told
+pub file_altered : (p : Path) (len date n at : ℕ) (r : Answer) (told : Told) (old new : PVolume) → HasMeta old p (FileMeta len date) → Called (Truncate p n) at (replied (λ _. Done) r) old new → WhetherDone r told
     → Performs (record { path = p; change = Alter (FileMeta len date) (FileMeta n at) }) told old new
 file_altered p len date n at r told old new fits h tells =
     tried (record { path = p; change = Alter (FileMeta len date) (FileMeta n at) }) (λ t. does at t (Truncate p n)) (λ _. Done) r told old new (λ x. refl) (call_tries (Truncate p n) at (replied (λ _. Done) r) old new h)
@@ -130,7 +130,7 @@ module _ (p : Path) (i : ℕ) (digest : Option (List ℕ)) (bytes : List ℕ) (v
 
     pub block_rewritten : (start size : ℕ) (block : List ℕ) (r : Result ℕ Errno) (told : Told) (new : PVolume) → start ≡ 4096 * i → 4096 * i < len → size ≡ min 4096 (len - 4096 * i) → length bytes ≤ size
         → EachSight v p (λ s. (b : List ℕ) (date : ℕ) → s ≡ Some (Seen (Bytes b) date) → block_digest (take 4096 (drop start b)) ≡ digest)
-        → block ≡ sized bytes size → Called (Write p start block) at (replied (λ n. Count n) r) v new → Tells r told → Performs rewrites told v new
+        → block ≡ sized bytes size → Called (Write p start block) at (replied (λ n. Count n) r) v new → WhetherDone r told → Performs rewrites told v new
     block_rewritten start size block r told new from inside whole few same is h tells =
         tried rewrites (λ t. does at t (Write p start block)) (λ n. Count n) r told v new (λ n. refl) (call_tries (Write p start block) at (replied (λ n. Count n) r) v new h) carries tells
       where

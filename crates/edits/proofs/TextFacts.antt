@@ -4,7 +4,7 @@ use Rattle.std.specs.Prelude.{IfSome}
 use Rattle.std.specs.List.{All}
 use Rattle.std.proofs.lemmas.Fmt.{decimal_injective}
 use Rattle.std.proofs.lemmas.Option.{same_Some}
-use Rattle.std.proofs.lemmas.List.Elements.{All-append, All-cons, All-from_recursion, All-head, All-map, All-nil, All-tail, All-weaker}
+use Rattle.std.proofs.lemmas.List.Elements.{All-append, All-cons, All-from_recursion, All-map, All-nil, All-weaker}
 use Rattle.pathkey.specs.Names.{Path, IsPath}
 use Rattle.pathkey.specs.declared.errno.Errno.{Errno}
 use Rattle.reference.specs.Image.{Text}
@@ -17,10 +17,11 @@ use Rattle.textio.specs.Lines.{IsLine, Line, text_of}
 use Rattle.textio.specs.Texts.{hex_text}
 use Rattle.textio.specs.Values.{bytes_of, path_of}
 use Rattle.textio.proofs.LineFacts.{same_line}
+use Rattle.textio.proofs.Spelled.{same_values}
 use Rattle.textio.proofs.Written.{all_visible, hex_text_visible}
 use Rattle.edits.specs.Edits.{AreOfOneKind}
 use Rattle.edits.specs.Guesses.{head_of, tail_of}
-use Rattle.edits.specs.Lines.{AreEdits, IsChange, IsDigest, IsEdit, IsMeta, edits_text, entry_letter, change_text, heading, listed, numbers, shown, spelled}
+use Rattle.edits.specs.Lines.{AreEdits, IsChange, IsDigest, IsEdit, IsMeta, entry_letter, change_text, heading, listed, numbers, shown, spelled}
 use Rattle.edits.specs.declared.edit.Change.{Change}
 use Rattle.edits.specs.declared.edit.Change.TheVariants.{Remove, Add, Alter, Block}
 use Rattle.edits.specs.declared.edit.Edit.{Edit}
@@ -183,32 +184,8 @@ end_is_no_change p (Block i old new) e = let h = ap first e in omega (arith, h)
 pub end_is_no_edit : (e : Edit) → codes "end" ≢ spelled e
 end_is_no_edit e = end_is_no_change e.path e.change
 
--- a text that begins with edits, and is one of edits after its first line, continues with edits and the end
-pub behind_edits : (ds es : List Edit) (rest : Text) → All IsEdit ds → All IsEdit es → text_of (listed es) ≡ edits_text ds ++ rest → (fs : List Edit) × All IsEdit fs × (rest ≡ text_of (listed fs))
-behind_edits [] es rest a b e = (es, b, sym e)
-behind_edits (d ∷ ds) [] rest a b e =
-    let parts : codes "end" ++ 10 ∷ [] ≡ spelled d ++ 10 ∷ (edits_text ds ++ rest) = e ∙ append_assoc (spelled d) (10 ∷ edits_text ds) rest in
-    absurd (end_is_no_edit d (same_line (codes "end") (spelled d) [] (edits_text ds ++ rest) end_line (spelled_line d (All-head IsEdit d ds a)) parts).0)
-behind_edits (d ∷ ds) (f ∷ es) rest a b e =
-    let parts : spelled f ++ 10 ∷ text_of (listed es) ≡ spelled d ++ 10 ∷ (edits_text ds ++ rest) = e ∙ append_assoc (spelled d) (10 ∷ edits_text ds) rest in
-    let both = same_line (spelled f) (spelled d) (text_of (listed es)) (edits_text ds ++ rest) (spelled_line f (All-head IsEdit f es b)) (spelled_line d (All-head IsEdit d ds a)) parts in
-    behind_edits ds es rest (All-tail IsEdit d ds a) (All-tail IsEdit f es b) both.1
-
--- edits are known from their text
-same_edits : (es fs : List Edit) → All IsEdit es → All IsEdit fs → text_of (listed es) ≡ text_of (listed fs) → es ≡ fs
-same_edits [] [] a b e = refl
-same_edits [] (f ∷ fs) a b e = absurd (end_is_no_edit f (same_line (codes "end") (spelled f) [] (text_of (listed fs)) end_line (spelled_line f (All-head IsEdit f fs b)) e).0)
-same_edits (d ∷ es) [] a b e = absurd (end_is_no_edit d (same_line (codes "end") (spelled d) [] (text_of (listed es)) end_line (spelled_line d (All-head IsEdit d es a)) (sym e)).0)
-same_edits (d ∷ es) (f ∷ fs) a b e =
-    let one = All-head IsEdit d es a in
-    let two = All-head IsEdit f fs b in
-    let both = same_line (spelled d) (spelled f) (text_of (listed es)) (text_of (listed fs)) (spelled_line d one) (spelled_line f two) e in
-    let head : d ≡ f = same_spelled d f one two both.0 in
-    let more : es ≡ fs = same_edits es fs (All-tail IsEdit d es a) (All-tail IsEdit f fs b) both.1 in
-    cc
-
 -- a text has one list of edits
 pub one_reading : (text : Text) (es fs : List Edit) → AreEdits text es → AreEdits text fs → es ≡ fs
 one_reading text es fs a b =
     let both = same_line heading heading (text_of (listed es)) (text_of (listed fs)) heading_line heading_line (sym a.is ∙ b.is) in
-    same_edits es fs a.edits b.edits both.1
+    same_values Edit IsEdit spelled (codes "end") spelled_line end_line end_is_no_edit same_spelled es fs a.edits b.edits both.1

@@ -21,7 +21,7 @@ use Rattle.volume.specs.Typed.{replied}
 use Rattle.volume.specs.Volumes.{Means, PVolume}
 use Rattle.edits.specs.Applies.{DoesEdits, Performs, Stays}
 use Rattle.edits.specs.Edits.{Fits}
-use Rattle.edits.specs.Tried.{Tells}
+use Rattle.edits.specs.Tried.{WhetherDone}
 use Rattle.edits.specs.declared.edit.Edit.{Edit}
 use Rattle.edits.proofs.Adding.{planting, planting_reply}
 use Rattle.edits.proofs.Ways.{CarriesOut, is_fault}
@@ -114,7 +114,7 @@ refused e o f old new other h carries = (
 
 -- a call that carries an edit out in each tree of the volume, by what it tells
 pub tried : {A : Type 0} (e : Edit) (o : Tree → Outcome) (reply : A → Reply) (r : Result A Errno) (told : Result Bool NoMemory) (old new : PVolume) → ((x : A) → is_fault (reply x) ≡ false)
-    → Tries o (replied reply r) old new → ((w : World) → Means old w → CarriesOut e w.live (o w.live)) → Tells r told → Performs e told old new
+    → Tries o (replied reply r) old new → ((w : World) → Means old w → CarriesOut e w.live (o w.live)) → WhetherDone r told → Performs e told old new
 tried e o reply (Ok x) told old new none h carries tells = subst (λ (z : Result Bool NoMemory). Performs e z old new) (sym tells) (done e o (reply x) old new (none x) h carries)
 tried e o reply (Err ENOMEM) (Ok b) old new none h carries tells = absurd (let z : false ≡ true = tells in cc)
 tried e o reply (Err ENOMEM) (Err g) old new none h carries tells = h.refused ENOMEM refl

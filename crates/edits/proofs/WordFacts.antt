@@ -107,12 +107,12 @@ digits_sized (b ∷ bs) is =
     let long : length (flat_map (two_digits 87) (b ∷ bs)) ≡ 2 * 32 = omega (arith, (decode_of-ok (flat_map (two_digits 87) (b ∷ bs)) (b ∷ bs) read).2, is.size) in
     decode_sized-twice (flat_map (two_digits 87) (b ∷ bs)) 32 long ∙ read
 
-pub digest_decoded : (word out d : List ℕ) (r : Result (Unit {0}) FromHexError) → Decodes word r out → IsDigest d → word ≡ hex_text d → (r ≡ Ok tt) × (out ≡ d)
-digest_decoded word out d r h is e =
-    subst
-    (λ (x : Result (List ℕ) FromHexError). MatchResult x (λ bytes. (r ≡ Ok tt) × (out ≡ bytes)) (λ e. r ≡ Err e))
-    (ap (λ w. decode_sized w 32) e ∙ digits_sized d is)
-    h
+-- a word that decodes was decoded
+pub decoded_as : (word out d : List ℕ) (r : Result (Unit {0}) FromHexError) → Decodes word r out → decode_sized word 32 ≡ Ok d → (r ≡ Ok tt) × (out ≡ d)
+decoded_as word out d r h e = subst (λ (x : Result (List ℕ) FromHexError). MatchResult x (λ bytes. (r ≡ Ok tt) × (out ≡ bytes)) (λ e. r ≡ Err e)) e h
+
+digest_decoded : (word out d : List ℕ) (r : Result (Unit {0}) FromHexError) → Decodes word r out → IsDigest d → word ≡ hex_text d → (r ≡ Ok tt) × (out ≡ d)
+digest_decoded word out d r h is e = decoded_as word out d r h (ap (λ w. decode_sized w 32) e ∙ digits_sized d is)
 
 pub decoded_digest : (word out : List ℕ) (r : Result (Unit {0}) FromHexError) → Decodes word r out → r ≡ Ok tt → IsDigest out
 decoded_digest word out r h ok = go (decode_sized word 32) refl h

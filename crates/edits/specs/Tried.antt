@@ -1,4 +1,4 @@
--- What the look-ups and the call of an edit tell.
+-- What is seen at the path of an edit, and whether its call was done.
 use Rattle.std.specs.Prelude.{◌≡◌, Bool, true, false, Option, Result, Ok, Err, IsErr}
 use Rattle.pathkey.specs.declared.errno.Errno.{Errno}
 use Rattle.pathkey.specs.declared.errno.Errno.TheVariants.{ENOMEM}
@@ -12,8 +12,8 @@ use Rattle.volume.specs.Volumes.{Means, PVolume}
 abbrev pub EachSight : PVolume → Path → (Option Sight → Type 0) → Type 0
 EachSight v p P = (w : World) → Means v w → P (sight w.live p)
 
--- a call that was done did the edit, want of memory is told, and any other error says that the edit was not done
-abbrev pub Tells : {A : Type 0} → Result A Errno → Result Bool NoMemory → Type 0
-Tells (Ok given) told = told ≡ Ok true
-Tells (Err ENOMEM) told = IsErr told
-Tells (Err e) told = told ≡ Ok false
+-- whether a call was done, by its answer: it was, it failed for memory, or any other error says that it was not
+abbrev pub WhetherDone : {A : Type 0} → Result A Errno → Result Bool NoMemory → Type 0
+WhetherDone (Ok given) told = told ≡ Ok true
+WhetherDone (Err ENOMEM) told = IsErr told
+WhetherDone (Err e) told = told ≡ Ok false

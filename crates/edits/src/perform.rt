@@ -6,7 +6,7 @@
 ghost use Rattle.std.specs.Prelude.{◌≡◌, ◌≢◌, ◌↔◌, ℕ, List, IfOk, IsTrue, MatchOption, None, Some, drop, take};
 ghost use Rattle.edits.specs.Applies.{Performs};
 ghost use Rattle.edits.specs.Edits.{block_digest};
-ghost use Rattle.edits.specs.Tried.{EachSight, Tells};
+ghost use Rattle.edits.specs.Tried.{EachSight, WhetherDone};
 ghost use Rattle.pathkey.specs.Names.{parent};
 ghost use Rattle.reference.specs.Indexes.{meta_of};
 ghost use Rattle.reference.specs.Reads.{Bytes as FileBytes, Directory, Seen, sight};
@@ -171,7 +171,7 @@ fn block_has_digest(
 
 /// Whether a call was done. An error other than for memory says that the edit makes no tree.
 fn was_done<T: Drop>(answer: Result<T, Errno>) -> Result<bool, NoMemory>
-    ensures { Tells answer result }
+    ensures { WhetherDone answer result }
 {
     match answer {
         Ok(_) => Ok(true),

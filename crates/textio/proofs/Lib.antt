@@ -7,3 +7,4 @@ pub mod HexFacts
 pub mod Written
 pub mod LineFacts
 pub mod Trimmed
+pub mod Spelled

@@ -1,6 +1,6 @@
 use Rattle.std.proofs.Common.{sym, ◌∙◌, ap}
 use Rattle.hex.specs.Hex.{encode_lower}
-use Rattle.delta.proofs.NumberFacts.{decoded_digest, digest_decoded, other_word, same_word}
+use Rattle.delta.proofs.NumberFacts.{digest_decoded, digest_read, other_word, same_word}
 use Rattle.delta.proofs.header.read_digest.Goals as goal
 
 pub returns-in_default : goal.returns-in_default
@@ -17,6 +17,6 @@ returns-then-ne c = λ digest is e.
 
 pub returns : goal.returns
 returns c = (
-  decoded_digest c.args.word.now c.decode_to_slice.new.out c.decode_to_slice.result c.decode_to_slice.ensures.value c.in-Ok.is,
+  digest_read c.args.word.now c.decode_to_slice.new.out c.decode_to_slice.result c.decode_to_slice.ensures.value c.in-Ok.is,
   same_word c.args.word.now c.as_slice.result.now (sym c.if-ne.false ∙ c.ne.ensures) ∙ c.as_slice.ensures ∙ c.digits_of.ensures,
 )
