@@ -1,5 +1,5 @@
 -- One line: its request, and its answer.
-use Rattle.std.proofs.Common.{◌≡◌, ◌∙◌, ◌++◌, inl, inr, ℕ, ◌<◌, Bool, true, false, List, [], ◌∷◌, length, refl, sym, ap, subst, append-nil, arith}
+use Rattle.std.proofs.Common.{◌≡◌, ◌∙◌, ◌++◌, inl, inr, ℕ, ◌<◌, Bool, true, false, List, [], ◌∷◌, length, refl, sym, subst, append-nil, arith}
 use Rattle.std.specs.Prelude.{IfErr, IsErr, IsErrAnd, OnErr, Option, Result, Ok, Err, not, ◌&&◌}
 use Rattle.std.specs.Io.KnownBytes.{Appends, Keeps}
 use Rattle.std.proofs.KnownBytes.{Appends-kept}
@@ -16,7 +16,7 @@ use Rattle.shell.specs.Requests.{request_of, IsReadAs}
 use Rattle.shell.specs.Replies.{reply_text}
 use Rattle.shell.specs.Script.{Cut, IsHalt, Line, Lines, State, Answered, in_world, Answers, Does, Script, Settles, Tells, settled_reply}
 use Rattle.shell.specs.Runs.{Halts, Leads, Left, Meant, States, Worlds}
-use Rattle.shell.specs.Verdicts.{Judges, fails, is_fault}
+use Rattle.shell.specs.Verdicts.{Judges, fails}
 use Rattle.shell.specs.declared.verdict.Halt.TheVariants as halt
 use Rattle.shell.specs.declared.verdict.Verdict.{Verdict}
 use Rattle.shell.specs.Progress.{last_line}

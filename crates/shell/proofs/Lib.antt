@@ -1,5 +1,6 @@
 pub mod Asking
 pub mod Texts
+pub mod Listing
 pub mod Progress
 pub mod Answering
 pub mod Reading

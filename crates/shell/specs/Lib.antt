@@ -6,4 +6,5 @@ pub mod Runs
 pub mod Progress
 pub mod CommandLine
 pub mod Sessions
+pub mod Listings
 pub mod Drawing

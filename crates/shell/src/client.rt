@@ -1,4 +1,5 @@
 //! Scripts over a client of an engine: the same lines, on a volume that is shared with others.
+use crate::entry_lines::{EntryLines, lines_of};
 use crate::pace::Pace;
 use crate::request::ReadCall;
 use crate::script::{Ending, ScriptFault, run_lines};
@@ -6,7 +7,7 @@ use crate::session::{Session, read_frozen};
 use crate::tidy::Tidy;
 use crate::watch::{Unwatched, Watch};
 use engine::{Client, EngineId};
-use pathkey::{Errno, SnapName};
+use pathkey::{Errno, Path, SnapName};
 use reference::{Call, Reply};
 use std::alloc::Global;
 use std::io::{Read, Write};
@@ -26,6 +27,17 @@ impl<'a, J: EngineId, H: Wait> Session for ClientSession<'a, J, H> {
 
     fn call(&mut self, alloc: Global, call: &Call, at: u64) -> Reply {
         self.client.call(self.rt, alloc, call, at)
+    }
+
+    fn list(&mut self, alloc: Global, path: &Path) -> Result<EntryLines, Errno> {
+        let call = Call::Readdir(path.copy(alloc)?);
+        let reply = self.client.call(self.rt, alloc, &call, 0);
+        match &reply {
+            Reply::Names(entries) => Ok(lines_of(alloc, entries.as_slice())?),
+            Reply::Fault(fault) => Err(*fault),
+            // Unreachable: no other reply is one to a listing.
+            _ => Err(Errno::EINVAL),
+        }
     }
 
     fn snapshot(&mut self, alloc: Global, name: &SnapName) -> Result<(), Errno> {

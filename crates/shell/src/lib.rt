@@ -11,6 +11,7 @@ mod command_line;
 mod dot_trees;
 mod dot_writer;
 mod draw;
+pub mod entry_lines;
 mod flushers;
 mod help;
 mod image_search;

@@ -134,8 +134,12 @@ fn gather_plain<W: Write>(
     Ok(())
 }
 
-// Writes the line of an entry, or a prefix of it.
-fn put_entry<W: Write>(writer: &mut W, kind: Kind, name: &[u8]) -> Result<(), WriteFailed>
+/// Writes the line of an entry, or a prefix of it.
+pub(crate) fn put_entry<W: Write>(
+    writer: &mut W,
+    kind: Kind,
+    name: &[u8],
+) -> Result<(), WriteFailed>
     ensures ok { OnOk result (Appends (W.contents writer.old) (W.contents writer.new) (entry_line (kind, name.now))) }
     ensures err { OnErr result (AppendsPart (W.contents writer.old) (W.contents writer.new) (entry_line (kind, name.now))) }
 {
@@ -145,8 +149,8 @@ fn put_entry<W: Write>(writer: &mut W, kind: Kind, name: &[u8]) -> Result<(), Wr
     Ok(())
 }
 
-// What precedes a name.
-fn name_word(kind: Kind) -> &'static [u8]
+/// What precedes a name.
+pub(crate) fn name_word(kind: Kind) -> &'static [u8]
     ensures { result.now ≡ name_word kind }
 {
     match kind {

@@ -6,6 +6,7 @@ ghost use Rattle.std.specs.Prelude.{◌≡◌, ◌≢◌, ◌≤◌, ◌<◌, �
 ghost use Rattle.std.specs.Io.KnownBytes.{Appends, Keeps};
 ghost use Rattle.textio.specs.Parts.{AppendsPart};
 ghost use Rattle.reference.specs.declared.reply.Reply.TheVariants.{Fault};
+ghost use Rattle.shell.specs.Listings.{Shows};
 ghost use Rattle.shell.specs.Replies.{reply_text};
 ghost use Rattle.shell.specs.Script.{Answers, Does, IsCut, IsHalt, Lines, Script, Answered, settled_reply};
 ghost use Rattle.reference.specs.Worlds.{World};
@@ -16,6 +17,7 @@ ghost use Rattle.shell.specs.Verdicts.{Judges, fails, is_fault};
 ghost use Rattle.textio.specs.Held.{Holds};
 
 use crate::command::read_request;
+use crate::entry_lines::EntryLines;
 use crate::pace::Pace;
 use crate::reply::{put_fault, write_reply};
 use crate::request::Request;
@@ -23,12 +25,13 @@ use crate::session::Session;
 use crate::verdict::{Halt, Verdict};
 use crate::watch::{Unwatched, Watch};
 use pathkey::Errno;
-use reference::Reply;
+use reference::{Call, Reply};
 use std::alloc::Global;
 use std::io::{Read, Write};
 use textio::input::read_some;
 use textio::line_buffer::{LONGEST_LINE, READ_SIZE, push_limited};
 use textio::output::{WriteFailed, flush, put};
+use textio::text::put_number_line;
 use textio::words::split_line;
 use thiserror::Error;
 use volume::Volume;
@@ -327,6 +330,10 @@ fn answer<S: Session, W: Write>(
             *at = *moment;
             put_line(writer, b"ok\n", Verdict::Done)
         }
+        Request::Wanted(Call::Readdir(path)) => {
+            let listed = session.list(alloc, path);
+            put_listing(writer, listed)
+        }
         Request::Wanted(call) => {
             let reply = session.call(alloc, call, *at);
             put_reply(writer, reply)
@@ -380,6 +387,24 @@ fn put_reply<W: Write>(writer: &mut W, reply: Reply) -> Result<Verdict, WriteFai
     drop(reply);
     reported?;
     Ok(verdict)
+}
+
+// Writes the reply to a listing.
+fn put_listing<W: Write>(
+    writer: &mut W,
+    listed: Result<EntryLines, Errno>,
+) -> Result<Verdict, WriteFailed>
+    ensures ok { (r : Reply) → Shows listed r → IfOk result (λ v. Judges v (W.contents writer.old) (W.contents writer.new) (reply_text r)) }
+    ensures err { (r : Reply) → Shows listed r → OnErr result (AppendsPart (W.contents writer.old) (W.contents writer.new) (reply_text r)) }
+{
+    match listed {
+        Ok(lines) => {
+            put_number_line(writer, b"names ", lines.count)?;
+            put(writer, lines.text.as_slice())?;
+            Ok(Verdict::Done)
+        }
+        Err(fault) => put_refusal(writer, fault),
+    }
 }
 
 // Writes the reply to a snapshot call.

@@ -1,12 +1,14 @@
 //! Sessions, on which the lines of a script are executed: a volume, or a client of an engine whose volume is shared.
 ghost use Rattle.reference.specs.Worlds.{World, TakeSnapshot, DropSnapshot, RestoreSnapshot, Ask, Replied, Settled, Fits, next};
+ghost use Rattle.shell.specs.Listings.{Lists};
 ghost use Rattle.shell.specs.Script.{Tells};
 ghost use Rattle.shell.specs.Sessions.{Goes, IsReported};
 ghost use Rattle.volume.specs.Volumes.{Means};
 
+use crate::entry_lines::{EntryLines, read_lines};
 use crate::pace::{Pace, run_steps};
 use crate::request::ReadCall;
-use pathkey::{Errno, SnapName};
+use pathkey::{Errno, Path, SnapName};
 use reference::{Call, Reply};
 use std::alloc::Global;
 use volume::{Frozen, Volume};
@@ -21,6 +23,10 @@ pub trait Session {
     /// Does a file call with a timestamp.
     fn call(&mut self, alloc: Global, call: &Call, at: u64) -> Reply
         ensures { Goes (means self.old) (means self.new) (Ask call.now at) (Replied result) };
+
+    /// Reads the entries of the directory at the path as lines, as the call `readdir` would reply; or returns its fault.
+    fn list(&mut self, alloc: Global, path: &Path) -> Result<EntryLines, Errno>
+        ensures { Lists (means self.old) (means self.new) path.now result };
 
     /// Takes a snapshot of the live tree under the name.
     fn snapshot(&mut self, alloc: Global, name: &SnapName) -> Result<(), Errno>
@@ -48,6 +54,10 @@ impl Session for Volume {
 
     fn call(&mut self, alloc: Global, call: &Call, at: u64) -> Reply {
         self.call(alloc, call, at)
+    }
+
+    fn list(&mut self, alloc: Global, path: &Path) -> Result<EntryLines, Errno> {
+        read_lines(alloc, self.indexes(), path)
     }
 
     fn snapshot(&mut self, alloc: Global, name: &SnapName) -> Result<(), Errno> {

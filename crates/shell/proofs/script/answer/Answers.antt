@@ -1,6 +1,7 @@
-use Rattle.std.proofs.Common.{[], refl}
+use Rattle.std.proofs.Common.{[], refl, ap, ◌∙◌}
 use Rattle.std.proofs.KnownBytes.{Appends-nil}
 use Rattle.reference.specs.Worlds.{TakeSnapshot, DropSnapshot as DropNamed, RestoreSnapshot}
+use Rattle.shell.specs.declared.request.Request.TheVariants.{Wanted}
 use Rattle.std.proofs.lemmas.Result.{IfOk-weaker, on_err_weaker}
 use Rattle.shell.proofs.Answering.{answers_as, answers_kept, answers_moment, answers_call, answers_look, answers_settled}
 use Rattle.shell.proofs.script.answer.Goals as goal
@@ -28,6 +29,18 @@ returns-in-Moment-clause-ok g c = IfOk-weaker c.put_line-in-Moment.result _ _ (�
 
 pub returns-in-Moment-clause-err : goal.returns-in-Moment-clause-err
 returns-in-Moment-clause-err g c = on_err_weaker _ (answers_moment _ _ _ _ _ c.in-Moment.is) c.put_line-in-Moment.ensures.err
+
+pub returns-in-Wanted-Readdir-clause-ok : goal.returns-in-Wanted-Readdir-clause-ok
+returns-in-Wanted-Readdir-clause-ok g c =
+    let call = rw c.in-Wanted-Readdir.is at c.in-Wanted-Readdir.field-0-is in
+    let l = c.list-listed.ensures in
+    IfOk-weaker c.put_listing.result _ _ (λ v. answers_call _ _ _ _ _ _ _ (c.in-Wanted-Readdir.is ∙ ap Wanted call) (l.2 c.args.at.now)) (c.put_listing.ensures.ok l.0 l.1)
+
+pub returns-in-Wanted-Readdir-clause-err : goal.returns-in-Wanted-Readdir-clause-err
+returns-in-Wanted-Readdir-clause-err g c =
+    let call = rw c.in-Wanted-Readdir.is at c.in-Wanted-Readdir.field-0-is in
+    let l = c.list-listed.ensures in
+    on_err_weaker _ (answers_call _ _ _ _ _ _ _ (c.in-Wanted-Readdir.is ∙ ap Wanted call) (l.2 c.args.at.now)) (c.put_listing.ensures.err l.0 l.1)
 
 pub returns-in-Wanted-clause-ok : goal.returns-in-Wanted-clause-ok
 returns-in-Wanted-clause-ok g c = IfOk-weaker c.put_reply.result _ _ (λ v. answers_call _ _ _ _ _ _ _ c.in-Wanted.is c.call-reply.ensures) c.put_reply.ensures.ok
