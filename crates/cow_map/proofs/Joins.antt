@@ -47,7 +47,7 @@ module _ {X : Type 0} where
     pub both_same : joined ts ≡ joined rs
     both_same = ap (λ (x : List (List (List ℕ × X))). joined x) both_is ∙ joined_both (m - 1) rs (omega (arith, p, l))
 
-    pub both_rows : length (get_or rs (m - 1) []) + length (get_or rs m []) ≤ 64 → AreRows rs → AreRows ts
+    pub both_rows : length (get_or rs (m - 1) []) + length (get_or rs m []) ≤ 128 → AreRows rs → AreRows ts
     both_rows few w =
         let one : m ≡ suc (m - 1) = omega (arith, p) in
         let size = sized_at rs (m - 1) w.sized (omega (arith, p, l)) in

@@ -10,7 +10,7 @@ use Rattle.std.proofs.Math.Seq.{drop-append-add}
 use Rattle.std.proofs.lemmas.List.{drop-append-le, length-drop, length-append}
 use Rattle.std.proofs.lemmas.Map.Keys.{sorted_head, sorted_tail}
 use Rattle.pathkey.specs.Order.{by_bytes}
-use Rattle.cow_map.specs.Changes.{IsPut, IsRowChanged, IsEdited}
+use Rattle.cow_map.specs.Changes.{ChangesValue, IsPut, IsRowChanged, IsEdited, IsEditedOrPut}
 use Rattle.cow_map.specs.declared.edit.Edited.{Edited}
 use Rattle.cow_map.specs.declared.edit.Edited.TheVariants.{Done, Absent, Refused}
 use Rattle.cow_map.specs.Places.{Rises, at_key, place, place_past}
@@ -77,7 +77,7 @@ module _ {X : Type 0} where
         let c = around k rs n w e l in
         ap (λ (t : List (List (List ℕ × X))). joined t) s ∙ c.set row ∙ ap (λ (t : List (List ℕ × X)). c.front ++ (t ++ c.back)) h ∙ sym c.is
 
-    changed_rows : (ss : List (List (List ℕ × X))) (row : List (List ℕ × X)) → ss ≡ slice_set rs n row → 0 < length row → length row ≤ 64 → Rises (joined ss) → AreRows ss
+    changed_rows : (ss : List (List (List ℕ × X))) (row : List (List ℕ × X)) → ss ≡ slice_set rs n row → 0 < length row → length row ≤ 128 → Rises (joined ss) → AreRows ss
     changed_rows ss row s p q r = record { rises = r; sized = subst (λ (t : List (List (List ℕ × X))). AreSized t) (sym s) (sized_set n rs row p q w.sized) }
 
     same_rows : (ss : List (List (List ℕ × X))) (row : List (List ℕ × X)) → ss ≡ slice_set rs n row → row ≡ get_or rs n [] → AreRows ss
@@ -94,26 +94,45 @@ module _ {X : Type 0} where
     put_whole v ss (Ok was) h = (row_put v ss h.row h.is h.done.0, h.done.1 ∙ row_value)
     put_whole v ss (Err p) h = (row_same ss h.row h.is h.done.0, h.done.1)
 
-    pub put_rows : (v : X) (ss : List (List (List ℕ × X))) (r : Result (Option X) (List ℕ × X)) → length (get_or rs n []) < 64 → IsRowChanged (IsPut k v) n rs ss r → AreRows ss
+    pub put_rows : (v : X) (ss : List (List (List ℕ × X))) (r : Result (Option X) (List ℕ × X)) → length (get_or rs n []) < 128 → IsRowChanged (IsPut k v) n rs ss r → AreRows ss
     put_rows v ss (Ok was) b h =
         let long : length h.row ≡ length (insert_entry by_bytes (get_or rs n []) k v) = ap (λ (t : List (List ℕ × X)). length t) h.done.0 in
         changed_rows ss h.row h.is (omega (arith, long, put_some k v (get_or rs n []))) (omega (arith, long, b, put_most k v (get_or rs n []))) (put_rises v ss (row_put v ss h.row h.is h.done.0))
     put_rows v ss (Err p) b h = same_rows ss h.row h.is h.done.0
 
     -- the value there was changed
+    module _ {A : Type 0} (does : X → X → A → Type 0) (ss : List (List (List ℕ × X))) (row : List (List ℕ × X)) (s : ss ≡ slice_set rs n row) (a : A) (c : ChangesValue does k (get_or rs n []) row a) where
+      value_whole : ChangesValue does k (joined rs) (joined ss) a
+      value_whole = record { old = c.old; new = c.new; there = sym row_value ∙ c.there; done = c.done; is = row_put c.new ss row s c.is }
+
+      value_rows : Rises (get_or rs n []) → AreRows ss
+      value_rows r =
+          let size = sized_at rs n w.sized l in
+          let long : length row ≡ length (get_or rs n []) = ap (λ (t : List (List ℕ × X)). length t) c.is ∙ put_as_many k c.new c.old (get_or rs n []) r c.there in
+          changed_rows ss row s (omega (arith, long, size.0)) (omega (arith, long, size.1)) (put_rises c.new ss (row_put c.new ss row s c.is))
+
     module _ {A E : Type 0} (does : X → X → A → Type 0) (edit : E) (ss : List (List (List ℕ × X))) where
       pub edit_whole : (r : Edited A E) → IsRowChanged (IsEdited does k edit) n rs ss r → IsEdited does k edit (joined rs) (joined ss) r
-      edit_whole (Done a) h = record { old = h.done.old; new = h.done.new; there = sym row_value ∙ h.done.there; done = h.done.done; is = row_put h.done.new ss h.row h.is h.done.is }
+      edit_whole (Done a) h = value_whole does ss h.row h.is a h.done
       edit_whole (Absent back) h = (sym row_value ∙ h.done.0, row_same ss h.row h.is h.done.1, h.done.2)
       edit_whole (Refused back) h = (row_same ss h.row h.is h.done.0, h.done.1)
 
       pub edit_rows : (r : Edited A E) → Rises (get_or rs n []) → IsRowChanged (IsEdited does k edit) n rs ss r → AreRows ss
-      edit_rows (Done a) r h =
-          let size = sized_at rs n w.sized l in
-          let long : length h.row ≡ length (get_or rs n []) = ap (λ (t : List (List ℕ × X)). length t) h.done.is ∙ put_as_many k h.done.new h.done.old (get_or rs n []) r h.done.there in
-          changed_rows ss h.row h.is (omega (arith, long, size.0)) (omega (arith, long, size.1)) (put_rises h.done.new ss (row_put h.done.new ss h.row h.is h.done.is))
+      edit_rows (Done a) r h = value_rows does ss h.row h.is a h.done r
       edit_rows (Absent back) r h = same_rows ss h.row h.is h.done.1
       edit_rows (Refused back) r h = same_rows ss h.row h.is h.done.0
+
+    -- it was changed, or a value was put where there was none
+    module _ {A E : Type 0} (does : X → X → A → Type 0) (v : X) (ss : List (List (List ℕ × X))) where
+      pub join_whole : (r : Result (Option A) E) → IsRowChanged (IsEditedOrPut does k v) n rs ss r → IsEditedOrPut does k v (joined rs) (joined ss) r
+      join_whole (Ok (Some a)) h = value_whole does ss h.row h.is a h.done
+      join_whole (Ok None) h = (sym row_value ∙ h.done.0, row_put v ss h.row h.is h.done.1)
+      join_whole (Err e) h = row_same ss h.row h.is h.done
+
+      pub join_rows : (r : Result (Option A) E) → Rises (get_or rs n []) → length (get_or rs n []) < 128 → IsRowChanged (IsEditedOrPut does k v) n rs ss r → AreRows ss
+      join_rows (Ok (Some a)) r b h = value_rows does ss h.row h.is a h.done r
+      join_rows (Ok None) r b h = put_rows v ss (Ok None) b (record { row = h.row; is = h.is; done = (h.done.1, sym h.done.0) })
+      join_rows (Err e) r b h = same_rows ss h.row h.is h.done
 
   -- ---- a place in the row that was found, among all entries
 

@@ -34,7 +34,7 @@ module _ {X : Type 0} where
   sized-append [] ss f g = g
   sized-append (r ∷ rs) ss f g = (f.0, f.1, sized-append rs ss f.2 g)
 
-  pub sized_at : (rs : List (List (List ℕ × X))) (m : ℕ) → AreSized rs → m < length rs → (0 < length (get_or rs m [])) × (length (get_or rs m []) ≤ 64)
+  pub sized_at : (rs : List (List (List ℕ × X))) (m : ℕ) → AreSized rs → m < length rs → (0 < length (get_or rs m [])) × (length (get_or rs m []) ≤ 128)
   sized_at [] m f h = absurd (omega arith)
   sized_at (r ∷ rs) zero f h = (f.0, f.1)
   sized_at (r ∷ rs) (suc m) f h = sized_at rs m f.2 (omega arith)
@@ -49,12 +49,12 @@ module _ {X : Type 0} where
   sized_drop (suc m) [] f = tt
   sized_drop (suc m) (r ∷ rs) f = sized_drop m rs f.2
 
-  pub sized_set : (m : ℕ) (rs : List (List (List ℕ × X))) (r : List (List ℕ × X)) → 0 < length r → length r ≤ 64 → AreSized rs → AreSized (slice_set rs m r)
+  pub sized_set : (m : ℕ) (rs : List (List (List ℕ × X))) (r : List (List ℕ × X)) → 0 < length r → length r ≤ 128 → AreSized rs → AreSized (slice_set rs m r)
   sized_set m [] r h l f = f
   sized_set zero (x ∷ rs) r h l f = (h, l, f.2)
   sized_set (suc m) (x ∷ rs) r h l f = (f.0, f.1, sized_set m rs r h l f.2)
 
-  sized_insert : (n : ℕ) (rs : List (List (List ℕ × X))) (r : List (List ℕ × X)) → 0 < length r → length r ≤ 64 → AreSized rs → AreSized (insert rs n r)
+  sized_insert : (n : ℕ) (rs : List (List (List ℕ × X))) (r : List (List ℕ × X)) → 0 < length r → length r ≤ 128 → AreSized rs → AreSized (insert rs n r)
   sized_insert zero rs r h l f = (h, l, f)
   sized_insert (suc n) [] r h l f = (h, l, f)
   sized_insert (suc n) (x ∷ rs) r h l f = (f.0, f.1, sized_insert n rs r h l f.2)
@@ -190,7 +190,7 @@ module _ {X : Type 0} where
   joined_split zero (r ∷ rs) x y h = sym (append_assoc x y (joined rs))
   joined_split (suc m) (r ∷ rs) x y h = ap (λ t. r ++ t) (joined_split m rs x y (omega arith)) ∙ sym (append_assoc r (joined (take m rs)) ((x ++ y) ++ joined (drop (suc m) rs)))
 
-  sized_split : (m : ℕ) (rs : List (List (List ℕ × X))) (x y : List (List ℕ × X)) → 0 < length x → length x ≤ 64 → 0 < length y → length y ≤ 64 → AreSized rs → AreSized (insert (slice_set rs m x) (suc m) y)
+  sized_split : (m : ℕ) (rs : List (List (List ℕ × X))) (x y : List (List ℕ × X)) → 0 < length x → length x ≤ 128 → 0 < length y → length y ≤ 128 → AreSized rs → AreSized (insert (slice_set rs m x) (suc m) y)
   sized_split m rs x y p q s t f = sized_insert (suc m) (slice_set rs m x) y s t (sized_set m rs x p q f)
 
   front_split : (m : ℕ) (rs : List (List (List ℕ × X))) (x y : List (List ℕ × X)) → m < length rs → joined (take (suc m) (insert (slice_set rs m x) (suc m) y)) ≡ joined (take m rs) ++ x

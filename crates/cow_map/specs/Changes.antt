@@ -1,5 +1,5 @@
 -- The effect of a change on entries, and on the value at a key.
-use Rattle.std.specs.Prelude.{◌≡◌, ℕ, ◌-◌, List, [], ◌++◌, take, drop, Option, None, Some, Result, MatchResult}
+use Rattle.std.specs.Prelude.{◌≡◌, ℕ, ◌-◌, List, [], ◌++◌, take, drop, Option, None, Some, MatchOption, Result, MatchResult}
 use Rattle.std.specs.List.{slice_set, slice_index_or, remove_range}
 use Rattle.std.specs.BTreeMap.{insert_entry}
 use Rattle.pathkey.specs.Order.{by_bytes}
@@ -35,6 +35,10 @@ module _ {X : Type 0} where
     pub there : at_key k es ≡ Some old
     pub done : does old new a
     pub is : fs ≡ insert_entry by_bytes es k new
+
+  -- the same, or v was put at the key k where there was no value; nothing was done if an allocation failed
+  abbrev pub IsEditedOrPut : {A E : Type 0} → (X → X → A → Type 0) → List ℕ → X → List (List ℕ × X) → List (List ℕ × X) → Result (Option A) E → Type 0
+  IsEditedOrPut does k v es fs r = MatchResult r (λ answer. MatchOption answer ((at_key k es ≡ None) × (fs ≡ insert_entry by_bytes es k v)) (ChangesValue does k es fs)) (λ _. fs ≡ es)
 
   -- the chunk at index n was changed as `does` says
   pub record IsRowChanged {A : Type 0} (does : List (List ℕ × X) → List (List ℕ × X) → A → Type 0) (n : ℕ) (rs ss : List (List (List ℕ × X))) (answer : A) : Type 0 where

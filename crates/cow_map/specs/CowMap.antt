@@ -8,10 +8,10 @@ module _ {X : Type 0} where
   joined [] = []
   joined (r ∷ rs) = r ++ joined rs
 
-  -- each chunk has an entry, and 64 at most
+  -- each chunk has an entry, and 128 at most
   abbrev pub AreSized : List (List (List ℕ × X)) → Type 0
   AreSized [] = Unit {0}
-  AreSized (r ∷ rs) = (0 < length r) × (length r ≤ 64) × AreSized rs
+  AreSized (r ∷ rs) = (0 < length r) × (length r ≤ 128) × AreSized rs
 
   -- the invariant of the chunks: keys rise strictly, and no chunk is empty or too long
   pub record AreRows (rs : List (List (List ℕ × X))) : Type 0 where

@@ -1,11 +1,11 @@
 //! Changes of a list of chunks that has one owner: an entry is put, edited or moved, and the first entries are dropped.
 ghost use Rattle.std.specs.Prelude.{◌≡◌, ◌<◌, ◌≤◌, [], ◌∷◌, length, drop, OnErr, IfOk};
 ghost use Rattle.cow_map.specs.CowMap.{joined, AreRows};
-ghost use Rattle.cow_map.specs.Changes.{IsPut, IsEdited};
+ghost use Rattle.cow_map.specs.Changes.{IsPut, IsEdited, IsEditedOrPut};
 ghost use Rattle.cow_map.specs.Moves.{IsFirstMoved};
 
 use crate::chunk::Chunk;
-use crate::chunk_edit::{EditEntry, Put, PutEntry};
+use crate::chunk_edit::{EditEntry, EditOrShare, Put, PutEntry};
 use crate::chunks::{
     begin, begin_item, chunk_index, drop_front_of_first, edit_chunk, split_full, whole_rows,
 };
@@ -88,8 +88,34 @@ pub(crate) fn move_first_among<T: CopyValue>(
     }
 }
 
+/// Edits the value in chunks at the key of an entry of another map in place, or puts that entry, which both maps then share, if the
+/// key is absent. If an allocation fails the entries are unchanged.
+pub(crate) fn edit_or_share_among<T: CopyValue, E: Edit<T>>(
+    rows: &mut Vec<Chunk<T>>,
+    item: &SharedEntry<T>,
+    edit: E,
+) -> Result<Option<E::Answer>, NoMemory>
+    requires { AreRows rows.old.items }
+    ensures rows { AreRows rows.new.items }
+    ensures done { IsEditedOrPut (E.does edit) item.now.0 item.now.1 (joined rows.old.items) (joined rows.new.items) result }
+{
+    if rows.is_empty() {
+        let Ok(()) = begin_item(rows, item.share()?) else {
+            return Err(NoMemory);
+        };
+        return Ok(None);
+    }
+    let Some(n) = split_full(rows, item.key()) else {
+        return Err(NoMemory);
+    };
+    match edit_chunk(rows, n, EditOrShare { item, edit }) {
+        Ok(answer) => answer,
+        Err(_) => Err(NoMemory),
+    }
+}
+
 /// Puts a shared entry at its key in chunks, and returns the previous value. If an allocation fails the entry is returned.
-fn put_item_among<T: CopyValue>(
+pub(crate) fn put_item_among<T: CopyValue>(
     rows: &mut Vec<Chunk<T>>,
     item: SharedEntry<T>,
 ) -> Result<Option<T>, SharedEntry<T>>

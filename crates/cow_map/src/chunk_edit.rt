@@ -5,7 +5,7 @@
 ghost use Rattle.std.specs.Prelude.{◌≡◌, ◌<◌, ◌≤◌, ◌+◌, ◌++◌, ℕ, List, Result, length, take, drop, OnOk, OnErr, IfOk, IfErr, vec_len, vec_capacity, ⊤};
 ghost use Rattle.std.specs.List.{insert};
 ghost use Rattle.cow_map.specs.Places.{Rises, IsHolder};
-ghost use Rattle.cow_map.specs.Changes.{IsPut, IsCutBetween, IsCutOff, IsEdited, IsJoined, AreTaken, ChangesValue};
+ghost use Rattle.cow_map.specs.Changes.{IsPut, IsCutBetween, IsCutOff, IsEdited, IsEditedOrPut, IsJoined, AreTaken, ChangesValue};
 
 use crate::chunk::{Chunk, share_items};
 use crate::edit::{Edit, Edited};
@@ -123,6 +123,43 @@ impl<'a, T: CopyValue, E: Edit<T>> ChunkEdit<T> for EditEntry<'a, E> {
                 }
             }
             Err(_) => Edited::Absent(edit),
+        }
+    }
+}
+
+/// Edits the value at the key of an entry of another map, or puts that entry, which both maps then share, if the key is absent. It
+/// returns the edit's answer, if there was one.
+#[derive(Drop)]
+pub(crate) struct EditOrShare<'a, T, E> {
+    pub(crate) item: &'a SharedEntry<T>,
+    pub(crate) edit: E,
+}
+
+impl<'a, T: CopyValue, E: Edit<T>> ChunkEdit<T> for EditOrShare<'a, T, E> {
+    type Answer = Result<Option<E::Answer>, NoMemory>;
+
+    ghost fits = { λ s es. Rises es };
+
+    ghost does = { λ s es fs r. IsEditedOrPut (E.does s.edit) s.item.now.0 s.item.now.1 es fs r };
+
+    fn change(self, entries: &mut Vec<SharedEntry<T>>) -> Result<Option<E::Answer>, NoMemory> {
+        let EditOrShare { item, edit } = self;
+        match find(entries.as_slice(), item.key()) {
+            Ok(i) => {
+                let alloc = *entries.allocator();
+                let held = &mut entries[i];
+                match held.edit(alloc, edit) {
+                    Ok(answer) => Ok(Some(answer)),
+                    Err(_) => Err(NoMemory),
+                }
+            }
+            Err(i) => {
+                let item = item.share()?;
+                match entries.insert(i, item) {
+                    Ok(()) => Ok(None),
+                    Err(_) => Err(NoMemory),
+                }
+            }
         }
     }
 }

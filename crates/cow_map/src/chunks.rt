@@ -1,6 +1,6 @@
 //! The chunks of a map in order: which of them a key belongs to, how one is changed, and how chunks are split and merged.
 //!
-//! Invariant (`AreRows`): the keys of all chunks, concatenated, rise strictly, and each chunk has 1 to 64 entries. A split or a
+//! Invariant (`AreRows`): the keys of all chunks, concatenated, rise strictly, and each chunk has 1 to 128 entries. A split or a
 //! merge does not change the concatenated entries.
 ghost use Rattle.std.specs.Prelude.{◌≡◌, ◌+◌, ◌-◌, ◌<◌, ◌≤◌, ◌^◌, ◌++◌, ◌∷◌, [], length, take, drop, None, Some, OnOk, OnErr, IfOk, IfErr, IfNone, IfSome, true, false, vec_len, vec_capacity};
 ghost use Rattle.std.specs.List.{insert, remove_range, slice_get, slice_index_or, slice_set};
@@ -18,7 +18,22 @@ use std::alloc::Global;
 use std::cmp::Ordering;
 
 /// The maximum number of entries of a chunk.
-const MAX_ENTRIES: usize = 64;
+const MAX_ENTRIES: usize = 128;
+
+/// The number of entries at which a chunk of a short list is split.
+const SPLIT_AT: usize = 64;
+
+/// The least number of chunks in a list whose chunks are split only when they are full: a new chunk moves all chunks after it, which
+/// would cost more than longer chunks do.
+const MANY: usize = 4096;
+
+/// The number of entries at which a chunk is split, in a list of this many chunks.
+fn split_size(chunks: usize) -> usize
+    ensures some { 64 ≤ result }
+    ensures full { result ≤ 128 }
+{
+    if chunks < MANY { SPLIT_AT } else { MAX_ENTRIES }
+}
 
 /// How many of the chunks begin at or before the key, up to the first that does not. The last chunk is compared first, since
 /// keys often come in order; then it bisects. The bytes that the key shares with the chunks on either side are shared by all
@@ -158,8 +173,8 @@ fn row_of<T: CopyValue>(alloc: Global, item: SharedEntry<T>) -> Result<Chunk<T>,
     }
 }
 
-/// Splits the chunk to which the key belongs if it is full. Returns the index of the chunk to which the key then belongs, and
-/// which has space for one more entry; `None` if an allocation fails.
+/// Splits the chunk to which the key belongs if it has as many entries as a list of this length allows. Returns the index of the
+/// chunk to which the key then belongs, and which has space for one more entry; `None` if an allocation fails.
 pub(crate) fn split_full<T: CopyValue>(rows: &mut Vec<Chunk<T>>, key: &Key) -> Option<usize>
     requires rows { AreRows rows.old.items }
     requires some { 0 < length rows.old.items }
@@ -167,33 +182,34 @@ pub(crate) fn split_full<T: CopyValue>(rows: &mut Vec<Chunk<T>>, key: &Key) -> O
     ensures rows { AreRows rows.new.items }
     ensures number { IfSome result (λ n. n ≡ chunk_index key.now rows.new.items) }
     ensures bound { IfSome result (λ n. n < length rows.new.items) }
-    ensures room { IfSome result (λ n. length (slice_index_or rows.new.items n []) < 64) }
+    ensures room { IfSome result (λ n. length (slice_index_or rows.new.items n []) < 128) }
 {
-    let found = chunk_with_space(rows.as_slice(), key);
+    let found = chunk_below(rows.as_slice(), key, split_size(rows.len()));
     if found.is_some() {
         return found;
     }
     split_if_full(rows, key);
-    chunk_with_space(rows.as_slice(), key)
+    chunk_below(rows.as_slice(), key, MAX_ENTRIES)
 }
 
-/// The index of the chunk to which the key belongs, if it is not full.
-fn chunk_with_space<T: CopyValue>(rows: &[Chunk<T>], key: &Key) -> Option<usize>
+/// The index of the chunk to which the key belongs, if it has fewer than `most` entries.
+fn chunk_below<T: CopyValue>(rows: &[Chunk<T>], key: &Key, most: usize) -> Option<usize>
+    requires few { most ≤ 128 }
     requires rows { AreRows rows.now }
     requires some { 0 < length rows.now }
     ensures number { IfSome result (λ n. n ≡ chunk_index key.now rows.now) }
     ensures bound { IfSome result (λ n. n < length rows.now) }
-    ensures room { IfSome result (λ n. length (slice_index_or rows.now n []) < 64) }
+    ensures room { IfSome result (λ n. length (slice_index_or rows.now n []) < 128) }
 {
     let n = chunk_index(rows, key);
-    if rows[n].entries().len() < MAX_ENTRIES {
+    if rows[n].entries().len() < most {
         Some(n)
     } else {
         None
     }
 }
 
-/// Splits the chunk to which the key belongs, if it is full and no allocation fails.
+/// Splits the chunk to which the key belongs, if it has as many entries as a list of this length allows and no allocation fails.
 fn split_if_full<T: CopyValue>(rows: &mut Vec<Chunk<T>>, key: &Key)
     requires rows { AreRows rows.old.items }
     requires some { 0 < length rows.old.items }
@@ -203,14 +219,14 @@ fn split_if_full<T: CopyValue>(rows: &mut Vec<Chunk<T>>, key: &Key)
 {
     let n = chunk_index(rows.as_slice(), key);
     let len = rows[n].entries().len();
-    if len < MAX_ENTRIES {
+    if len < split_size(rows.len()) {
         return;
     }
     let at = middle(&rows[n], key);
     let _ = split_chunk(rows, n, at);
 }
 
-/// The index at which a full chunk is split: near its end if the key is after all keys, so that insertions in key order leave
+/// The index at which a chunk is split: near its end if the key is after all keys, so that insertions in key order leave
 /// chunks nearly full.
 fn middle<T: CopyValue>(row: &Chunk<T>, key: &Key) -> usize
     requires { 64 ≤ length row.now }
@@ -220,7 +236,7 @@ fn middle<T: CopyValue>(row: &Chunk<T>, key: &Key) -> usize
     let entries = row.entries();
     let len = entries.len();
     if entries[len - 1].is_before(key) {
-        return len - MAX_ENTRIES / 8;
+        return len - SPLIT_AT / 8;
     }
     len / 2
 }
@@ -346,7 +362,7 @@ pub(crate) fn merge_small<T: CopyValue>(rows: &mut Vec<Chunk<T>>, m: usize)
     if m == 0 || m >= rows.len() {
         return;
     }
-    if rows[m - 1].entries().len() + rows[m].entries().len() <= MAX_ENTRIES / 2 {
+    if rows[m - 1].entries().len() + rows[m].entries().len() <= SPLIT_AT / 2 {
         merge_chunks(rows, m);
     }
 }
@@ -356,7 +372,7 @@ fn merge_chunks<T: CopyValue>(rows: &mut Vec<Chunk<T>>, m: usize)
     requires rows { AreRows rows.old.items }
     requires first { 0 < m }
     requires bound { m < length rows.old.items }
-    requires few { length (slice_index_or rows.old.items (m - 1) []) + length (slice_index_or rows.old.items m []) ≤ 64 }
+    requires few { length (slice_index_or rows.old.items (m - 1) []) + length (slice_index_or rows.old.items m []) ≤ 128 }
     ensures rows { AreRows rows.new.items }
     ensures same { joined rows.new.items ≡ joined rows.old.items }
 {

@@ -6,7 +6,7 @@
 //! Its invariants:
 //!
 //! - the entries of all chunks, concatenated, are that list;
-//! - no chunk is empty, and none has more than 64 entries;
+//! - no chunk is empty, and none has more than 128 entries;
 //! - a chunk is changed only by its sole owner: a shared chunk is copied first. Only the first entries of a chunk can be
 //! dropped without a copy: the chunk then begins after them;
 //! - the same holds of the list of chunks of a long map.

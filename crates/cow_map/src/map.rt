@@ -11,9 +11,11 @@ ghost use Rattle.pathkey.specs.Keys.{is_in};
 ghost use Rattle.cow_map.specs.Places.{Rises, at_key, last_of, place, place_past, AreBefore, AreFrom};
 ghost use Rattle.cow_map.specs.CowMap.{joined, behind, kept, AreRows, IsBehind};
 ghost use Rattle.cow_map.specs.Changes.{IsPut, IsEdited};
-ghost use Rattle.cow_map.specs.Moves.{IsFirstMoved};
+ghost use Rattle.cow_map.specs.Moves.{IsFirstJoined, IsFirstMoved};
 
-use crate::changes::{drop_among, edit_among, move_first_among, put_among};
+use crate::changes::{
+    drop_among, edit_among, edit_or_share_among, move_first_among, put_among, put_item_among,
+};
 use crate::chunk::Chunk;
 use crate::chunks::{entries_in, has_none, share_rows, split_chunks_at};
 use crate::cursor::Cursor;
@@ -250,6 +252,41 @@ impl<T: CopyValue> CowMap<T> {
         own(&mut self.rows, &mut self.shared)?;
         own(&mut from.rows, &mut from.shared)?;
         move_first_among(&mut self.rows, &mut from.rows)
+    }
+
+    /// Puts the next entry of a cursor of another map at its place, and returns the previous value at its key, cloned if its entry
+    /// is shared. Both maps then share the entry. If an allocation fails this map is unchanged.
+    pub fn share_first_of(&mut self, walk: &Cursor<'_, T>) -> Result<Option<T>, NoMemory>
+        requires { 0 < length walk.now }
+        ensures shared { IfOk result (λ was. IsFirstMoved was walk.now self.old (drop 1 walk.now) self.new) }
+        ensures err { OnErr result (self.new ≡ self.old) }
+    {
+        own(&mut self.rows, &mut self.shared)?;
+        let Some(item) = walk.first() else {
+            unreachable!()
+        };
+        match put_item_among(&mut self.rows, item.share()?) {
+            Ok(was) => Ok(was),
+            Err(_) => Err(NoMemory),
+        }
+    }
+
+    /// Edits the value at the key of the next entry of a cursor of another map in place, or puts that entry, which both maps then
+    /// share, if the key is absent. It returns the edit's answer, if there was one. If an allocation fails this map is unchanged.
+    pub fn edit_or_share_first_of<E: Edit<T>>(
+        &mut self,
+        walk: &Cursor<'_, T>,
+        edit: E,
+    ) -> Result<Option<E::Answer>, NoMemory>
+        requires { 0 < length walk.now }
+        ensures joined { IfOk result (λ answer. IsFirstJoined (E.does edit) answer walk.now self.old (drop 1 walk.now) self.new) }
+        ensures err { OnErr result (self.new ≡ self.old) }
+    {
+        own(&mut self.rows, &mut self.shared)?;
+        let Some(item) = walk.first() else {
+            unreachable!()
+        };
+        edit_or_share_among(&mut self.rows, item, edit)
     }
 
     /// Puts the list of chunks where clones share it, unless it is short or an allocation fails: then the next clones take constant
