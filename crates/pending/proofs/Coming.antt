@@ -22,7 +22,7 @@ use Rattle.message.proofs.KeyOrder.{within-same, empty_by}
 use Rattle.message.proofs.Lists.{effects-append, any_touches-append, takes-append}
 use Rattle.message.proofs.NextKey.{by_bool}
 use Rattle.point_ops.specs.Changes.{KeyOp, run_msgs, run_effect}
-use Rattle.point_ops.specs.PointOps.{point_msgs, point_count, found_effect, AreRuns, Inserts, TakesFirst}
+use Rattle.point_ops.specs.PointOps.{point_msgs, point_count, found_effect, AddsFirst, AreRuns, Inserts}
 use Rattle.range_set.specs.Disjoint.{Span, covered, range_msgs, CoversMore, TakesFirst as TakesRange}
 use Rattle.pending.specs.SortedMsgs.{sorted_msgs}
 use Rattle.pending.proofs.Runs.{run_alike, run_first, length-run, effects-run_here, effects-run_apart, apart_from_untouched, none_from_untouched, untouched_from_none, length-points}
@@ -153,7 +153,7 @@ module _ {U V : Type 0} (means : U → Option V → Option V) where
 
   -- ---- what follows where the first run of one list has gone to another
 
-  module _ (gs rs : List Span) (from rest es fs : List (List ℕ × List (KeyOp U V))) (come most : ℕ) (created_key : List (Msg U V)) (none : gs ≡ []) (v : sorted_msgs gs from ≡ created_key) (h : TakesFirst means come most from es rest fs) where
+  module _ (gs rs : List Span) (from rest es fs : List (List ℕ × List (KeyOp U V))) (come most : ℕ) (created_key : List (Msg U V)) (none : gs ≡ []) (v : sorted_msgs gs from ≡ created_key) (h : AddsFirst means come most from es rest fs) where
     front : created_key ≡ run_msgs h.key h.run ++ point_msgs rest
     front = sym v ∙ ap (λ t. range_msgs t ++ point_msgs from) none ∙ ap (λ t. point_msgs t) h.parts
 

@@ -7,3 +7,4 @@ pub mod LastPoints
 pub mod Cutting
 pub mod Leaving
 pub mod Meeting
+pub mod Walking

@@ -4,3 +4,4 @@ pub mod MsgRef
 pub mod SharedRange
 pub mod SortedMsgs
 pub mod BufferedMsg
+pub mod OldestWalk

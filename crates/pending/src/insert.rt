@@ -3,10 +3,12 @@
 //! Invariant: no range-delete is newer than a point message that it touches: a new one removes each such message before it is
 //! added itself. If its insertion fails to allocate, the message is returned, and applied after the remaining ones it has the
 //! effect that it would have had.
-ghost use Rattle.std.specs.Prelude.{◌≡◌, ◌+◌, ◌^◌, ◌<◌, ◌++◌, [], ◌∷◌, length, IfErr, OnOk, OnErr};
+ghost use Rattle.std.specs.Prelude.{◌≡◌, ◌+◌, ◌^◌, ◌<◌, ◌++◌, [], ◌∷◌, List, length, IfErr, OnOk, OnErr};
+ghost use Rattle.std.specs.Bool.{OnFalse, OnTrue};
 ghost use Rattle.message.specs.Effects.{Takes};
 ghost use Rattle.message.specs.declared.msg.Msg.TheVariants as msg;
 ghost use Rattle.point_ops.specs.PointOps.{point_count};
+ghost use Rattle.range_set.specs.Disjoint.{Span};
 ghost use Rattle.pending.specs.SortedMsgs.{sorted_msgs};
 
 use message::ends::is_before_end;
@@ -55,6 +57,24 @@ pub(crate) fn insert<U: Update>(
             Err((key, update)) => Err(Msg::Edit(key, update)),
         },
     }
+}
+
+/// Joins an update, in place, to the only operation of its key, and returns whether it did; if not, everything is unchanged.
+#[inline(always)]
+pub(crate) fn join<U: Update>(points: &mut PointOps<U>, alloc: Global, msg: &Msg<U>) -> bool
+    ensures takes { OnTrue result ((rs : List Span) → Takes U.means (sorted_msgs rs points.old) (msg.now ∷ []) (sorted_msgs rs points.new)) }
+    ensures count { OnTrue result (point_count points.new ≡ point_count points.old) }
+    ensures unchanged { OnFalse result (points.new ≡ points.old) }
+{
+    let Msg::Edit(key, update) = msg else {
+        return false;
+    };
+    points.assert_invariant();
+    if !points.join(alloc, key, update) {
+        return false;
+    }
+    points.assert_invariant();
+    true
 }
 
 /// Inserts a range-delete: it removes the older point messages and range-deletes inside it, and is merged with older

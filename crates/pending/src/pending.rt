@@ -4,11 +4,14 @@
 //! effect (`Takes`): the list is sorted and condensed, so that it holds fewer messages with the same effect, and callers that
 //! rely on the contract do not notice. No call returns a reference to a message or takes the index of one.
 ghost use Rattle.std.specs.Prelude.{◌≡◌, ◌+◌, ◌≤◌, ◌<◌, ◌++◌, [], ◌∷◌, true, false, length, take, drop, Some, None, IfOk, IfNone, IfSome, OnOk, OnErr, MatchOption};
+ghost use Rattle.std.specs.Bool.{OnFalse, OnTrue};
 ghost use Rattle.std.specs.Option.{option_copied, option_map};
 ghost use Rattle.std.specs.List.{All, slice_get};
 ghost use Rattle.message.specs.Cuts.{pieces, IsJoined, IsUpTo, LieIn};
 ghost use Rattle.message.specs.Effects.{effects, point_key, range_count, Takes};
 ghost use Rattle.pending.specs.MsgRef.{borrowed_msg};
+ghost use Rattle.pending.specs.OldestWalk.{first_len, IsWalk};
+ghost use Rattle.point_ops.specs.PointOps.{point_msgs};
 ghost use Rattle.message.specs.Oldest.{first_point, first_put, first_given, meets_first, covers_first};
 ghost use Rattle.message.specs.PointKeys.{is_cleared, IsNextPoint, IsClearStretch};
 ghost use Rattle.message.specs.Stretches.{IsStretch};
@@ -18,6 +21,7 @@ ghost use Rattle.pending.specs.Ahead.{StandsAt};
 ghost use Rattle.pending.specs.LastPoint.{IsLastPoint};
 
 use crate::msg_ref::MsgRef;
+use crate::oldest_walk::OldestWalk;
 use crate::point_cursor::PointCursor;
 use crate::segment::later;
 use crate::sorted_msgs::SortedMsgs;
@@ -99,9 +103,24 @@ impl<U: Update> Pending<U> {
     {
         if self.defers() {
             self.push_uncondensed(msg);
-        } else {
+        } else if !self.join(&msg) {
             self.push_condensed(msg);
         }
+    }
+
+    /// Joins an update, in place, to the only operation of its key, before the message is moved, and returns whether it did; if not,
+    /// everything is unchanged. It does not if there is a tail.
+    #[inline(always)]
+    fn join(&mut self, msg: &Msg<U>) -> bool
+        ensures takes { OnTrue result (Takes U.means self.old.0 (msg.now ∷ []) self.new.0) }
+        ensures unchanged { OnFalse result (self.new.0 ≡ self.old.0) }
+        ensures room { self.new.1 ≡ self.old.1 }
+    {
+        if self.tail_msgs.len() > 0 {
+            return false;
+        }
+        let alloc = self.tail_msgs.allocator();
+        self.sorted.join(alloc, msg)
     }
 
     /// Whether a new message is to wait in the tail. No claim depends on it.
@@ -423,6 +442,29 @@ impl<U: Update> Pending<U> {
         let alloc = to.tail_msgs.allocator();
         let count = to.sorted.take_first(alloc, &mut self.sorted, most)?;
         Some(count)
+    }
+
+    /// A walk over the oldest messages, if they are not range-deletes and none of the first key is consumed: over all in the sorted
+    /// part.
+    pub fn walk_oldest(&self) -> Option<OldestWalk<'_, U>>
+        ensures { IfSome result (λ w. IsWalk w self.now.0) }
+    {
+        self.sorted.walk_oldest()
+    }
+
+    /// Adds the operations of a walk's next key, at most `most`, newer than all messages here, and returns how many. It adds none if
+    /// there is a tail, if the walk has ended, if the key has more operations or several updates that are to follow others here, or on
+    /// allocation failure.
+    pub fn share_first_of(&mut self, walk: &OldestWalk<'_, U>, most: usize) -> Option<usize>
+        ensures takes { IfSome result (λ n. Takes U.means self.old.0 (take n (point_msgs walk.now)) self.new.0) }
+        ensures within { IfSome result (λ n. (n ≡ first_len walk.now) × (0 < n) × (n ≤ most)) }
+        ensures none { IfNone result (self.new.0 ≡ self.old.0) }
+    {
+        if self.tail_msgs.len() > 0 {
+            return None;
+        }
+        let alloc = self.tail_msgs.allocator();
+        self.sorted.share_first_of(alloc, walk, most)
     }
 
     /// Moves the oldest message, if there is one, and returns how many were moved.

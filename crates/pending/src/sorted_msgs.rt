@@ -4,6 +4,7 @@
 //! the first key some of the oldest messages may be consumed (`consumed`), but never all. There are at most 2^62 messages in
 //! all.
 ghost use Rattle.std.specs.Prelude.{◌≡◌, ◌+◌, ◌^◌, ◌<◌, ◌≤◌, ◌++◌, [], ◌∷◌, true, false, length, take, drop, Some, None, if◌then◌else◌, IfOk, IfErr, IfNone, IfSome, OnOk, OnErr, MatchOption};
+ghost use Rattle.std.specs.Bool.{OnFalse, OnTrue};
 ghost use Rattle.std.specs.Option.{option_copied, option_map};
 ghost use Rattle.std.specs.List.{All, slice_get};
 ghost use Rattle.pathkey.specs.Keys.{is_below};
@@ -15,14 +16,16 @@ ghost use Rattle.message.specs.Stretches.{EndsAhead, is_key};
 ghost use Rattle.message.specs.Resolution.{IsResolved};
 ghost use Rattle.message.specs.declared.resolution.Resolution.TheVariants as resolution;
 ghost use Rattle.cow_map.specs.Places.{Rises, at_key};
-ghost use Rattle.point_ops.specs.PointOps.{left, AreRuns, IsLeft};
+ghost use Rattle.point_ops.specs.PointOps.{left, point_msgs, AreRuns, IsLeft};
 ghost use Rattle.pending.specs.Ahead.{AreFrom};
 ghost use Rattle.pending.specs.MsgRef.{borrowed_msg};
+ghost use Rattle.pending.specs.OldestWalk.{first_len};
 ghost use Rattle.pending.specs.SortedMsgs.{sorted_msgs};
 ghost use Rattle.pending.specs.LastPoint.{IsLastPoint};
 
-use crate::insert::insert;
+use crate::insert::{insert, join};
 use crate::msg_ref::MsgRef;
+use crate::oldest_walk::OldestWalk;
 use crate::segment::{point_stop, point_within};
 use cow_map::Cursor;
 use message::ends::earlier;
@@ -134,6 +137,23 @@ impl<U: Update> SortedMsgs<U> {
         answer
     }
 
+    /// Joins an update, in place, to the only operation of its key, as [`PointOps::join`] does, and returns whether it did; if not,
+    /// everything is unchanged. It does not if a message of the first key is consumed.
+    #[inline(always)]
+    pub(crate) fn join(&mut self, alloc: Global, msg: &Msg<U>) -> bool
+        ensures takes { OnTrue result (Takes U.means self.old (msg.now ∷ []) self.new) }
+        ensures unchanged { OnFalse result (self.new ≡ self.old) }
+    {
+        if self.consumed > 0 {
+            return false;
+        }
+        if !join(&mut self.points, alloc, msg) {
+            return false;
+        }
+        self.points.assert_invariant();
+        true
+    }
+
     /// Moves the oldest messages of another list, a range-delete or those of one key and at most `most`, into this one, newer
     /// than all that are here, and returns how many. It moves none if [`SortedMsgs::take_range`] or [`PointOps::take_first`]
     /// moves none.
@@ -168,6 +188,40 @@ impl<U: Update> SortedMsgs<U> {
         let came = self.points.take_first(&mut from.points, most)?;
         self.points.assert_invariant();
         from.points.assert_invariant();
+        Some(came)
+    }
+
+    /// A walk over all messages, if there is no range-delete and no message of the first key is consumed.
+    pub(crate) fn walk_oldest(&self) -> Option<OldestWalk<'_, U>>
+        ensures { IfSome result (λ w. point_msgs w ≡ self.now) }
+    {
+        if self.consumed > 0 || self.ranges.len() > 0 {
+            return None;
+        }
+        let rest = self.points.walk();
+        Some(OldestWalk { rest })
+    }
+
+    /// Adds the operations of a walk's next key, at most `most`, newer than all messages here, and returns how many. It adds none if
+    /// [`PointOps::share_first_of`] does not.
+    pub(crate) fn share_first_of(
+        &mut self,
+        alloc: Global,
+        walk: &OldestWalk<'_, U>,
+        most: usize,
+    ) -> Option<usize>
+        ensures takes { IfSome result (λ n. Takes U.means self.old (take n (point_msgs walk.now)) self.new) }
+        ensures within { IfSome result (λ n. (n ≡ first_len walk.now) × (0 < n) × (n ≤ most)) }
+        ensures none { IfNone result (self.new ≡ self.old) }
+    {
+        if most == 0 || self.len() >= MOST - most.min(MOST) {
+            return None;
+        }
+        let Ok(()) = make_whole(&mut self.points, alloc, &mut self.consumed) else {
+            return None;
+        };
+        let came = self.points.share_first_of(alloc, &walk.rest, most)?;
+        self.points.assert_invariant();
         Some(came)
     }
 

@@ -16,7 +16,7 @@ use Rattle.pathkey.specs.Order.{by_bytes, by_bytes_total, by_bytes_equiv, same}
 use Rattle.pathkey.proofs.OrderFacts.{equal, tied, same_true, same_false, same_itself}
 use Rattle.cow_map.specs.Places.{Rises, at_key}
 use Rattle.point_ops.specs.Changes.{KeyOp, run_effect}
-use Rattle.point_ops.specs.PointOps.{found_effect, left, point_count, AreRuns, IsLeft, Inserts}
+use Rattle.point_ops.specs.PointOps.{found_effect, left, point_count, AreRuns, IsLeft, IsShared, Inserts}
 use Rattle.point_ops.proofs.Counting.{point_count-cons}
 use Rattle.message.proofs.KeyOrder.{split_bool}
 
@@ -70,6 +70,10 @@ pub first_some : {X : Type 0} (e : X) (es : List X) → Some e ≡ slice_get es 
 first_some e [] h = absurd (cc)
 first_some e (x ∷ es) h = omega arith
 
+-- what stands at its key
+pub next_is : {X : Type 0} (k : List ℕ) (v w : X) (es fs : List (List ℕ × X)) → Some w ≡ option_map (λ (e : List ℕ × X). e.1) (slice_get es 0) → es ≡ (k, v) ∷ fs → w ≡ v
+next_is {X} k v w es fs h p = (let is : Some w ≡ Some v = h ∙ ap (λ t. option_map (λ (e : List ℕ × X). e.1) (slice_get t 0)) p in cc)
+
 pub first_is : {X : Type 0} (e f : X) (es fs : List X) → Some e ≡ slice_get es 0 → es ≡ f ∷ fs → e ≡ f
 first_is e f es fs h p = (let is : Some e ≡ Some f = h ∙ ap (λ t. slice_get t 0) p in cc)
 
@@ -108,6 +112,10 @@ module _ {U V : Type 0} where
       omega (arith, len, point_count-cons e.0 e.1 es))
       (λ p. omega (arith, counted_at k es cs (sym (ap (λ b. cond b (Some e.1) (at_key k es)) p) ∙ h), point_count-cons e.0 e.1 es))
 
+  count_within : (k : List ℕ) (es : List (List ℕ × List (KeyOp U V))) (was : Option (List (KeyOp U V))) (n : ℕ) → was ≡ at_key k es → n ≡ unwrap_or (option_map (λ (t : List (KeyOp U V)). length t) was) 0 → n ≤ point_count es
+  count_within k es None n w l = omega (arith, l)
+  count_within k es (Some cs) n w l = omega (arith, l, counted_at k es cs (sym w))
+
   -- ---- that some change waits at each key
 
   runs_insert : (k : List ℕ) (cs : List (KeyOp U V)) (es : List (List ℕ × List (KeyOp U V))) → AreRuns es → 0 < length cs → AreRuns (insert_entry by_bytes es k cs)
@@ -144,4 +152,19 @@ module _ {U V : Type 0} (means : U → Option V → Option V) where
             (λ h. ap (λ x. cond (same k q) x (found_effect means (at_key q es) o)) (d o ∙ sym (ap (λ t. f (found_effect means t o)) (at_alike k q es h))))
             (λ h. ap (λ c. cond c (run_effect means cs o) (found_effect means (at_key q es) o)) h ∙ sym (ap (λ c. cond c (f (found_effect means (at_key q es) o)) (found_effect means (at_key q es) o)) h));
         touched = λ q h a. found q ∙ ap (λ c. cond c (Some cs) (at_key q es)) h ∙ a;
+      }
+
+  -- the operations of the first key of other entries came to those at its key, which gave cs
+  pub shared_at : (k : List ℕ) (run cs : List (KeyOp U V)) (was : Option (List (KeyOp U V))) (before after : ℕ) (from es rest fs : List (List ℕ × List (KeyOp U V))) → from ≡ (k, run) ∷ rest → Rises es → fs ≡ insert_entry by_bytes es k cs → was ≡ at_key k es → before ≡ unwrap_or (option_map (λ (t : List (KeyOp U V)). length t) was) 0 → after ≡ length cs → 0 < length cs → after ≤ before + length run → ((o : Option V) → run_effect means cs o ≡ run_effect means run (found_effect means was o)) → IsShared means before after from es rest fs
+  shared_at k run cs was before after from es rest fs p r e w n m some b d =
+      let counted = counted_put k cs es fs was before r e w n in
+      record {
+        key = k;
+        run = run;
+        parts = p;
+        inserts = inserts_put k (run_effect means run) cs es fs e (λ o. d o ∙ ap (λ t. run_effect means run (found_effect means t o)) w);
+        bound = b;
+        within = count_within k es was before w n;
+        counted = omega (arith, counted, m);
+        runs = runs_put k cs es fs e some;
       }

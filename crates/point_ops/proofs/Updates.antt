@@ -1,14 +1,16 @@
 -- Updates of one key, one after the other.
-use Rattle.std.proofs.Common.{◌≡◌, ℕ, zero, suc, ◌+◌, false, List, [], ◌∷◌, length, get_or, drop, ◌⊎◌, inl, inr, map, Option, refl, ap, sym, ◌∙◌, ◌-◌, ◌<◌, min, arith}
+use Rattle.std.proofs.Common.{◌≡◌, ℕ, zero, suc, ◌+◌, true, false, List, [], ◌∷◌, length, get_or, drop, ◌⊎◌, inl, inr, map, Option, Some, None, refl, ap, sym, subst, ◌∙◌, ◌-◌, ◌<◌, min, arith}
 use Rattle.std.proofs.Math.ListN.{set}
 use Rattle.std.proofs.lemmas.List.{drop-map, length-map}
 use Rattle.std.proofs.lemmas.List.Folds.{fold-map}
 use Rattle.std.specs.Global.{Vec}
+use Rattle.std.specs.List.{slice_get}
+use Rattle.std.specs.Prelude.{IfNone, IfSome, MatchOption}
 use Rattle.message.specs.declared.msg.Msg.TheVariants as msg
 use Rattle.point_ops.specs.declared.key_ops_repr.KeyOpsRepr.{KeyOpsRepr}
 use Rattle.point_ops.specs.declared.key_ops_repr.KeyOpsRepr.TheVariants as waits
-use Rattle.point_ops.specs.Changes.{KeyOp, Put, Edit, changed, is_whole, run_effect, run_msgs}
-use Rattle.point_ops.specs.KeyOps.{changes_in, edits_effect}
+use Rattle.point_ops.specs.Changes.{KeyOp, Put, Del, Edit, changed, is_whole, run_effect, run_msgs}
+use Rattle.point_ops.specs.KeyOps.{changes_in, edits_effect, IsAppended}
 
 module _ {U V : Type 0} (means : U → Option V → Option V) where
   -- the last update is replaced by one that means it and then f
@@ -22,6 +24,24 @@ module _ {U V : Type 0} (means : U → Option V → Option V) where
   -- updates are changes
   pub effect-edits : (us : List U) (o : Option V) → run_effect means (map Edit us) o ≡ edits_effect means us o
   effect-edits us o = fold-map (λ w c. changed means c w) Edit o us
+
+-- operations of which the first does not ask what was there
+pub whole_free : {U V : Type 0} (means : U → Option V → Option V) (cs : List (KeyOp U V)) (o p : Option V) → is_whole cs ≡ true → run_effect means cs o ≡ run_effect means cs p
+whole_free means [] o p h = absurd (cc)
+whole_free means (Put v ∷ cs) o p h = refl
+whole_free means (Del ∷ cs) o p h = refl
+whole_free means (Edit u ∷ cs) o p h = absurd (cc)
+
+-- the only operation
+pub only_is : {X : Type 0} (e : X) (xs : List X) → length xs ≡ 1 → Some e ≡ slice_get xs 0 → e ∷ [] ≡ xs
+only_is e [] l h = absurd (omega (arith, l))
+only_is e (x ∷ []) l h = (let is : e ≡ x = cc in ap (λ t. t ∷ []) is)
+only_is e (x ∷ (y ∷ xs)) l h = absurd (omega (arith, l))
+
+-- one update came, and the operations that came are no more
+pub appended_run : {U V : Type 0} (means : U → Option V → Option V) (u : U) (newer cs ds : List (KeyOp U V)) (r : Option (ℕ × ℕ)) → Edit u ∷ [] ≡ newer → IfSome r (λ n. IsAppended means (Edit u ∷ []) cs ds n) → IfNone r (ds ≡ cs) → MatchOption r (ds ≡ cs) (IsAppended means newer cs ds)
+appended_run means u newer cs ds None e s n = n
+appended_run means u newer cs ds (Some k) e s n = subst (λ t. IsAppended means t cs ds k) e s
 
 -- updates ask what was there
 pub edits_whole : {U : Type 0} (V : Type 0) (us : List U) → is_whole {U = U} {V = V} (map Edit us) ≡ false

@@ -1,5 +1,6 @@
 -- The pending operations of one key, as they are stored.
-use Rattle.std.specs.Prelude.{◌≡◌, ◌≤◌, ◌<◌, ◌+◌, ℕ, List, [], ◌∷◌, length, map, Option, Result, OnOk, OnErr, IfOk, IfErr}
+use Rattle.std.specs.Prelude.{◌≡◌, ◌≤◌, ◌<◌, ◌+◌, ℕ, Bool, List, [], ◌∷◌, length, map, Option, Result, OnOk, OnErr, IfOk, IfErr}
+use Rattle.std.specs.Bool.{OnTrue, OnFalse}
 use Rattle.std.specs.List.{fold}
 use Rattle.message.specs.declared.resolution.Resolution.{Resolution}
 use Rattle.message.specs.declared.resolution.Resolution.TheVariants as resolution
@@ -36,6 +37,21 @@ module _ {U V : Type 0} where
       pub some : 0 < length ds
       pub unchanged : OnErr r (ds ≡ cs)
       pub back : IfErr r (λ p. p ≡ u)
+
+    -- an update was joined to the only one of the operations cs, which gave ds; or it was not, and they are unchanged
+    pub record IsJoined (u : U) (cs ds : List (KeyOp U V)) (did : Bool) : Type 0 where
+      pub meaning : OnTrue did ((o : Option V) → run_effect means ds o ≡ means u (run_effect means cs o))
+      pub one : OnTrue did (length cs ≡ 1)
+      pub len : length ds ≡ length cs
+      pub unchanged : OnFalse did (ds ≡ cs)
+
+    -- operations that are one update were appended to the operations cs, which gave ds; n is how many these were and are
+    pub record IsAppended (newer cs ds : List (KeyOp U V)) (n : ℕ × ℕ) : Type 0 where
+      pub meaning : (o : Option V) → run_effect means ds o ≡ run_effect means newer (run_effect means cs o)
+      pub one : length newer ≡ 1
+      pub counted : (n.0 ≡ length cs) × (n.1 ≡ length ds)
+      pub bound : length ds ≤ length cs + 1
+      pub some : 0 < length ds
 
 -- this may be said of the value that f makes of an old one
 abbrev pub IsResolvedOf : {V : Type 0} → (Option V → Option V) → Resolution V → Type 0

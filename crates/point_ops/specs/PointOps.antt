@@ -54,18 +54,33 @@ module _ {U V : Type 0} where
     abbrev pub IsFree : List (KeyOp U V) → Option (List (KeyOp U V)) → Type 0
     IsFree cs found = (o : Option V) → run_effect means cs (found_effect found o) ≡ run_effect means cs o
 
-    -- the operations of the first key, which are `came` and at most `most`, were moved out of a list into another, where they
-    -- replaced others that they do not depend on
-    pub record TakesFirst (came most : ℕ) (from old rest new : List (List ℕ × List (KeyOp U V))) : Type 0 where
+    -- the operations of the first key of a list, before `rest`, which are `came` and at most `most`, were added to another list, newer
+    -- than all there
+    pub record AddsFirst (came most : ℕ) (from old rest new : List (List ℕ × List (KeyOp U V))) : Type 0 where
       pub key : List ℕ
       pub run : List (KeyOp U V)
       pub parts : from ≡ (key, run) ∷ rest
       pub all : came ≡ length run
       pub some : 0 < came
       pub few : came ≤ most
-      pub is : new ≡ insert_entry by_bytes old key run
       pub inserts : Inserts key (run_effect means run) old new
       pub bound : point_count new ≤ point_count old + came
+
+    -- the same for a list that had `before` operations at that key and now has `after`
+    pub record IsShared (before after : ℕ) (from old rest new : List (List ℕ × List (KeyOp U V))) : Type 0 where
+      pub key : List ℕ
+      pub run : List (KeyOp U V)
+      pub parts : from ≡ (key, run) ∷ rest
+      pub inserts : Inserts key (run_effect means run) old new
+      pub bound : after ≤ before + length run
+      pub within : before ≤ point_count old
+      pub counted : point_count new + before ≡ point_count old + after
+      pub runs : AreRuns old → AreRuns new
+
+    -- they were moved there, and replaced others that they do not depend on
+    pub record TakesFirst (came most : ℕ) (from old rest new : List (List ℕ × List (KeyOp U V))) : Type 0 where
+      pub adds : AddsFirst came most from old rest new
+      pub is : new ≡ insert_entry by_bytes old adds.key adds.run
 
     -- `consumed` operations were replaced
     pub record IsMoved (came consumed most : ℕ) (from old rest new : List (List ℕ × List (KeyOp U V))) : Type 0 where

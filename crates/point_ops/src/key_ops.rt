@@ -1,10 +1,10 @@
 //! The operations of one key, the oldest first.
 //!
 //! Invariant: there is at least one. A put or a delete is the only operation of its key.
-ghost use Rattle.std.specs.Prelude.{true, false, ◌≡◌, ◌+◌, ◌-◌, ◌<◌, ◌≤◌, [], ◌∷◌, ◌++◌, Option, None, Some, if◌then◌else◌, length, take, drop, OnOk, OnErr, IfOk, IfErr};
+ghost use Rattle.std.specs.Prelude.{true, false, ◌≡◌, ◌+◌, ◌-◌, ◌<◌, ◌≤◌, [], ◌∷◌, ◌++◌, Option, None, Some, if◌then◌else◌, length, take, drop, OnOk, OnErr, IfOk, IfErr, IfSome, IfNone};
 ghost use Rattle.std.specs.List.{slice_get};
 ghost use Rattle.point_ops.specs.Changes.{Put, Del, Edit, is_whole, run_effect, run_msgs};
-ghost use Rattle.point_ops.specs.KeyOps.{borrowed_change, IsInserted, IsResolvedOf};
+ghost use Rattle.point_ops.specs.KeyOps.{borrowed_change, IsAppended, IsInserted, IsJoined, IsResolvedOf};
 
 use crate::edits::{self, later, only};
 use crate::key_op_ref::KeyOpRef;
@@ -185,6 +185,32 @@ impl<U: Update> KeyOps<U> {
         match answer {
             Ok(()) => Ok((before, self.len())),
             Err(update) => Err(update),
+        }
+    }
+
+    /// Joins an update, in place, to the only operation, and returns whether it did.
+    #[inline(always)]
+    pub(crate) fn join(&mut self, alloc: Global, update: &U) -> bool
+        ensures { IsJoined U.means update.now self.old self.new result }
+    {
+        self.waits.join(alloc, update)
+    }
+
+    /// Appends an update of another list, which is joined in place if possible, and otherwise copied. Returns how many operations
+    /// there were and how many there are now. On allocation failure the operations are unchanged.
+    pub(crate) fn append(&mut self, alloc: Global, update: &U) -> Option<(usize, usize)>
+        ensures appended { IfSome result (λ n. IsAppended U.means (Edit update.now ∷ []) self.old self.new n) }
+        ensures none { IfNone result (self.new ≡ self.old) }
+    {
+        if self.join(alloc, update) {
+            return Some((1, 1));
+        }
+        let Ok(update) = update.copy(alloc) else {
+            return None;
+        };
+        match self.edit(alloc, update) {
+            Ok(counts) => Some(counts),
+            Err(_) => None,
         }
     }
 

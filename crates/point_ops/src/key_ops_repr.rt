@@ -4,7 +4,7 @@
 //! a vector, and it holds at least one.
 ghost use Rattle.std.specs.Prelude.{◌≡◌, ◌∷◌, [], ◌+◌, ◌<◌, ◌≤◌, Option, None, Some, drop, length, OnOk, OnErr, IfOk, IfErr};
 ghost use Rattle.point_ops.specs.Changes.{Put, Del, Edit, run_effect};
-ghost use Rattle.point_ops.specs.KeyOps.{changes_in, edits_effect};
+ghost use Rattle.point_ops.specs.KeyOps.{changes_in, edits_effect, IsJoined};
 
 use crate::edits;
 use message::{Update, UpdateTarget};
@@ -50,6 +50,25 @@ impl<U: Update> KeyOpsRepr<U> {
             KeyOpsRepr::Del => KeyOpsRepr::edited_del(alloc, later),
             KeyOpsRepr::Edit(first) => KeyOpsRepr::edited_edit(alloc, first, later),
             KeyOpsRepr::Edits(updates) => KeyOpsRepr::edited_edits(alloc, updates, later),
+        }
+    }
+
+    /// Joins an update, in place, to the only operation, and returns whether it did.
+    #[inline(always)]
+    pub(crate) fn join(&mut self, alloc: Global, later: &U) -> bool
+        ensures { IsJoined U.means later.now (changes_in self.old) (changes_in self.new) result }
+    {
+        match self {
+            KeyOpsRepr::Edit(first) => first.join_in_place(alloc, later),
+            KeyOpsRepr::Put(value) => match later.apply_in_place(alloc, value) {
+                Ok(true) => true,
+                Ok(false) => {
+                    *self = KeyOpsRepr::Del;
+                    true
+                }
+                Err(_) => false,
+            },
+            KeyOpsRepr::Del | KeyOpsRepr::Edits(_) => false,
         }
     }
 

@@ -2,16 +2,18 @@
 //!
 //! Invariant: the caller's count stays correct, since each call returns the number of messages that it removed and added, and
 //! an allocation failure leaves the map unchanged.
-ghost use Rattle.std.specs.Prelude.{◌≡◌, ◌+◌, ◌<◌, ◌≤◌, true, None, length, IfOk, IfErr, OnOk, OnErr, IfSome, IfNone};
+ghost use Rattle.std.specs.Prelude.{◌≡◌, ◌+◌, ◌<◌, ◌≤◌, true, None, Some, drop, length, IfOk, IfErr, OnOk, OnErr, IfSome, IfNone};
 ghost use Rattle.std.specs.BTreeMap.{insert_entry};
+ghost use Rattle.std.specs.List.{slice_get};
 ghost use Rattle.std.specs.Option.{option_map, unwrap_or};
 ghost use Rattle.pathkey.specs.Order.{by_bytes};
 ghost use Rattle.cow_map.specs.Places.{at_key};
-ghost use Rattle.point_ops.specs.PointOps.{left, point_count, AreRuns, IsFree, IsLeft, IsMoved, Inserts};
+ghost use Rattle.point_ops.specs.Changes.{is_whole};
+ghost use Rattle.point_ops.specs.PointOps.{left, point_count, AreRuns, IsFree, IsLeft, IsMoved, IsShared, Inserts};
 
-use crate::edits_in_place::DropOldestOps;
+use crate::edits_in_place::{DropOldestOps, JoinRun};
 use crate::key_ops::KeyOps;
-use cow_map::{CowMap, Edited};
+use cow_map::{CowMap, Cursor, Edited};
 use message::Update;
 use pathkey::{Key, NoMemory};
 use std::alloc::Global;
@@ -54,6 +56,66 @@ fn is_free<U: Update>(rows: &CowMap<KeyOps<U>>, key: &Key, run: &KeyOps<U>) -> b
     ensures { result ≡ true → IsFree U.means run.now (at_key key.now rows.now) }
 {
     run.is_whole() || rows.get(key).is_none()
+}
+
+/// Adds the operations of the next key of a cursor of another map, which are newer than those of the same key in `rows`, and
+/// returns how many the key had and has now. It adds none if they are several updates that are to follow others, or on allocation
+/// failure.
+#[inline(always)]
+pub(crate) fn share_first<U: Update>(
+    rows: &mut CowMap<KeyOps<U>>,
+    alloc: Global,
+    walk: &Cursor<'_, KeyOps<U>>,
+    newer: &KeyOps<U>,
+) -> Option<(usize, usize)>
+    requires { Some newer.now ≡ option_map (λ e. e.1) (slice_get walk.now 0) }
+    ensures shared { IfSome result (λ n. IsShared U.means n.0 n.1 walk.now rows.old (drop 1 walk.now) rows.new) }
+    ensures none { IfNone result (rows.new ≡ rows.old) }
+{
+    if newer.is_whole() {
+        return share_whole(rows, walk, newer);
+    }
+    share_updates(rows, alloc, walk, newer)
+}
+
+/// Adds an operation that does not depend on others, in the same way.
+#[inline(always)]
+fn share_whole<U: Update>(
+    rows: &mut CowMap<KeyOps<U>>,
+    walk: &Cursor<'_, KeyOps<U>>,
+    newer: &KeyOps<U>,
+) -> Option<(usize, usize)>
+    requires next { Some newer.now ≡ option_map (λ e. e.1) (slice_get walk.now 0) }
+    requires whole { is_whole newer.now ≡ true }
+    ensures shared { IfSome result (λ n. IsShared U.means n.0 n.1 walk.now rows.old (drop 1 walk.now) rows.new) }
+    ensures none { IfNone result (rows.new ≡ rows.old) }
+{
+    rows.assert_invariant();
+    let Ok(was) = rows.share_first_of(walk) else {
+        return None;
+    };
+    Some((len_of(&was), newer.len()))
+}
+
+/// Adds updates, in the same way.
+#[inline(always)]
+fn share_updates<U: Update>(
+    rows: &mut CowMap<KeyOps<U>>,
+    alloc: Global,
+    walk: &Cursor<'_, KeyOps<U>>,
+    newer: &KeyOps<U>,
+) -> Option<(usize, usize)>
+    requires { Some newer.now ≡ option_map (λ e. e.1) (slice_get walk.now 0) }
+    ensures shared { IfSome result (λ n. IsShared U.means n.0 n.1 walk.now rows.old (drop 1 walk.now) rows.new) }
+    ensures none { IfNone result (rows.new ≡ rows.old) }
+{
+    rows.assert_invariant();
+    match rows.edit_or_share_first_of(walk, JoinRun { alloc, newer }) {
+        Ok(None) => Some((0, newer.len())),
+        Ok(Some(Some(counts))) => Some(counts),
+        Ok(Some(None)) => None,
+        Err(_) => None,
+    }
 }
 
 /// Removes the `consumed` oldest operations of the first key. On allocation failure the map is unchanged.

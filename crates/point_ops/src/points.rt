@@ -4,18 +4,19 @@
 //! keys, at most 2^62. A call that fails to allocate leaves everything unchanged.
 ghost use Rattle.std.specs.Prelude.{◌≡◌, ◌+◌, ◌≤◌, ◌<◌, ◌^◌, ◌++◌, ◌∷◌, [], not, true, false, length, drop, take, IfOk, IfErr, OnOk, OnErr, IfSome, IfNone};
 ghost use Rattle.std.specs.BTreeMap.{insert_entry};
+ghost use Rattle.std.specs.Bool.{OnFalse, OnTrue};
 ghost use Rattle.std.specs.List.{filter, list_any, slice_get};
 ghost use Rattle.std.specs.Option.{option_copied, option_map};
 ghost use Rattle.pathkey.specs.Keys.{is_in};
 ghost use Rattle.pathkey.specs.Order.{by_bytes};
 ghost use Rattle.cow_map.specs.Places.{Rises, at_key, place, AreBefore, AreFrom};
 ghost use Rattle.point_ops.specs.Changes.{Put, Del, run_effect};
-ghost use Rattle.point_ops.specs.PointOps.{left, point_count, point_msgs, first_from, last_below, AreRuns, IsLeft, Inserts, TakesFirst};
+ghost use Rattle.point_ops.specs.PointOps.{left, point_count, point_msgs, first_from, last_below, AreRuns, IsLeft, AddsFirst, Inserts, TakesFirst};
 
 use crate::counts::{copy_msgs, count_of, whole_keys};
-use crate::edits_in_place::PushOp;
+use crate::edits_in_place::{JoinOp, PushOp};
 use crate::key_ops::KeyOps;
-use crate::one_key::{len_of, move_first, shorten_first};
+use crate::one_key::{len_of, move_first, share_first, shorten_first};
 use cow_map::{CowMap, Cursor, Edited};
 use message::ends::is_before_end;
 use message::{Msg, Update, UpdateTarget};
@@ -248,6 +249,23 @@ impl<U: Update> PointOps<U> {
         }
     }
 
+    /// Joins an update, in place, to the only operation of the key, and returns whether it did. It does not if the key has no operation or
+    /// several, if the update does not join, or on allocation failure; then everything is unchanged.
+    #[inline(always)]
+    pub fn join(&mut self, alloc: Global, key: &Key, update: &U) -> bool
+        ensures inserts { OnTrue result (Inserts U.means key.now (U.means update.now) self.old self.new) }
+        ensures count { OnTrue result (point_count self.new ≡ point_count self.old) }
+        ensures unchanged { OnFalse result (self.new ≡ self.old) }
+    {
+        self.rows.assert_invariant();
+        match self.rows.edit(key, JoinOp { alloc, update }) {
+            Edited::Done(true) => true,
+            Edited::Done(false) => false,
+            Edited::Refused(_) => false,
+            Edited::Absent(_) => false,
+        }
+    }
+
     /// Replaces the pending operations of the key by a single one.
     fn overwrite(&mut self, key: Key, run: KeyOps<U>) -> Result<(), (Key, KeyOps<U>)>
         requires room { point_count self.old < 2 ^ 62 }
@@ -274,6 +292,40 @@ impl<U: Update> PointOps<U> {
         let (came, consumed) = move_first(&mut self.rows, &mut from.rows, most)?;
         self.count = self.count + came - consumed;
         from.count -= came;
+        Some(came)
+    }
+
+    /// A cursor over the pending operations of all keys.
+    pub fn walk(&self) -> Cursor<'_, KeyOps<U>>
+        ensures list { result ≡ self.now }
+        ensures rises { Rises self.now }
+    {
+        let rows = &self.rows;
+        rows.assert_invariant();
+        rows.cursor()
+    }
+
+    /// Adds the operations of the next key of a cursor of another list, which are newer than all messages here, and returns how many.
+    /// Both lists then share them, or a copy of an only update is appended to the operations here. It adds none if the cursor is at its
+    /// end, if the key has more than `most` operations or several updates that are to follow others here, or on allocation failure.
+    pub fn share_first_of(
+        &mut self,
+        alloc: Global,
+        walk: &Cursor<'_, KeyOps<U>>,
+        most: usize,
+    ) -> Option<usize>
+        requires { point_count self.old + most ≤ 2 ^ 62 }
+        ensures added { IfSome result (λ n. AddsFirst U.means n most walk.now self.old (drop 1 walk.now) self.new) }
+        ensures none { IfNone result (self.new ≡ self.old) }
+    {
+        let (_, newer) = walk.peek()?;
+        let came = newer.len();
+        if came > most {
+            return None;
+        }
+        let (before, after) = share_first(&mut self.rows, alloc, walk, newer)?;
+        self.count += after;
+        self.count -= before;
         Some(came)
     }
 

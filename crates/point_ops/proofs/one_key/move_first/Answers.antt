@@ -22,15 +22,17 @@ returns-clause-moved g c =
     let counted = counted_put m.key m.value old c.move_first_from.new.self c.in-Ok.was c.len_of.result c.assert_invariant.ensures m.is m.found c.len_of.ensures in
     record {
       takes = record {
-        key = m.key;
-        run = m.value;
-        parts = m.parts;
-        all = len;
-        some = c.len-came.ensures.some;
-        few = omega arith;
+        adds = record {
+          key = m.key;
+          run = m.value;
+          parts = m.parts;
+          all = len;
+          some = c.len-came.ensures.some;
+          few = omega arith;
+          inserts = inserts_put means m.key (run_effect means m.value) m.value old c.move_first_from.new.self m.is (λ o. sym (free o));
+          bound = omega (arith, counted, len);
+        };
         is = m.is;
-        inserts = inserts_put means m.key (run_effect means m.value) m.value old c.move_first_from.new.self m.is (λ o. sym (free o));
-        bound = omega (arith, counted, len);
       };
       counted = omega (arith, counted, len);
     }

@@ -24,7 +24,7 @@ invariant_of-self-2 g c =
     let old = left c.self.inside.consumed c.self.inside.points in
     let zero = c.in-Ok.ensures.whole in
     let same : es ≡ old = sym (left_whole c.make_whole.new.consumed es zero) ∙ c.make_whole.ensures.same in
-    let moved = c.in_ok-came.ensures.moved in
+    let moved = c.in_ok-came.ensures.moved.adds in
     record {
       some = none_left c.make_whole.new.consumed fs zero c.assert_invariant.ensures.runs;
       small = omega (arith, moved.bound, moved.few, ap (λ t. point_count t) same, ap (λ t. point_count t) (left_whole c.make_whole.new.consumed fs zero), length-sorted rs old, ap length c.self.view_is, c.len.ensures.len, c.min.ensures, c.if-len-min.false);
@@ -39,7 +39,7 @@ invariant_of-from-2 g c =
     let same : from ≡ left c.from.inside.consumed c.from.inside.points = sym (left_whole c.make_whole-2.new.consumed from zero) ∙ c.make_whole-2.ensures.same in
     let none : gs ≡ [] = nil_from_length gs (omega (arith, c.len-2.ensures, c.if-len-gt0.false)) in
     let v = ap (λ t. sorted_msgs gs t) same ∙ c.from.view_is in
-    let fewer = first_fewer g.U.Update.means gs c.self.inside.ranges from rest c.make_whole.new.points c.take_first.new.self c.in_ok-came.came c.args.most c.args.from.now none v c.in_ok-came.ensures.moved in
+    let fewer = first_fewer g.U.Update.means gs c.self.inside.ranges from rest c.make_whole.new.points c.take_first.new.self c.in_ok-came.came c.args.most c.args.from.now none v c.in_ok-came.ensures.moved.adds in
     record {
       some = none_left c.make_whole-2.new.consumed rest zero c.assert_invariant-2.ensures.runs;
       small = omega (arith, fewer, ap (λ t. point_count t) same, ap (λ t. point_count t) (left_whole c.make_whole-2.new.consumed rest zero), c.from.invariant.small);
@@ -59,7 +59,7 @@ returns-clause-takes g c =
     let none : gs ≡ [] = nil_from_length gs (omega (arith, c.len-2.ensures, c.if-len-gt0.false)) in
     let v = ap (λ t. sorted_msgs gs t) (sym (left_whole c.make_whole-2.new.consumed from c.in-Ok-make_whole.ensures.whole) ∙ c.make_whole-2.ensures.same) ∙ c.from.view_is in
     let old : sorted_msgs rs es ≡ c.args.self.now = ap (λ t. sorted_msgs rs t) (sym (left_whole c.make_whole.new.consumed es zero) ∙ c.make_whole.ensures.same) ∙ c.self.view_is in
-    let taken : Takes means (sorted_msgs rs es) (take n created_key) (sorted_msgs rs fs) = first_taken means gs rs from c.take_first.new.from es fs n c.args.most created_key none v c.in_ok-came.ensures.moved c.in-Ok.ensures.rises c.assert_invariant.ensures.rises c.in-Ok.ensures.runs in
+    let taken : Takes means (sorted_msgs rs es) (take n created_key) (sorted_msgs rs fs) = first_taken means gs rs from c.take_first.new.from es fs n c.args.most created_key none v c.in_ok-came.ensures.moved.adds c.in-Ok.ensures.rises c.assert_invariant.ensures.rises c.in-Ok.ensures.runs in
     subst (λ t. Takes means c.args.self.now (take n created_key) (sorted_msgs rs t)) (sym (left_whole c.make_whole.new.consumed fs zero)) (subst (λ t. Takes means t (take n created_key) (sorted_msgs rs fs)) old taken)
 
 pub returns-clause-left : goal.returns-clause-left
@@ -70,7 +70,7 @@ returns-clause-left g c =
     let zero = c.in-Ok-make_whole.ensures.whole in
     let none : gs ≡ [] = nil_from_length gs (omega (arith, c.len-2.ensures, c.if-len-gt0.false)) in
     let v = ap (λ t. sorted_msgs gs t) (sym (left_whole c.make_whole-2.new.consumed from zero) ∙ c.make_whole-2.ensures.same) ∙ c.from.view_is in
-    ap (λ t. sorted_msgs gs t) (left_whole c.make_whole-2.new.consumed rest zero) ∙ first_left g.U.Update.means gs c.self.inside.ranges from rest c.make_whole.new.points c.take_first.new.self c.in_ok-came.came c.args.most c.args.from.now none v c.in_ok-came.ensures.moved
+    ap (λ t. sorted_msgs gs t) (left_whole c.make_whole-2.new.consumed rest zero) ∙ first_left g.U.Update.means gs c.self.inside.ranges from rest c.make_whole.new.points c.take_first.new.self c.in_ok-came.came c.args.most c.args.from.now none v c.in_ok-came.ensures.moved.adds
 
 pub returns-clause-within : goal.returns-clause-within
 returns-clause-within g c =
@@ -78,7 +78,7 @@ returns-clause-within g c =
     let gs = c.from.inside.ranges in
     let none : gs ≡ [] = nil_from_length gs (omega (arith, c.len-2.ensures, c.if-len-gt0.false)) in
     let v = ap (λ t. sorted_msgs gs t) (sym (left_whole c.make_whole-2.new.consumed from c.in-Ok-make_whole.ensures.whole) ∙ c.make_whole-2.ensures.same) ∙ c.from.view_is in
-    let moved = c.in_ok-came.ensures.moved in
+    let moved = c.in_ok-came.ensures.moved.adds in
     (moved.some, moved.few, first_few g.U.Update.means gs c.self.inside.ranges from c.take_first.new.from c.make_whole.new.points c.take_first.new.self c.in_ok-came.came c.args.most c.args.from.now none v moved)
 
 pub returns-clause-alike : goal.returns-clause-alike
@@ -87,4 +87,4 @@ returns-clause-alike g c =
     let gs = c.from.inside.ranges in
     let none : gs ≡ [] = nil_from_length gs (omega (arith, c.len-2.ensures, c.if-len-gt0.false)) in
     let v = ap (λ t. sorted_msgs gs t) (sym (left_whole c.make_whole-2.new.consumed from c.in-Ok-make_whole.ensures.whole) ∙ c.make_whole-2.ensures.same) ∙ c.from.view_is in
-    first_alike g.U.Update.means gs c.self.inside.ranges from c.take_first.new.from c.make_whole.new.points c.take_first.new.self c.in_ok-came.came c.args.most c.args.from.now none v c.in_ok-came.ensures.moved
+    first_alike g.U.Update.means gs c.self.inside.ranges from c.take_first.new.from c.make_whole.new.points c.take_first.new.self c.in_ok-came.came c.args.most c.args.from.now none v c.in_ok-came.ensures.moved.adds
