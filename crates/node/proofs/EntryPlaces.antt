@@ -4,13 +4,15 @@ use Rattle.std.specs.List.Sorted.{IsPartitionedBy, IsPartitionPoint}
 use Rattle.std.proofs.lemmas.List.{get_or_default}
 use Rattle.pathkey.specs.Order.{same}
 use Rattle.pathkey.proofs.OrderFacts.{same_true, same_from_eq}
-use Rattle.pathkey.proofs.KeyOrder.{le_lt, lt_le}
+use Rattle.pathkey.proofs.KeyOrder.{le_lt, lt_le, reaches-refl}
 use Rattle.message.specs.Ranges.{before}
 use Rattle.message.proofs.KeyOrder.{unlike_earlier, unlike_later, beyond}
 use Rattle.node.specs.Lawful.{Rises}
 use Rattle.node.specs.Meaning.{lookup}
+use Rattle.node.specs.HeadCount.{AreBefore}
 use Rattle.node.specs.Leaves.{IsCount, IsEntry, IsGap}
 use Rattle.node.proofs.EntryFacts.{first_reaches}
+use Rattle.node.proofs.HeadSearch.{Climbs, point_at}
 
 module _ {V : Type 0} where
   -- what a search asks of entries that rise
@@ -24,6 +26,21 @@ module _ {V : Type 0} where
   -- where a search ends
   pub is_count : (k : List ℕ) (es : List (List ℕ × V)) (i : ℕ) → i ≤ length es → IsPartitionPoint (λ (e : List ℕ × V). before e.0 k ≡ true) (λ (e : List ℕ × V). before e.0 k ≡ false) es i → IsCount es (Some k) i
   is_count k es i b p = record { bound = b; earlier = λ j d h. p.0 j d (omega arith) h; others = λ j d h l. p.1 j d h l }
+
+  -- each entry stands at or behind the earlier ones
+  pub entries_climb : (lo : List ℕ) (hi : Option (List ℕ)) (es : List (List ℕ × V)) → Rises lo hi es → Climbs (λ (e : List ℕ × V). e.0) es
+  entries_climb lo hi [] r i j d a b = absurd (omega arith)
+  entries_climb lo hi (e ∷ es) r zero zero d a b = reaches-refl e.0
+  entries_climb lo hi (e ∷ es) r zero (suc j) d a b = first_reaches lo hi e es j d r (omega arith)
+  entries_climb lo hi (e ∷ es) r (suc i) zero d a b = absurd (omega arith)
+  entries_climb lo hi (e ∷ es) r (suc i) (suc j) d a b = entries_climb e.0 hi es r.2 i j d (omega arith) (omega arith)
+
+  -- entries before a key, up to one that is not
+  pub is_count_at : (k : List ℕ) (es : List (List ℕ × V)) (i : ℕ) → AreBefore (λ (e : List ℕ × V). e.0) es k i → Rises [] None es → ((d : List ℕ × V) → i < length es → before (get_or es i d).0 k ≡ false) → IsCount es (Some k) i
+  is_count_at k es i f r stop = is_count k es i f.bound (point_at (λ (e : List ℕ × V). before e.0 k) es i f.earlier (entries_partitioned [] None k es r) stop)
+
+  pub is_count_here : (k : List ℕ) (es : List (List ℕ × V)) (i : ℕ) (e : List ℕ × V) → AreBefore (λ (e : List ℕ × V). e.0) es k i → Rises [] None es → i < length es → e ≡ get_or es i e → before e.0 k ≡ false → IsCount es (Some k) i
+  is_count_here k es i e f r b at h = is_count_at k es i f r (λ d l. subst (λ (x : List ℕ × V). before x.0 k ≡ false) (at ∙ get_or_default es i e d b) h)
 
   -- the value of an entry behind entries with keys before its own
   lookup_at : (k : List ℕ) (es : List (List ℕ × V)) (i : ℕ) (d : List ℕ × V) → ((j : ℕ) (d : List ℕ × V) → j < i → before (get_or es j d).0 k ≡ true) → i < length es → (get_or es i d).0 ≡ k → lookup es k ≡ Some (get_or es i d).1

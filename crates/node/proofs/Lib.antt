@@ -2,6 +2,7 @@ pub mod Placing
 pub mod SlotFacts
 pub mod Appending
 pub mod Roots
+pub mod HeadSearch
 pub mod EntryFacts
 pub mod EntryPlaces
 pub mod Halves

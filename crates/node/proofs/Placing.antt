@@ -1,5 +1,5 @@
 -- Which slots take a message, and that a lawful root takes every message.
-use Rattle.std.proofs.Common.{◌≡◌, ℕ, zero, suc, ◌+◌, ◌++◌, ◌<◌, Bool, true, false, List, [], ◌∷◌, length, get_or, map, refl, ap, sym, ◌∙◌, Option, Some, None, cond, pred, arith, add-one}
+use Rattle.std.proofs.Common.{◌≡◌, ℕ, zero, suc, ◌+◌, ◌++◌, ◌<◌, Bool, true, false, List, [], ◌∷◌, length, get_or, map, refl, ap, sym, ◌∙◌, Option, Some, None, cond, pred, take, arith, add-one}
 use Rattle.std.specs.Option.{option_to_list}
 use Rattle.std.specs.Prelude.{◌&&◌, ◌||◌}
 use Rattle.std.proofs.Math.ListN.{set}
@@ -15,6 +15,7 @@ use Rattle.message.specs.declared.msg.Msg.TheVariants.{Put, Del, DelRange, Edit}
 use Rattle.message.specs.Ranges.{reaches, before, within}
 use Rattle.message.specs.Effects.{touches, point_key}
 use Rattle.message.specs.Cuts.{cut_to, pieces}
+use Rattle.message.specs.Oldest.{first_point}
 use Rattle.message.proofs.Parting.{pieces-append}
 use Rattle.message.proofs.KeyOrder.{both}
 use Rattle.node.specs.declared.node.Slot.{Slot}
@@ -25,6 +26,7 @@ use Rattle.node.specs.Pure.{PNode, leaf, inner, depth, PSlots, none, more}
 use Rattle.node.specs.Lawful.{slot_count, next_lo, TouchOnly, starts_at, IsLawfulNode, AreLawfulSlots, IsLawfulRoot}
 use Rattle.node.specs.Searchable.{AreRising, Fits, AllFit, IsRoot, IsSearchable, AreSearchable, see_list}
 use Rattle.node.specs.See.{seen_slots}
+use Rattle.node.specs.StepRows.{piece_count}
 use Rattle.node.proofs.EntryFacts.{rises_all}
 
 abbrev or_empty : Option (List ℕ) → List ℕ
@@ -98,6 +100,33 @@ module _ {U V : Type 0} where
   not_taken : (hi : Option (List ℕ)) (m : Msg U V) (q lo : List ℕ) (ss : PSlots U V) (p : List (Msg U V)) → point_key m ≡ Some q → begins_by ss q ≡ true → p ++ option_to_list (cut_to lo (next_lo hi ss) m) ≡ p
   not_taken hi m q lo none p e f = (cc)
   not_taken hi m q lo (more lp o k ss) p e f = out lo (Some lp) m q p e (and_right (reaches lo q) (before q lp) (not_before_from_reaches lp q f))
+
+  reached_before : (lo q : List ℕ) (ss : PSlots U V) → is_below lo (next_lo None ss) ≡ true → begins_by ss q ≡ true → reaches lo q ≡ true
+  reached_before lo q none b h = (cc)
+  reached_before lo q (more lp o k ss) b h = le_le lo lp q (reaches-from_before lo lp b) h
+
+  -- so one of the slots takes it, if the first begins at or before its key
+  pub one_piece : (m : Msg U V) (q : List ℕ) (ss : PSlots U V) → point_key m ≡ Some q → AreRising ss → piece_count (m ∷ []) ss ≡ cond (begins_by ss q) 1 0
+  one_piece m q none e r = refl
+  one_piece m q (more lo old n ss) e r =
+      let none_after = λ (ps : List (Msg U V)). ap length (append-nil ps) in
+      (elim (begins_by ss q) as (λ c. begins_by ss q ≡ c → length (option_to_list (cut_to lo (next_lo None ss) m) ++ []) + piece_count (m ∷ []) ss ≡ cond (reaches lo q) 1 0) [
+        | true ↦ λ f.
+            let rest = one_piece m q ss e r.1 ∙ ap {B = ℕ} (λ b. cond b 1 0) f in
+            let here = none_after _ ∙ ap length (not_taken None m q lo ss [] e f) in
+            let at = ap {B = ℕ} (λ b. cond b 1 0) (reached_before lo q ss r.0 f) in
+            omega (arith, rest, here, at)
+        | false ↦ λ f.
+            let rest = one_piece m q ss e r.1 ∙ ap {B = ℕ} (λ b. cond b 1 0) f in
+            (elim (reaches lo q) as (λ c. reaches lo q ≡ c → length (option_to_list (cut_to lo (next_lo None ss) m) ++ []) + piece_count (m ∷ []) ss ≡ cond c 1 0) [
+              | true ↦ λ a. omega (arith, rest, none_after _ ∙ ap length (first_taken None m q lo ss [] e a refl f))
+              | false ↦ λ a. omega (arith, rest, none_after _ ∙ ap length (out lo (next_lo None ss) m q [] e (ap (λ b. b && is_below q (next_lo None ss)) a)))
+            ]) refl
+      ]) refl
+
+  pub first_piece : (ms : List (Msg U V)) (q : List ℕ) (ss : PSlots U V) → Some q ≡ first_point ms → AreRising ss → piece_count (take 1 ms) ss ≡ cond (begins_by ss q) 1 0
+  first_piece [] q ss e r = absurd (cc)
+  first_piece (m ∷ ms) q ss e r = one_piece m q ss (sym e) r
 
   -- a message for one key goes to the slot that holds it, and to no other
   pub placed-at : (hi : Option (List ℕ)) (m : Msg U V) (q : List ℕ) (ss : PSlots U V) (ps : List (List (Msg U V))) → point_key m ≡ Some q → AreRising ss → begins_by ss q ≡ true → is_below q hi ≡ true → length ps ≡ slot_count ss → placed hi m ss ps ≡ set ps (slot_number ss q) (get_or ps (slot_number ss q) [] ++ m ∷ [])

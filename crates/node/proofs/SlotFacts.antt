@@ -8,9 +8,12 @@ use Rattle.node.specs.Pure.{PNode, inner, slots}
 use Rattle.node.specs.See.{see_slot, seen_slots}
 use Rattle.node.specs.Searchable.{AreRising}
 use Rattle.std.specs.Prelude.{◌++◌, OnErr, Result, Ok, Err, drop, map, take}
-use Rattle.std.proofs.lemmas.List.{append-nil, drop_all, length-map, take_all}
+use Rattle.std.proofs.lemmas.List.{append-nil, drop_all, get_or_default, length-map, take_all}
+use Rattle.std.specs.List.{AllWithin}
 use Rattle.std.specs.List.Sorted.{IsPartitionedBy, IsPartitionPoint}
-use Rattle.pathkey.proofs.KeyOrder.{reaches-from_before, le_le}
+use Rattle.pathkey.proofs.KeyOrder.{reaches-from_before, reaches-refl, le_le}
+use Rattle.node.specs.HeadCount.{AreBefore}
+use Rattle.node.proofs.HeadSearch.{Climbs, point_at}
 
 module _ {U V : Type 0} where
   -- slots that were lent as a whole and mean what they meant: where there is an error, the node is as it was
@@ -58,6 +61,27 @@ module _ {U V : Type 0} where
   partitioned-rising k (x ∷ xs) r zero (suc j) d a b e = le_le x.lo (get_or xs j d).lo k (first_reaches x xs j d r (omega arith)) e
   partitioned-rising k (x ∷ xs) r (suc i) zero d a b e = absurd (omega arith)
   partitioned-rising k (x ∷ xs) r (suc i) (suc j) d a b e = partitioned-rising k xs r.1 i j d (omega arith) (omega arith) e
+
+  -- each slot begins at or above the earlier ones
+  pub slots_climb : (xs : List (Slot U V)) → AreRising (seen_slots xs) → Climbs (λ (s : Slot U V). s.lo) xs
+  slots_climb [] r i j d a b = absurd (omega arith)
+  slots_climb (x ∷ xs) r zero zero d a b = reaches-refl x.lo
+  slots_climb (x ∷ xs) r zero (suc j) d a b = first_reaches x xs j d r (omega arith)
+  slots_climb (x ∷ xs) r (suc i) zero d a b = absurd (omega arith)
+  slots_climb (x ∷ xs) r (suc i) (suc j) d a b = slots_climb xs r.1 i j d (omega arith) (omega arith)
+
+  -- slots that begin before a key begin at or before it
+  pub begun : (k : List ℕ) (xs : List (Slot U V)) (n : ℕ) → AreBefore (λ (s : Slot U V). s.lo) xs k n → AllWithin (λ (s : Slot U V). reaches s.lo k ≡ true) xs 0 n
+  begun k xs n f j d a b = reaches-from_before (get_or xs j d).lo k (f.earlier j d a b)
+
+  -- up to one that begins above it
+  pub begun_at : (k : List ℕ) (xs : List (Slot U V)) (n : ℕ) → AreRising (seen_slots xs) → AreBefore (λ (s : Slot U V). s.lo) xs k n → ((d : Slot U V) → n < length xs → reaches (get_or xs n d).lo k ≡ false)
+      → IsPartitionPoint (λ (s : Slot U V). reaches s.lo k ≡ true) (λ (s : Slot U V). reaches s.lo k ≡ false) xs n
+  begun_at k xs n r f stop = point_at (λ (s : Slot U V). reaches s.lo k) xs n (begun k xs n f) (partitioned-rising k xs r) stop
+
+  pub begun_here : (k : List ℕ) (xs : List (Slot U V)) (n : ℕ) (s : Slot U V) → AreRising (seen_slots xs) → AreBefore (λ (s : Slot U V). s.lo) xs k n → n < length xs → s ≡ get_or xs n s → reaches s.lo k ≡ false
+      → IsPartitionPoint (λ (s : Slot U V). reaches s.lo k ≡ true) (λ (s : Slot U V). reaches s.lo k ≡ false) xs n
+  begun_here k xs n s r f b at h = begun_at k xs n r f (λ d l. subst (λ (x : Slot U V). reaches x.lo k ≡ false) (at ∙ get_or_default xs n s d b) h)
 
   pub number-by_search : (k : List ℕ) (x : Slot U V) (xs : List (Slot U V)) (i : ℕ) → i ≤ length xs → IsPartitionPoint (λ (s : Slot U V). reaches s.lo k ≡ true) (λ (s : Slot U V). reaches s.lo k ≡ false) xs i → i ≡ slot_number (seen_slots (x ∷ xs)) k
   number-by_search k x xs i b p = slot_number_is k (x ∷ xs) i (omega arith) (λ j d h. p.0 j d (omega arith) h) (λ d h. p.1 i d (omega arith) (omega arith))

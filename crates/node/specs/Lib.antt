@@ -4,6 +4,7 @@ pub mod Codes
 pub mod See
 pub mod Falls
 pub mod Meaning
+pub mod HeadCount
 pub mod Lawful
 pub mod Appended
 pub mod Searchable

@@ -1,12 +1,14 @@
 //! How much a node holds: pending messages, the pieces of a message, and the totals of a tree.
 //!
 //! Walks of a whole tree stop counting at `u128::MAX`, which no tree in memory reaches.
-ghost use Rattle.std.specs.Prelude.{◌≡◌, ◌≤◌, ◌<◌, ◌+◌, ◌*◌, ◌^◌, ◌∷◌, [], true, false, length, take, drop};
+ghost use Rattle.std.specs.Prelude.{◌≡◌, ◌≤◌, ◌<◌, ◌+◌, ◌*◌, ◌^◌, ◌∷◌, [], true, false, if◌then◌else◌, length, take, drop};
 ghost use Rattle.node.specs.Lawful.{pending as pending_of};
 ghost use Rattle.node.specs.Report.{own as own_of, total as total_of, width};
 ghost use Rattle.node.specs.RootSteps.{levels};
 ghost use Rattle.message.specs.Effects.{range_count};
 ghost use Rattle.node.specs.StepRows.{piece_count, CanPart, CannotPart};
+ghost use Rattle.node.specs.Meaning.{begins_by};
+ghost use Rattle.node.specs.Searchable.{AreRising};
 ghost use Rattle.node.specs.See.{seen_slots};
 
 use super::search::next_pivot;
@@ -15,6 +17,7 @@ use crate::report::Quantity;
 use crate::shape::Shape;
 use message::range_tests::overlaps_range;
 use message::{Msg, Update};
+use pathkey::Key;
 use pending::Pending;
 
 /// How many messages are pending in the slots.
@@ -45,8 +48,31 @@ pub fn pieces_in<U: Update>(slots: &[Slot<U>], msg: &Msg<U>) -> usize
     if is_met { more + 1 } else { more }
 }
 
-/// How many of the slots take a part of the list's oldest message.
+/// How many of the slots take a part of the list's oldest message. If it is for one key, that takes a single comparison.
 pub fn pieces_of_oldest<U: Update>(slots: &[Slot<U>], list: &Pending<U>) -> usize
+    requires { AreRising (seen_slots slots.now) }
+    ensures bound { result ≤ length slots.now }
+    ensures exact { result ≡ piece_count (take 1 list.now.0) (seen_slots slots.now) }
+{
+    match list.oldest_point() {
+        None => pieces_of_range(slots, list),
+        Some(key) => pieces_at(slots, key),
+    }
+}
+
+/// How many of the slots hold the key: one, unless all begin after it.
+fn pieces_at<U: Update>(slots: &[Slot<U>], key: &Key) -> usize
+    ensures bound { result ≤ length slots.now }
+    ensures exact { result ≡ (if begins_by (seen_slots slots.now) key.now then 1 else 0) }
+{
+    let Some(first) = slots.first() else {
+        return 0;
+    };
+    if first.lo.cmp(key).is_le() { 1 } else { 0 }
+}
+
+/// The same as [`pieces_of_oldest`], by asking each slot.
+fn pieces_of_range<U: Update>(slots: &[Slot<U>], list: &Pending<U>) -> usize
     ensures bound { result ≤ length slots.now }
     ensures exact { result ≡ piece_count (take 1 list.now.0) (seen_slots slots.now) }
 {
@@ -54,7 +80,7 @@ pub fn pieces_of_oldest<U: Update>(slots: &[Slot<U>], list: &Pending<U>) -> usiz
         return 0;
     };
     let is_met = list.oldest_meets(&slot.lo, next_pivot(later, None));
-    let more = pieces_of_oldest(later, list);
+    let more = pieces_of_range(later, list);
     if is_met { more + 1 } else { more }
 }
 

@@ -6,6 +6,7 @@ ghost use Rattle.std.specs.Prelude.{◌≡◌, ℕ, ◌<◌, ◌≤◌, List, []
 ghost use Rattle.pathkey.specs.Keys.{is_in};
 ghost use Rattle.pathkey.specs.Order.{same};
 ghost use Rattle.std.specs.Option.{option_copied};
+ghost use Rattle.node.specs.HeadCount.{AreBefore, IsHeadCount};
 ghost use Rattle.node.specs.Lawful.{Rises};
 ghost use Rattle.node.specs.Leaves.{IsCount, IsEntry, IsGap, IsPlace, IsChanged, Applied, IsDivided};
 ghost use Rattle.node.specs.Meaning.{lookup};
@@ -15,25 +16,92 @@ use cow_map::strides::count_passing;
 use message::{Msg, Update};
 use pathkey::{Key, KeyRange, NoMemory};
 use std::alloc::Global;
+use std::cmp::Ordering;
 
-/// How many entries are before the key, found by a search in strides.
+/// How many entries are before the key.
 pub fn count_before<V>(entries: &[(Key, V)], key: &Key) -> usize
     requires { Rises [] None entries.now }
     ensures { IsCount entries.now (Some key.now) result }
 {
-    count_passing(entries, |entry| entry.0.cmp(key).is_lt())
+    match position(entries, key) {
+        Ok(i) => i,
+        Err(i) => i,
+    }
 }
 
-/// The index of the entry that has the key, or of the entry before which it would be inserted.
+/// The index of the entry that has the key, or of the entry before which it would be inserted, found by a search in strides, first
+/// by heads alone.
 pub fn position<V>(entries: &[(Key, V)], key: &Key) -> Result<usize, usize>
     requires { Rises [] None entries.now }
     ensures { IsPlace entries.now key.now result }
 {
-    let i = count_before(entries, key);
+    if has_head(entries.first(), key) {
+        return position_behind(entries, 0, key);
+    }
+    position_from(entries, count_by_heads(entries, key), key)
+}
+
+/// Whether the entry's key has the key's head. No claim depends on it.
+#[inline(always)]
+fn has_head<V>(entry: Option<&(Key, V)>, key: &Key) -> bool {
+    match entry {
+        Some(entry) => entry.0.head() == key.head(),
+        None => false,
+    }
+}
+
+/// How many entries have a lesser head than the key.
+#[inline(always)]
+fn count_by_heads<V>(entries: &[(Key, V)], key: &Key) -> usize
+    requires { Rises [] None entries.now }
+    ensures { IsHeadCount (λ e. e.0) entries.now key.now result }
+{
+    let head = key.head();
+    count_passing(entries, |entry| entry.0.head() < head)
+}
+
+/// The position of the key, where `low` entries have a lesser head.
+#[inline(always)]
+fn position_from<V>(entries: &[(Key, V)], low: usize, key: &Key) -> Result<usize, usize>
+    requires rising { Rises [] None entries.now }
+    requires low { IsHeadCount (λ e. e.0) entries.now key.now low }
+    ensures { IsPlace entries.now key.now result }
+{
+    let Some(entry) = entries.get(low) else {
+        return Err(low);
+    };
+    if entry.0.head() != key.head() {
+        return Err(low);
+    }
+    match entry.0.cmp(key) {
+        Ordering::Equal => Ok(low),
+        Ordering::Greater => Err(low),
+        Ordering::Less => position_behind(entries, low + 1, key),
+    }
+}
+
+/// The position of the key by whole keys, where the first `low` entries are before it.
+#[inline(never)]
+fn position_behind<V>(entries: &[(Key, V)], low: usize, key: &Key) -> Result<usize, usize>
+    requires rising { Rises [] None entries.now }
+    requires low { AreBefore (λ e. e.0) entries.now key.now low }
+    ensures { IsPlace entries.now key.now result }
+{
+    let i = count_behind(entries, low, key);
     match entries.get(i) {
         Some(entry) if entry.0 == *key => Ok(i),
         _ => Err(i),
     }
+}
+
+/// How many entries are before the key, by whole keys, where the first `low` are.
+#[inline(always)]
+fn count_behind<V>(entries: &[(Key, V)], low: usize, key: &Key) -> usize
+    requires rising { Rises [] None entries.now }
+    requires low { AreBefore (λ e. e.0) entries.now key.now low }
+    ensures { IsCount entries.now (Some key.now) result }
+{
+    low + count_passing(&entries[low..], |entry| entry.0.cmp(key).is_lt())
 }
 
 /// Gives the entry the value, or removes it if there is none.

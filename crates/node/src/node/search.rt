@@ -2,10 +2,12 @@
 //!
 //! The slots are sorted by pivot, and each range ends where the next slot begins: the slot of a key is the last whose pivot is at or
 //! before it.
-ghost use Rattle.std.specs.Prelude.{◌≡◌, ◌<◌, ◌&&◌, true, length, None, IfSome, MatchOption};
+ghost use Rattle.std.specs.Prelude.{◌≡◌, ◌<◌, ◌≤◌, ◌&&◌, true, false, length, None, IfSome, MatchOption};
+ghost use Rattle.std.specs.List.Sorted.{IsPartitionPoint};
 ghost use Rattle.std.specs.Option.{option_copied};
 ghost use Rattle.pathkey.specs.Keys.{is_below};
-ghost use Rattle.message.specs.Ranges.{ends_within};
+ghost use Rattle.message.specs.Ranges.{ends_within, reaches};
+ghost use Rattle.node.specs.HeadCount.{AreBefore, IsHeadCount};
 ghost use Rattle.node.specs.Homes.{IsHome};
 ghost use Rattle.node.specs.Lawful.{next_lo};
 ghost use Rattle.node.specs.Meaning.{holder, slot_number};
@@ -20,7 +22,7 @@ use message::ends::{ends_by, is_before_end};
 use message::{Msg, Update, UpdateTarget};
 use pathkey::{Key, KeyRange};
 
-/// The index of the slot whose range holds the key, found by a search in strides.
+/// The index of the slot whose range holds the key, found by a search in strides, first by the heads of pivots alone.
 pub fn slot_of<U: Update>(slots: &[Slot<U>], key: &Key) -> usize
     requires some { 0 < length slots.now }
     requires rising { AreRising (seen_slots slots.now) }
@@ -31,7 +33,67 @@ pub fn slot_of<U: Update>(slots: &[Slot<U>], key: &Key) -> usize
         // Unreachable: there is a first slot.
         return 0;
     };
-    count_passing(later, |slot| slot.lo.cmp(key).is_le())
+    count_to(later, key)
+}
+
+/// How many slots begin at or before the key.
+#[inline(always)]
+fn count_to<U: Update>(slots: &[Slot<U>], key: &Key) -> usize
+    requires { AreRising (seen_slots slots.now) }
+    ensures bound { result ≤ length slots.now }
+    ensures point { IsPartitionPoint (λ s. reaches s.lo key.now ≡ true) (λ s. reaches s.lo key.now ≡ false) slots.now result }
+{
+    if has_head(slots.first(), key) {
+        return count_behind(slots, 0, key);
+    }
+    count_from(slots, count_by_heads(slots, key), key)
+}
+
+/// Whether the slot's pivot has the key's head. No claim depends on it.
+#[inline(always)]
+fn has_head<U: Update>(slot: Option<&Slot<U>>, key: &Key) -> bool {
+    match slot {
+        Some(slot) => slot.lo.head() == key.head(),
+        None => false,
+    }
+}
+
+/// How many slots have a pivot with a lesser head than the key's.
+#[inline(always)]
+fn count_by_heads<U: Update>(slots: &[Slot<U>], key: &Key) -> usize
+    requires { AreRising (seen_slots slots.now) }
+    ensures { IsHeadCount (λ s. s.lo) slots.now key.now result }
+{
+    let head = key.head();
+    count_passing(slots, |slot| slot.lo.head() < head)
+}
+
+/// How many slots begin at or before the key, of which `low` have a pivot with a lesser head.
+#[inline(always)]
+fn count_from<U: Update>(slots: &[Slot<U>], low: usize, key: &Key) -> usize
+    requires rising { AreRising (seen_slots slots.now) }
+    requires low { IsHeadCount (λ s. s.lo) slots.now key.now low }
+    ensures bound { result ≤ length slots.now }
+    ensures point { IsPartitionPoint (λ s. reaches s.lo key.now ≡ true) (λ s. reaches s.lo key.now ≡ false) slots.now result }
+{
+    let Some(slot) = slots.get(low) else {
+        return low;
+    };
+    if slot.lo.head() != key.head() {
+        return low;
+    }
+    count_behind(slots, low, key)
+}
+
+/// The same by whole keys, where the first `low` slots begin before the key.
+#[inline(never)]
+fn count_behind<U: Update>(slots: &[Slot<U>], low: usize, key: &Key) -> usize
+    requires rising { AreRising (seen_slots slots.now) }
+    requires low { AreBefore (λ s. s.lo) slots.now key.now low }
+    ensures bound { result ≤ length slots.now }
+    ensures point { IsPartitionPoint (λ s. reaches s.lo key.now ≡ true) (λ s. reaches s.lo key.now ≡ false) slots.now result }
+{
+    low + count_passing(&slots[low..], |slot| slot.lo.cmp(key).is_le())
 }
 
 /// The index of the slot whose range holds the key; `None` if all slots begin after it.
