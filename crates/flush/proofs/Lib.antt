@@ -1,11 +1,15 @@
 pub mod Counts
 pub mod OldestOf
+pub mod AtPlace
 pub mod Flushable
 pub mod Growth
 pub mod InnerFlush
+pub mod Keyed
 pub mod LeafFlush
 pub mod Loads
 pub mod Moves
 pub mod Merging
 pub mod Named
+pub mod Sharing
+pub mod PlaceChanges
 pub mod Walks

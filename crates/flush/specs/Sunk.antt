@@ -1,10 +1,11 @@
 -- What becomes of one slot and its child when messages go down.
-use Rattle.std.specs.Prelude.{◌≡◌, ℕ, ◌-◌, ◌≤◌, false, List, [], Option, None, length, take, drop}
+use Rattle.std.specs.Prelude.{◌≡◌, ℕ, ◌-◌, ◌≤◌, true, false, List, [], ◌∷◌, Option, None, length, take, drop, ⊤}
 use Rattle.message.specs.declared.msg.Msg.{Msg}
 use Rattle.node.specs.declared.step.StepReply.{StepReply}
 use Rattle.node.specs.declared.step.StepReply.TheVariants.{Did, NotThere, NoRoom, NoMemory}
 use Rattle.node.specs.Appended.{batches_by_slot, HaveTaken}
 use Rattle.node.specs.Lawful.{pending}
+use Rattle.node.specs.Meaning.{begins_by}
 use Rattle.node.specs.Pure.{PNode, leaf, inner, PSlots, none, more}
 use Rattle.node.specs.StepRows.{piece_count, can_flush_inner, IsFullBelow}
 
@@ -19,6 +20,11 @@ left NoMemory ms = ms
 abbrev pub free_pieces : {U V : Type 0} → ℕ → PNode U V → ℕ
 free_pieces most (inner cs) = most - pending cs
 free_pieces most (leaf es) = 0
+
+-- the first of these slots begins at or before the first of the keys, if there is one
+abbrev pub BeginsByFirst : {U V X : Type 0} → List (List ℕ × X) → PSlots U V → Type 0
+BeginsByFirst [] ss = ⊤
+BeginsByFirst (e ∷ es) ss = begins_by ss e.0 ≡ true
 
 module _ {U V : Type 0} (means : U → Option V → Option V) where
   -- so many of the oldest messages ms went into the slots cs, at most one piece each; the slots became ds, and rest is left

@@ -1,13 +1,16 @@
 //! A flush into an inner node.
 //!
-//! Messages for one key are moved into the slots that hold their keys, those of a key at once if possible. Range-deletes at
-//! the front of a list are copied, since their pieces need keys of their own.
+//! A walk over the oldest messages of the list shares those of each key, at once, with the slot that holds the key, which is sought
+//! from the last one on; then they are dropped from the list together. Messages that cannot be shared are moved one key at a time,
+//! and range-deletes at the front of a list are copied, since their pieces need keys of their own.
 //!
 //! Invariant: messages leave the slot in their order, the oldest first, and only once the child has them, where they are newer
 //! than what is pending. So the value at every key stays, also if an allocation fails half-way.
-ghost use Rattle.std.specs.Prelude.{◌≡◌, ℕ, true, false, ◌+◌, ◌≤◌, ◌<◌, ◌∷◌, [], length, take, map, None, IfOk, OnOk, OnErr};
+ghost use Rattle.std.specs.Prelude.{◌≡◌, ℕ, true, false, ◌+◌, ◌≤◌, ◌<◌, ◌∷◌, [], length, take, drop, map, Some, None, IfNone, IfOk, IfSome, OnOk, OnErr};
+ghost use Rattle.point_ops.specs.PointOps.{point_msgs};
 ghost use Rattle.node.specs.Appended.{batches_by_slot, HaveTaken};
 ghost use Rattle.node.specs.Lawful.{pending as pending_of};
+ghost use Rattle.node.specs.Meaning.{begins_by, holder};
 ghost use Rattle.node.specs.Places.{way};
 ghost use Rattle.node.specs.Searchable.{AreRising, IsSearchable};
 ghost use Rattle.node.specs.StepRows.{can_flush_inner, piece_count};
@@ -16,7 +19,7 @@ ghost use Rattle.node.specs.Site.{slots_from};
 ghost use Rattle.node.specs.Steps.{Answers};
 ghost use Rattle.node.specs.declared.step.StepKind.TheVariants.{FlushInner};
 ghost use Rattle.node.specs.declared.step.StepReply.TheVariants.{Did};
-ghost use Rattle.flush.specs.Sunk.{Moved, MovedInto, Sunk, left, free_pieces};
+ghost use Rattle.flush.specs.Sunk.{BeginsByFirst, Moved, MovedInto, Sunk, left, free_pieces};
 
 use message::{Msg, Update};
 use node::append::append_copies;
@@ -24,7 +27,7 @@ use node::count::{pending_len, pieces_in, pieces_of_oldest};
 use node::search::holder;
 use node::{Body, Node, Place, Shape, Slot, SlotStep, StepReply, Tree};
 use pathkey::{Key, NoMemory};
-use pending::Pending;
+use pending::{OldestWalk, Pending};
 use std::alloc::Global;
 use std::sync::Arc;
 
@@ -168,6 +171,91 @@ fn move_oldest<U: Update>(
     list.flush_oldest(&mut slot.pending, most)
 }
 
+/// The slot that holds the key, sought forward from slot `i`, which begins at or before the key.
+#[inline(always)]
+fn holder_from<U: Update>(below: &[Slot<U>], i: usize, key: &Key) -> usize
+    requires rising { AreRising (seen_slots below.now) }
+    requires begins { begins_by (slots_from i (seen_slots below.now)) key.now ≡ true }
+    ensures bound { result < length below.now }
+    ensures number { Some result ≡ holder (seen_slots below.now) key.now }
+{
+    let mut at = i;
+    while at + 1 < below.len() && below[at + 1].lo.cmp(key).is_le() {
+        at += 1;
+    }
+    at
+}
+
+/// Shares the messages of a walk's next key, at most `room`, with the slot that holds the key, and passes the key. The slot is
+/// sought from slot `i` on. Returns its index and how many messages; `None` if the walk has ended or the slot takes none.
+#[inline(always)]
+fn share_next<U: Update>(
+    below: &mut [Slot<U>],
+    i: usize,
+    walk: &mut OldestWalk<'_, U>,
+    room: usize,
+) -> Option<(usize, usize)>
+    requires rising { AreRising (seen_slots below.old) }
+    requires begins { BeginsByFirst walk.old (slots_from i (seen_slots below.old)) }
+    ensures within { IfSome result (λ p. (0 < p.1) × (p.1 ≤ room)) }
+    ensures moved { IfSome result (λ p. Moved U.means p.1 (point_msgs walk.old) (point_msgs walk.new) (seen_slots below.old) (seen_slots below.new)) }
+    ensures begins { IfSome result (λ p. BeginsByFirst walk.new (slots_from p.0 (seen_slots below.new))) }
+    ensures kept { IfNone result (seen_slots below.new ≡ seen_slots below.old) }
+{
+    let Some((key, _)) = walk.peek() else {
+        return None;
+    };
+    walk.assert_rising();
+    let at = holder_from(below, i, key);
+    let slot = &mut below[at];
+    let Some(count) = slot.pending.share_first_of(walk, room) else {
+        return None;
+    };
+    walk.pass();
+    Some((at, count))
+}
+
+/// Shares the messages of a walk, key by key, with the slots that hold the keys, at most `room`, up to a key whose slot takes
+/// none, and counts them.
+fn share_along<U: Update>(below: &mut [Slot<U>], walk: OldestWalk<'_, U>, room: usize) -> usize
+    requires { AreRising (seen_slots below.old) }
+    ensures within { result ≤ room }
+    ensures moved { Moved U.means result (point_msgs walk.entry) (drop result (point_msgs walk.entry)) (seen_slots below.old) (seen_slots below.new) }
+{
+    let Some((first, _)) = walk.peek() else {
+        return 0;
+    };
+    let Some(mut i) = holder(below, first) else {
+        // Unreachable in a lawful tree, where the first slot begins at or before each key of the list.
+        return 0;
+    };
+    let mut rest = walk;
+    let mut count = 0;
+    while count < room {
+        let Some((at, more)) = share_next(below, i, &mut rest, room - count) else {
+            return count;
+        };
+        i = at;
+        count += more;
+    }
+    count
+}
+
+/// Moves a list's oldest messages into the slots that hold their keys, at most `room`, up to one that cannot be shared, and counts
+/// them.
+fn share_points<U: Update>(below: &mut [Slot<U>], list: &mut Pending<U>, room: usize) -> usize
+    requires { AreRising (seen_slots below.old) }
+    ensures within { result ≤ room }
+    ensures moved { Moved U.means result list.old.0 list.new.0 (seen_slots below.old) (seen_slots below.new) }
+{
+    let Some(walk) = list.walk_oldest() else {
+        return 0;
+    };
+    let count = share_along(below, walk, room);
+    list.drop_front(count);
+    count
+}
+
 /// Moves a list's oldest messages into the slots that hold their keys, at most `room`, up to one that stays or for which an
 /// allocation fails, and counts them. It fails only if an allocation fails and none has moved.
 fn move_points<U: Update>(
@@ -182,6 +270,10 @@ fn move_points<U: Update>(
 {
     let mut count = 0;
     while count < room {
+        count += share_points(below, list, room - count);
+        if count >= room {
+            return Ok(count);
+        }
         match move_oldest(below, list, room - count) {
             Ok(0) => return Ok(count),
             Ok(more) => count += more,
@@ -256,6 +348,7 @@ fn push_oldest<U: Update>(alloc: Global, room: u16, slot: &mut Slot<U>) -> StepR
 
 /// Whether a node with these slots, which has room for `room` pieces, has room for those of the list's oldest message.
 fn takes<U: Update>(slots: &[Slot<U>], list: &Pending<U>, room: u16) -> bool
+    requires { AreRising (seen_slots slots.now) }
     ensures yes { result ≡ true → pending_of (seen_slots slots.now) + piece_count (take 1 list.now.0) (seen_slots slots.now) ≤ room }
     ensures no { result ≡ false → room < pending_of (seen_slots slots.now) + piece_count (take 1 list.now.0) (seen_slots slots.now) }
 {

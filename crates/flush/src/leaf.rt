@@ -5,12 +5,18 @@
 //! the next flush finds a leaf with half its room free. So messages for keys that the full leaf has, of which one may come
 //! with each new entry, do not delay the split.
 //!
+//! Messages are applied along a walk over the slot's list, without a copy. Copies of the oldest few are applied one by one only if
+//! the list cannot be walked: if it begins with range-deletes or with part of a key's updates, or has its messages in the order of
+//! their arrival.
+//!
 //! Invariant: the slot loses exactly the messages that were applied, which are its oldest. So the value at every key stays, also
 //! if an allocation fails half-way.
-ghost use Rattle.std.specs.Prelude.{◌≡◌, ◌≤◌, ◌<◌, ◌∷◌, [], None, true, false, length, take, drop, ◌⊎◌, ⊤, IsTrue, IfOk, OnErr, MatchOption};
+ghost use Rattle.std.specs.Prelude.{◌≡◌, ◌≤◌, ◌<◌, ◌∷◌, [], None, true, false, length, take, drop, ◌⊎◌, ⊤, IsTrue, IfOk, IfSome, OnErr, MatchOption};
 ghost use Rattle.std.specs.Option.{option_copied};
 ghost use Rattle.message.specs.Oldest.{given_at, put_at};
 ghost use Rattle.message.specs.declared.msg.Msg.{Msg};
+ghost use Rattle.point_ops.specs.PointOps.{point_msgs};
+ghost use Rattle.pending.specs.OldestWalk.{IsWalk};
 ghost use Rattle.node.specs.Lawful.{Rises};
 ghost use Rattle.node.specs.Leaves.{Applied};
 ghost use Rattle.node.specs.Places.{way};
@@ -25,7 +31,7 @@ ghost use Rattle.flush.specs.Merge.{IsFilled};
 ghost use Rattle.flush.specs.Sunk.{left};
 ghost use Rattle.flush.specs.Leaf.{AddsNone, HasPlace, Filled, AfterOldest, AfterOldestAt, MayGoAt, MayCutAt, KeptOldest, IsHalved};
 
-use crate::apply_pass::apply_sorted;
+use crate::apply_pass::apply_along;
 use crate::inner::few_oldest;
 use crate::room::{apply_within, has_room};
 use message::{Msg, Update};
@@ -34,10 +40,11 @@ use node::cut::split_slot;
 use node::leaf::{applied, position, split_half};
 use node::{Body, Node, Place, Shape, Slot, SlotStep, StepReply, Tree};
 use pathkey::{Key, NoMemory};
+use pending::{MsgRef, OldestWalk, Pending};
 use std::alloc::Global;
 use std::sync::Arc;
 
-/// The largest number of a slot's messages that a flush into a leaf reads and copies: as many as a node may hold.
+/// The largest number of a slot's messages that a flush into a leaf reads: as many as a node may hold.
 const MAX_EXAMINED: u16 = 1024;
 
 /// Whether a leaf of at least `most` entries has none for the key of a put; `None` is another message.
@@ -75,38 +82,6 @@ fn apply_each<U: Update>(
     count
 }
 
-/// How many range-deletes are before all other messages.
-fn leading_ranges<U: Update>(msgs: &[Msg<U>]) -> usize
-    ensures { result ≤ length msgs.now }
-{
-    let mut count = 0;
-    for msg in msgs {
-        if msg.point_key().is_some() {
-            return count;
-        }
-        count += 1;
-    }
-    count
-}
-
-/// Applies messages: the range-deletes at their head one by one, those after them in one pass, and again one by one those
-/// that the pass left over.
-fn apply_all<U: Update>(
-    alloc: Global,
-    entries: &mut Vec<(Key, U::Value)>,
-    msgs: &[Msg<U>],
-    most: usize,
-) -> usize
-    requires { Rises [] None entries.old.items }
-    ensures { IsFilled U.means most msgs.now result entries.old.items entries.new.items }
-{
-    let head = leading_ranges(msgs);
-    let ranges = apply_each(alloc, entries, &msgs[..head], most);
-    let points = apply_sorted(alloc, entries, &msgs[ranges..], most);
-    let count = ranges + points;
-    count + apply_each(alloc, entries, &msgs[count..], most)
-}
-
 /// Applies messages to entries, the oldest first, up to one for which there may be no room or an allocation fails, and
 /// counts them.
 fn apply_fitting<U: Update>(
@@ -124,7 +99,7 @@ fn apply_fitting<U: Update>(
 {
     // No flush brings so many messages: that bound makes the count a `u32`.
     let few = msgs.len().min(4294967295);
-    apply_all(alloc, entries, &msgs[..few], most)
+    apply_each(alloc, entries, &msgs[..few], most)
 }
 
 /// Whether the slot's leaf has room for the oldest message as it is.
@@ -174,6 +149,67 @@ fn apply_some<U: Update>(
     StepReply::Did(count as u32)
 }
 
+/// Applies as many of a walk's messages to the leaf as it has room for, in place, key by key until it has applied `few`.
+fn apply_walk<U: Update>(
+    alloc: Global,
+    most: u16,
+    walk: OldestWalk<'_, U>,
+    few: u16,
+    child: &mut Arc<Node<U>>,
+) -> StepReply
+    requires { IsSearchable child.old.value }
+    ensures { Filled U.means most result (point_msgs walk.entry) child.old.value child.new.value }
+{
+    let Ok(own) = Arc::make_mut(child) else {
+        return StepReply::NoMemory;
+    };
+    let Body::Leaf(entries) = own.body_mut() else {
+        // Unreachable: the slot's leaf has room for its oldest message.
+        return StepReply::NotThere;
+    };
+    let count = apply_along(alloc, entries, walk, few, most as usize);
+    own.update_weight();
+    if count == 0 {
+        // There is room for the first message, so an allocation failed.
+        return StepReply::NoMemory;
+    }
+    StepReply::Did(count as u32)
+}
+
+/// A walk over the oldest messages of a list, if it can be walked and the walk has a message.
+fn walk_some<U: Update>(list: &Pending<U>) -> Option<OldestWalk<'_, U>>
+    ensures walk { IfSome result (λ w. IsWalk w list.now.0) }
+    ensures some { IfSome result (λ w. 0 < length (point_msgs w)) }
+{
+    let walk = list.walk_oldest()?;
+    if walk.peek().is_none() {
+        return None;
+    }
+    Some(walk)
+}
+
+/// Applies as many of a list's oldest messages to the leaf as it has room for, in place.
+fn apply_front<U: Update>(
+    alloc: Global,
+    most: u16,
+    list: &Pending<U>,
+    child: &mut Arc<Node<U>>,
+) -> StepReply
+    requires { IsSearchable child.old.value }
+    ensures { Filled U.means most result list.now.0 child.old.value child.new.value }
+{
+    let limit = most.saturating_mul(2).min(MAX_EXAMINED);
+    if let Some(walk) = walk_some(list) {
+        let few = list.len().min(limit as usize) as u16;
+        return apply_walk(alloc, most, walk, few, child);
+    }
+    let few = few_oldest(list, limit);
+    let Ok(msgs) = list.copy_front(alloc, few) else {
+        return StepReply::NoMemory;
+    };
+    apply_some(alloc, most, msgs.as_slice(), child)
+}
+
 /// Applies as many of a slot's oldest messages to its leaf as the leaf has room for, in place, if there is room for the
 /// oldest. The slot loses the messages that its leaf has.
 fn apply_oldest_fitting<U: Update>(alloc: Global, most: u16, slot: &mut Slot<U>) -> StepReply
@@ -183,11 +219,7 @@ fn apply_oldest_fitting<U: Update>(alloc: Global, most: u16, slot: &mut Slot<U>)
     ensures left { slot.new.pending.0 ≡ left result slot.old.pending.0 }
     ensures filled { Filled U.means most result slot.old.pending.0 slot.old.child.value slot.new.child.value }
 {
-    let few = few_oldest(&slot.pending, most.saturating_mul(2).min(MAX_EXAMINED));
-    let Ok(msgs) = slot.pending.copy_front(alloc, few) else {
-        return StepReply::NoMemory;
-    };
-    let reply = apply_some(alloc, most, msgs.as_slice(), &mut slot.child);
+    let reply = apply_front(alloc, most, &slot.pending, &mut slot.child);
     if let StepReply::Did(count) = reply {
         slot.pending.drop_front(count as usize);
     }
@@ -209,6 +241,39 @@ fn up_to_overfull<U: Update>(entries: &[(Key, U::Value)], msgs: &[Msg<U>], most:
     0
 }
 
+/// How many messages of a walk there are up to and including the first for which a full leaf has no room; 0 if it has room for
+/// the `few` oldest.
+fn up_to_new<U: Update>(entries: &[(Key, U::Value)], walk: OldestWalk<'_, U>, few: u8) -> usize
+    requires { Rises [] None entries.now }
+    ensures within { result ≤ length (point_msgs walk.entry) }
+    ensures few { result ≤ few }
+{
+    let few = few as usize;
+    let mut walk = walk;
+    let mut count = 0;
+    while let Some((key, len)) = walk.peek() {
+        if count >= few {
+            return 0;
+        }
+        // Only the first operation of a key is read: if there are several, all are updates.
+        if may_create(walk.msg(0)) && position(entries, key).is_err() {
+            return count + 1;
+        }
+        count += len.min(few);
+        walk.pass();
+    }
+    0
+}
+
+/// Whether a message may give a value to a key without one. No claim depends on it.
+#[inline(always)]
+fn may_create<U: Update>(msg: MsgRef<'_, U>) -> bool {
+    match msg {
+        MsgRef::Put(_, _) | MsgRef::Edit(_, _) => true,
+        MsgRef::Del(_) | MsgRef::DelRange(_, _) => false,
+    }
+}
+
 /// How many of a slot's oldest messages there are up to and including the first for which its full leaf has no room; 0 if
 /// there is none or the leaf is not full. It reads 255 messages at most, and no more than a full leaf has entries.
 fn oldest_to_cut<U: Update>(alloc: Global, slot: &Slot<U>, most: u16) -> u8
@@ -224,6 +289,9 @@ fn oldest_to_cut<U: Update>(alloc: Global, slot: &Slot<U>, most: u16) -> u8
         return 0;
     }
     let few = slot.pending.len().min(most as usize).min(255);
+    if let Some(walk) = walk_some(&slot.pending) {
+        return up_to_new::<U>(entries.as_slice(), walk, few as u8) as u8;
+    }
     let Ok(msgs) = slot.pending.copy_front(alloc, few) else {
         // A failed allocation delays the split: only what there is room for is tried.
         return 0;

@@ -4,8 +4,8 @@
 //! key stays: what was pending above is now pending, or applied, below (Brodal and Fagerberg 2003). `heaviest` names the
 //! flush that moves most: that of a slot than which no slot has more pending messages.
 //!
-//! `inner` is the flush into an inner node and `leaf` the flush into a leaf. `room` and `apply_pass` apply messages to a leaf's
-//! entries, one by one or in one pass, and `heaviest_slot` finds the fullest slot.
+//! `inner` is the flush into an inner node and `leaf` the flush into a leaf. `room` applies a message to a leaf's entries and
+//! `apply_pass` those of a walk, and `heaviest_slot` finds the fullest slot.
 #![tactic(auto)]
 
 mod apply_pass;

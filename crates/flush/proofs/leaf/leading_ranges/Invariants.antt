@@ -1,5 +1,0 @@
-use Rattle.std.proofs.Common.{◌≡◌}
-use Rattle.flush.proofs.leaf.leading_ranges.Given as goal
-
-abbrev pub invariant-loop-msg : goal.invariant-loop-msg
-invariant-loop-msg g l = l.count ≡ l.msg-index
