@@ -22,16 +22,26 @@ use Rattle.message.proofs.KeyOrder.{within-same, empty_by}
 use Rattle.message.proofs.Lists.{effects-append, any_touches-append, takes-append}
 use Rattle.message.proofs.NextKey.{by_bool}
 use Rattle.point_ops.specs.Changes.{KeyOp, run_msgs, run_effect}
-use Rattle.point_ops.specs.PointOps.{point_msgs, point_count, found_effect, AddsFirst, AreRuns, Inserts}
+use Rattle.point_ops.specs.PointOps.{point_msgs, point_count, found_effect, AddsFirst, AreRuns, Inserts, JoinsAt}
+use Rattle.point_ops.specs.declared.join_reply.JoinReply.{JoinReply}
+use Rattle.point_ops.specs.declared.join_reply.JoinReply.TheVariants.{Joined, NoKey, Apart}
 use Rattle.range_set.specs.Disjoint.{Span, covered, range_msgs, CoversMore, TakesFirst as TakesRange}
-use Rattle.pending.specs.SortedMsgs.{sorted_msgs}
+use Rattle.pending.specs.SortedMsgs.{sorted_msgs, IsFirstEdit, JoinsMsg}
 use Rattle.pending.proofs.Runs.{run_alike, run_first, length-run, effects-run_here, effects-run_apart, apart_from_untouched, none_from_untouched, untouched_from_none, length-points}
 use Rattle.pending.proofs.Meaning.{effects-points, effects-sorted, length-sorted, touches-ranges}
+use Rattle.pending.proofs.Stretching.{none_for, sorted_point}
 
 module _ {U V : Type 0} where
   -- the points that a range leaves
   abbrev pub left_by : KeyRange → List (List ℕ × List (KeyOp U V)) → List (List ℕ × List (KeyOp U V))
   left_by r es = filter (λ e. not (is_in r e.0)) es
+
+  -- an update of a key that no message is for
+  pub first_of_points : (m : Msg U V) (rs : List Span) (es : List (List ℕ × List (KeyOp U V))) → IsFirstEdit m (sorted_msgs rs es) → IsFirstEdit m (point_msgs es)
+  first_of_points (msg.Put k v) rs es h = h
+  first_of_points (msg.Del k) rs es h = h
+  first_of_points (msg.DelRange r) rs es h = h
+  first_of_points (msg.Edit k u) rs es h = sym (sorted_point rs es k) ∙ h
 
 module _ {U V : Type 0} (means : U → Option V → Option V) where
   -- ---- a message for one key
@@ -61,6 +71,17 @@ module _ {U V : Type 0} (means : U → Option V → Option V) where
   -- the whole list takes a message that its points mean
   pub inserts_point : (m n : Msg U V) (rs : List Span) (es fs : List (List ℕ × List (KeyOp U V))) (k : List ℕ) → n ≡ m → Rises es → Rises fs → AreRuns es → ((q : List ℕ) → touches m q ≡ same k q) → Inserts means k (made_of means m) es fs → point_count fs ≤ point_count es + 1 → Takes means (sorted_msgs rs es) (n ∷ []) (sorted_msgs rs fs)
   inserts_point m n rs es fs k e s t r w l b = subst (λ x. Takes means (sorted_msgs rs es) (x ∷ []) (sorted_msgs rs fs)) (sym e) (takes_behind (range_msgs rs) (point_msgs es) (m ∷ []) (point_msgs fs) (takes_inserts m es fs k s t r w l b))
+
+  -- what became of an update at its key becomes of its message in the whole list
+  pub joins_msg : (j : JoinReply) (n : Msg U V) (rs : List Span) (es fs : List (List ℕ × List (KeyOp U V))) (k : List ℕ) (u : U) → n ≡ msg.Edit k u → Rises es → Rises fs → AreRuns es → JoinsAt means j k u es fs → JoinsMsg means j n (sorted_msgs rs es) (sorted_msgs rs fs)
+  joins_msg Joined n rs es fs k u e s t r l = inserts_point (msg.Edit k u) n rs es fs k e s t r (λ q. refl) l.0 (omega (arith, l.1))
+  joins_msg NoKey n rs es fs k u e s t r l = (subst (λ x. IsFirstEdit x (sorted_msgs rs es)) (sym e) (none_for rs es k r l.0), ap (λ x. sorted_msgs rs x) l.1)
+  joins_msg Apart n rs es fs k u e s t r l = ap (λ x. sorted_msgs rs x) l
+
+  pub joins_count : (j : JoinReply) (es fs : List (List ℕ × List (KeyOp U V))) (k : List ℕ) (u : U) → JoinsAt means j k u es fs → point_count fs ≡ point_count es
+  joins_count Joined es fs k u l = l.1
+  joins_count NoKey es fs k u l = ap (λ t. point_count t) l.1
+  joins_count Apart es fs k u l = ap (λ t. point_count t) l
 
   -- a message that finds no place stands behind what stayed
   pub inserts_none : (m : Msg U V) (old new : List (Msg U V)) → new ≡ old → Takes means old (m ∷ []) (new ++ m ∷ [])

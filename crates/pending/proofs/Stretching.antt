@@ -3,15 +3,17 @@ use Rattle.std.proofs.Common.{◌≡◌, ℕ, ◌<◌, length, append-nil, ◌�
 use Rattle.std.specs.Prelude.{◌&&◌, Contains}
 use Rattle.std.specs.List.{AllByRecursion, All}
 use Rattle.std.specs.Map.{keys_of}
-use Rattle.std.specs.Ordering.{is_lt}
+use Rattle.std.specs.Ordering.{is_eq, is_lt}
+use Rattle.std.specs.BTreeMap.{is_at}
 use Rattle.std.specs.declared.cmp.Ordering.TheVariants.{Less}
-use Rattle.std.proofs.lemmas.Bool.{or_from, or_left, or_right}
+use Rattle.std.proofs.lemmas.Bool.{or_from, or_left, or_parts, or_right}
 use Rattle.std.proofs.lemmas.List.Elements.{All-head, All-tail, Contains-append_left}
+use Rattle.std.proofs.lemmas.Map.Entries.{lookup_head, lookup_tail}
 use Rattle.std.proofs.lemmas.Map.Keys.{sorted_head, sorted_tail}
 use Rattle.pathkey.specs.Order.{by_bytes, by_bytes_equiv, same}
 use Rattle.pathkey.specs.Keys.{is_below, next_key}
 use Rattle.pathkey.proofs.KeyOrder.{le_le, le_lt, lt_le, reaches-from_before, reaches-from_not_before, not_reaches_from_before, not_before_from_reaches, before_from_not_reaches}
-use Rattle.cow_map.specs.Places.{Rises}
+use Rattle.cow_map.specs.Places.{Rises, at_key}
 use Rattle.message.specs.declared.msg.Msg.{Msg}
 use Rattle.message.specs.Effects.{touches, any_touches}
 use Rattle.message.specs.Ranges.{reaches, before, within, earlier_end}
@@ -113,6 +115,33 @@ module _ {U V : Type 0} where
 
   pub run_points : (k : List ℕ) (cs : List (KeyOp U V)) (q : List ℕ) → 0 < length cs → has_point (run_msgs k cs) q ≡ same k q
   run_points k cs q some = key_points k q (run_msgs k cs) (run_alike k cs) (ap (λ (ms : List (Msg U V)). first_point ms) (sym (append-nil (run_msgs k cs))) ∙ run_first k cs [] some)
+
+  -- a message is for the key alone where the points have it, and only there
+  none_for_points : (es : List (List ℕ × List (KeyOp U V))) (q : List ℕ) → AreRuns es → at_key q es ≡ None → has_point (point_msgs es) q ≡ false
+  none_for_points [] q r h = refl
+  none_for_points (e ∷ es) q r h =
+      let some : 0 < length e.1 = All-head (λ (x : List ℕ × List (KeyOp U V)). 0 < length x.1) e es r in
+      by_bool (is_eq (by_bytes q e.0)) (has_point (point_msgs (e ∷ es)) q ≡ false)
+      (λ b. let hit : at_key q (e ∷ es) ≡ Some e.1 = lookup_head (is_at (by_bytes q)) e es b in let no : Some e.1 ≡ None = sym hit ∙ h in absurd (cc))
+      (λ b.
+      let here : has_point (run_msgs e.0 e.1) q ≡ false = run_points e.0 e.1 q some ∙ by_bytes_equiv.symm e.0 q ∙ b in
+      let rest : has_point (point_msgs es) q ≡ false = none_for_points es q (All-tail (λ (x : List ℕ × List (KeyOp U V)). 0 < length x.1) e es r) (sym (lookup_tail (is_at (by_bytes q)) e es b) ∙ h) in
+      has_point-append (run_msgs e.0 e.1) (point_msgs es) q ∙ or_from (has_point (run_msgs e.0 e.1) q) (has_point (point_msgs es) q) here rest)
+
+  pub absent_from : (es : List (List ℕ × List (KeyOp U V))) (q : List ℕ) → AreRuns es → has_point (point_msgs es) q ≡ false → at_key q es ≡ None
+  absent_from [] q r h = refl
+  absent_from (e ∷ es) q r h =
+      let some : 0 < length e.1 = All-head (λ (x : List ℕ × List (KeyOp U V)). 0 < length x.1) e es r in
+      let p = or_parts (has_point (run_msgs e.0 e.1) q) (has_point (point_msgs es) q) (sym (has_point-append (run_msgs e.0 e.1) (point_msgs es) q) ∙ h) in
+      let apart : is_eq (by_bytes q e.0) ≡ false = by_bytes_equiv.symm q e.0 ∙ sym (run_points e.0 e.1 q some) ∙ p.0 in
+      lookup_tail (is_at (by_bytes q)) e es apart ∙ absent_from es q (All-tail (λ (x : List ℕ × List (KeyOp U V)). 0 < length x.1) e es r) p.1
+
+  -- the range-deletes have no part in it
+  pub sorted_point : (rs : List Span) (es : List (List ℕ × List (KeyOp U V))) (q : List ℕ) → has_point (sorted_msgs rs es) q ≡ has_point (point_msgs es) q
+  sorted_point rs es q = has_point-append (range_msgs rs) (point_msgs es) q ∙ ap (λ b. b || has_point (point_msgs es) q) (ranges_point U V rs q)
+
+  pub none_for : (rs : List Span) (es : List (List ℕ × List (KeyOp U V))) (q : List ℕ) → AreRuns es → at_key q es ≡ None → has_point (sorted_msgs rs es) q ≡ false
+  none_for rs es q r h = sorted_point rs es q ∙ none_for_points es q r h
 
   -- a message is for the key alone, where that is the first from it on
   points_at : (from : List ℕ) (es : List (List ℕ × List (KeyOp U V))) → AreRuns es → is_key (first_from from es) from ≡ true → has_point (point_msgs es) from ≡ true

@@ -4,7 +4,6 @@
 //! effect (`Takes`): the list is sorted and condensed, so that it holds fewer messages with the same effect, and callers that
 //! rely on the contract do not notice. No call returns a reference to a message or takes the index of one.
 ghost use Rattle.std.specs.Prelude.{◌≡◌, ◌+◌, ◌≤◌, ◌<◌, ◌++◌, [], ◌∷◌, true, false, length, take, drop, Some, None, IfOk, IfNone, IfSome, OnOk, OnErr, MatchOption};
-ghost use Rattle.std.specs.Bool.{OnFalse, OnTrue};
 ghost use Rattle.std.specs.Option.{option_copied, option_map};
 ghost use Rattle.std.specs.List.{All, slice_get};
 ghost use Rattle.message.specs.Cuts.{pieces, IsJoined, IsUpTo, LieIn};
@@ -19,6 +18,7 @@ ghost use Rattle.message.specs.Resolution.{IsResolved};
 ghost use Rattle.pathkey.specs.Keys.{is_below};
 ghost use Rattle.pending.specs.Ahead.{StandsAt};
 ghost use Rattle.pending.specs.LastPoint.{IsLastPoint};
+ghost use Rattle.pending.specs.SortedMsgs.{IsFirstEdit, JoinsMsg};
 
 use crate::msg_ref::MsgRef;
 use crate::oldest_walk::OldestWalk;
@@ -29,6 +29,7 @@ use crate::tail::Tail;
 use message::ends::is_before_end;
 use message::{Msg, MsgDrain, Resolution, Update, UpdateTarget};
 use pathkey::{Key, NoMemory};
+use point_ops::JoinReply;
 use std::alloc::Global;
 use std::marker::Model;
 
@@ -103,24 +104,44 @@ impl<U: Update> Pending<U> {
     {
         if self.defers() {
             self.push_uncondensed(msg);
-        } else if !self.join(&msg) {
-            self.push_condensed(msg);
+            return;
+        }
+        match self.join(&msg) {
+            JoinReply::Joined => (),
+            JoinReply::NoKey => self.push_first(msg),
+            JoinReply::Apart => self.push_condensed(msg),
         }
     }
 
-    /// Joins an update, in place, to the only operation of its key, before the message is moved, and returns whether it did; if not,
-    /// everything is unchanged. It does not if there is a tail.
+    /// Joins an update, in place, to the only operation of its key, before the message is moved. If it does not, everything is
+    /// unchanged. It does not if there is a tail.
     #[inline(always)]
-    fn join(&mut self, msg: &Msg<U>) -> bool
-        ensures takes { OnTrue result (Takes U.means self.old.0 (msg.now ∷ []) self.new.0) }
-        ensures unchanged { OnFalse result (self.new.0 ≡ self.old.0) }
+    fn join(&mut self, msg: &Msg<U>) -> JoinReply
+        ensures joined { JoinsMsg U.means result msg.now self.old.0 self.new.0 }
         ensures room { self.new.1 ≡ self.old.1 }
     {
         if self.tail_msgs.len() > 0 {
-            return false;
+            return JoinReply::Apart;
         }
         let alloc = self.tail_msgs.allocator();
         self.sorted.join(alloc, msg)
+    }
+
+    /// Like [`Pending::push_reserved`], for an update of a key that no message is for: it is not searched again.
+    #[inline(always)]
+    fn push_first(&mut self, msg: Msg<U>)
+        requires room { 0 < self.old.1 }
+        requires first { IsFirstEdit msg self.old.0 }
+        ensures takes { Takes U.means self.old.0 (msg ∷ []) self.new.0 }
+        ensures room { self.old.1 ≤ self.new.1 + 1 }
+    {
+        if self.tail_msgs.len() > 0 {
+            self.push_uncondensed(msg);
+            return;
+        }
+        if let Err(refused) = self.sorted.push_first(msg) {
+            self.push_uncondensed(refused);
+        }
     }
 
     /// Whether a new message is to wait in the tail. No claim depends on it.

@@ -4,7 +4,6 @@
 //! the first key some of the oldest messages may be consumed (`consumed`), but never all. There are at most 2^62 messages in
 //! all.
 ghost use Rattle.std.specs.Prelude.{◌≡◌, ◌+◌, ◌^◌, ◌<◌, ◌≤◌, ◌++◌, [], ◌∷◌, true, false, length, take, drop, Some, None, if◌then◌else◌, IfOk, IfErr, IfNone, IfSome, OnOk, OnErr, MatchOption};
-ghost use Rattle.std.specs.Bool.{OnFalse, OnTrue};
 ghost use Rattle.std.specs.Option.{option_copied, option_map};
 ghost use Rattle.std.specs.List.{All, slice_get};
 ghost use Rattle.pathkey.specs.Keys.{is_below};
@@ -20,10 +19,10 @@ ghost use Rattle.point_ops.specs.PointOps.{left, point_msgs, AreRuns, IsLeft};
 ghost use Rattle.pending.specs.Ahead.{AreFrom};
 ghost use Rattle.pending.specs.MsgRef.{borrowed_msg};
 ghost use Rattle.pending.specs.OldestWalk.{first_len};
-ghost use Rattle.pending.specs.SortedMsgs.{sorted_msgs};
+ghost use Rattle.pending.specs.SortedMsgs.{sorted_msgs, IsFirstEdit, JoinsMsg};
 ghost use Rattle.pending.specs.LastPoint.{IsLastPoint};
 
-use crate::insert::{insert, join};
+use crate::insert::{insert, insert_first, join};
 use crate::msg_ref::MsgRef;
 use crate::oldest_walk::OldestWalk;
 use crate::segment::{point_stop, point_within};
@@ -31,7 +30,7 @@ use cow_map::Cursor;
 use message::ends::earlier;
 use message::{Msg, Resolution, Update, UpdateTarget};
 use pathkey::{Key, NoMemory};
-use point_ops::{KeyOps, PointOps};
+use point_ops::{JoinReply, KeyOps, PointOps};
 use range_set::RangeSet;
 use std::alloc::Global;
 use std::marker::Model;
@@ -137,21 +136,35 @@ impl<U: Update> SortedMsgs<U> {
         answer
     }
 
-    /// Joins an update, in place, to the only operation of its key, as [`PointOps::join`] does, and returns whether it did; if not,
-    /// everything is unchanged. It does not if a message of the first key is consumed.
+    /// Adds an update of a key that no message is for. On allocation failure, or if the list holds [`MOST`] messages or a message of
+    /// the first key is consumed, it is returned as the error, and everything is unchanged.
     #[inline(always)]
-    pub(crate) fn join(&mut self, alloc: Global, msg: &Msg<U>) -> bool
-        ensures takes { OnTrue result (Takes U.means self.old (msg.now ∷ []) self.new) }
-        ensures unchanged { OnFalse result (self.new ≡ self.old) }
+    pub(crate) fn push_first(&mut self, msg: Msg<U>) -> Result<(), Msg<U>>
+        requires { IsFirstEdit msg self.old }
+        ensures takes { OnOk result (Takes U.means self.old (msg ∷ []) self.new) }
+        ensures unchanged { OnErr result (self.new ≡ self.old) }
+        ensures back { IfErr result (λ m. m ≡ msg) }
+    {
+        if self.consumed > 0 || self.len() >= MOST {
+            return Err(msg);
+        }
+        let answer = insert_first(&mut self.points, msg);
+        self.points.assert_invariant();
+        answer
+    }
+
+    /// Joins an update, in place, to the only operation of its key, as [`PointOps::join`] does. If it does not, everything is unchanged.
+    /// It does not if a message of the first key is consumed.
+    #[inline(always)]
+    pub(crate) fn join(&mut self, alloc: Global, msg: &Msg<U>) -> JoinReply
+        ensures { JoinsMsg U.means result msg.now self.old self.new }
     {
         if self.consumed > 0 {
-            return false;
+            return JoinReply::Apart;
         }
-        if !join(&mut self.points, alloc, msg) {
-            return false;
-        }
+        let joined = join(&mut self.points, alloc, msg);
         self.points.assert_invariant();
-        true
+        joined
     }
 
     /// Moves the oldest messages of another list, a range-delete or those of one key and at most `most`, into this one, newer

@@ -8,6 +8,8 @@ use Rattle.pathkey.specs.Order.{by_bytes, same}
 use Rattle.message.specs.declared.msg.Msg.{Msg}
 use Rattle.cow_map.specs.Places.{at_key, reaches}
 use Rattle.point_ops.specs.Changes.{KeyOp, run_msgs, run_effect}
+use Rattle.point_ops.specs.declared.join_reply.JoinReply.{JoinReply}
+use Rattle.point_ops.specs.declared.join_reply.JoinReply.TheVariants.{Joined, NoKey, Apart}
 
 module _ {U V : Type 0} where
   -- the pending messages at the keys
@@ -50,6 +52,12 @@ module _ {U V : Type 0} where
       pub meaning : (q : List ℕ) (o : Option V) → found_effect (at_key q fs) o ≡ (if same k q then f (found_effect (at_key q es) o) else found_effect (at_key q es) o)
       pub touched : (q : List ℕ) → same k q ≡ false → at_key q es ≡ None → at_key q fs ≡ None
 
+    -- what became of an update that was to be joined to the only operation of the key k in the entries es, which gave fs
+    abbrev pub JoinsAt : JoinReply → List ℕ → U → List (List ℕ × List (KeyOp U V)) → List (List ℕ × List (KeyOp U V)) → Type 0
+    JoinsAt Joined k u es fs = Inserts k (means u) es fs × (point_count fs ≡ point_count es)
+    JoinsAt NoKey k u es fs = (at_key k es ≡ None) × (fs ≡ es)
+    JoinsAt Apart k u es fs = fs ≡ es
+
     -- the operations may replace these, if there are any: they do not depend on them
     abbrev pub IsFree : List (KeyOp U V) → Option (List (KeyOp U V)) → Type 0
     IsFree cs found = (o : Option V) → run_effect means cs (found_effect found o) ≡ run_effect means cs o
@@ -66,17 +74,6 @@ module _ {U V : Type 0} where
       pub inserts : Inserts key (run_effect means run) old new
       pub bound : point_count new ≤ point_count old + came
 
-    -- the same for a list that had `before` operations at that key and now has `after`
-    pub record IsShared (before after : ℕ) (from old rest new : List (List ℕ × List (KeyOp U V))) : Type 0 where
-      pub key : List ℕ
-      pub run : List (KeyOp U V)
-      pub parts : from ≡ (key, run) ∷ rest
-      pub inserts : Inserts key (run_effect means run) old new
-      pub bound : after ≤ before + length run
-      pub within : before ≤ point_count old
-      pub counted : point_count new + before ≡ point_count old + after
-      pub runs : AreRuns old → AreRuns new
-
     -- they were moved there, and replaced others that they do not depend on
     pub record TakesFirst (came most : ℕ) (from old rest new : List (List ℕ × List (KeyOp U V))) : Type 0 where
       pub adds : AddsFirst came most from old rest new
@@ -86,6 +83,18 @@ module _ {U V : Type 0} where
     pub record IsMoved (came consumed most : ℕ) (from old rest new : List (List ℕ × List (KeyOp U V))) : Type 0 where
       pub takes : TakesFirst came most from old rest new
       pub counted : point_count new + consumed ≡ point_count old + came
+
+    -- the operations of the first key of a list, before `rest`, were added to another list, which had `before` operations at that key
+    -- and now has `after`
+    pub record IsShared (before after : ℕ) (from old rest new : List (List ℕ × List (KeyOp U V))) : Type 0 where
+      pub key : List ℕ
+      pub run : List (KeyOp U V)
+      pub parts : from ≡ (key, run) ∷ rest
+      pub inserts : Inserts key (run_effect means run) old new
+      pub bound : after ≤ before + length run
+      pub within : before ≤ point_count old
+      pub counted : point_count new + before ≡ point_count old + after
+      pub runs : AreRuns old → AreRuns new
 
 -- the first key that passes
 abbrev pub first_where : {X : Type 0} → (List ℕ → Bool) → List (List ℕ × X) → Option (List ℕ)

@@ -18,12 +18,14 @@
 pub(crate) mod counts;
 pub(crate) mod edits;
 pub(crate) mod edits_in_place;
+pub mod join_reply;
 pub mod key_op_ref;
 pub mod key_ops;
 pub mod key_ops_repr;
 pub(crate) mod one_key;
 pub mod points;
 
+pub use join_reply::JoinReply;
 pub use key_op_ref::KeyOpRef;
 pub use key_ops::KeyOps;
 pub use points::PointOps;

@@ -2,19 +2,19 @@
 //!
 //! Invariant: the keys are in ascending order, each has at least one operation, and `count` is the number of operations of all
 //! keys, at most 2^62. A call that fails to allocate leaves everything unchanged.
-ghost use Rattle.std.specs.Prelude.{◌≡◌, ◌+◌, ◌≤◌, ◌<◌, ◌^◌, ◌++◌, ◌∷◌, [], not, true, false, length, drop, take, IfOk, IfErr, OnOk, OnErr, IfSome, IfNone};
+ghost use Rattle.std.specs.Prelude.{◌≡◌, ◌+◌, ◌≤◌, ◌<◌, ◌^◌, ◌++◌, ◌∷◌, [], not, true, false, None, length, drop, take, IfOk, IfErr, OnOk, OnErr, IfSome, IfNone};
 ghost use Rattle.std.specs.BTreeMap.{insert_entry};
-ghost use Rattle.std.specs.Bool.{OnFalse, OnTrue};
 ghost use Rattle.std.specs.List.{filter, list_any, slice_get};
 ghost use Rattle.std.specs.Option.{option_copied, option_map};
 ghost use Rattle.pathkey.specs.Keys.{is_in};
 ghost use Rattle.pathkey.specs.Order.{by_bytes};
 ghost use Rattle.cow_map.specs.Places.{Rises, at_key, place, AreBefore, AreFrom};
-ghost use Rattle.point_ops.specs.Changes.{Put, Del, run_effect};
-ghost use Rattle.point_ops.specs.PointOps.{left, point_count, point_msgs, first_from, last_below, AreRuns, IsLeft, AddsFirst, Inserts, TakesFirst};
+ghost use Rattle.point_ops.specs.Changes.{Put, Del, Edit, run_effect};
+ghost use Rattle.point_ops.specs.PointOps.{left, point_count, point_msgs, first_from, last_below, AreRuns, IsLeft, AddsFirst, Inserts, JoinsAt, TakesFirst};
 
 use crate::counts::{copy_msgs, count_of, whole_keys};
 use crate::edits_in_place::{JoinOp, PushOp};
+use crate::join_reply::JoinReply;
 use crate::key_ops::KeyOps;
 use crate::one_key::{len_of, move_first, share_first, shorten_first};
 use cow_map::{CowMap, Cursor, Edited};
@@ -242,27 +242,39 @@ impl<U: Update> PointOps<U> {
             }
             Edited::Done(Err(update)) => Err((key, update)),
             Edited::Refused(edit) => Err((key, edit.update)),
-            Edited::Absent(edit) => match self.overwrite(key, KeyOps::of_edit(edit.update)) {
-                Ok(()) => Ok(()),
-                Err((key, run)) => Err((key, run.into_update())),
-            },
+            Edited::Absent(edit) => self.edit_absent(key, edit.update),
         }
     }
 
-    /// Joins an update, in place, to the only operation of the key, and returns whether it did. It does not if the key has no operation or
-    /// several, if the update does not join, or on allocation failure; then everything is unchanged.
+    /// Inserts an update at a key that has no pending operation. On allocation failure it is returned as the error, and everything is
+    /// unchanged.
     #[inline(always)]
-    pub fn join(&mut self, alloc: Global, key: &Key, update: &U) -> bool
-        ensures inserts { OnTrue result (Inserts U.means key.now (U.means update.now) self.old self.new) }
-        ensures count { OnTrue result (point_count self.new ≡ point_count self.old) }
-        ensures unchanged { OnFalse result (self.new ≡ self.old) }
+    pub fn edit_absent(&mut self, key: Key, update: U) -> Result<(), (Key, U)>
+        requires room { point_count self.old < 2 ^ 62 }
+        requires absent { at_key key self.old ≡ None }
+        ensures entries { OnOk result (self.new ≡ insert_entry by_bytes self.old key (Edit update ∷ [])) }
+        ensures inserts { OnOk result (Inserts U.means key (U.means update) self.old self.new) }
+        ensures bound { OnOk result (point_count self.new ≤ point_count self.old + 1) }
+        ensures unchanged { OnErr result (self.new ≡ self.old) }
+        ensures back { IfErr result (λ p. p ≡ (key, update)) }
+    {
+        match self.overwrite(key, KeyOps::of_edit(update)) {
+            Ok(()) => Ok(()),
+            Err((key, run)) => Err((key, run.into_update())),
+        }
+    }
+
+    /// Joins an update, in place, to the only operation of the key. If it does not, everything is unchanged.
+    #[inline(always)]
+    pub fn join(&mut self, alloc: Global, key: &Key, update: &U) -> JoinReply
+        ensures { JoinsAt U.means result key.now update.now self.old self.new }
     {
         self.rows.assert_invariant();
         match self.rows.edit(key, JoinOp { alloc, update }) {
-            Edited::Done(true) => true,
-            Edited::Done(false) => false,
-            Edited::Refused(_) => false,
-            Edited::Absent(_) => false,
+            Edited::Done(true) => JoinReply::Joined,
+            Edited::Done(false) => JoinReply::Apart,
+            Edited::Refused(_) => JoinReply::Apart,
+            Edited::Absent(_) => JoinReply::NoKey,
         }
     }
 

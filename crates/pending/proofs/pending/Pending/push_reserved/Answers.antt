@@ -1,14 +1,17 @@
 use Rattle.std.proofs.Common.{sym, subst, [], ◌∷◌}
-use Rattle.std.proofs.lemmas.Bool.{OnFalse_at, OnTrue_at}
 use Rattle.message.specs.Effects.{Takes}
 use Rattle.message.proofs.Lists.{takes-append}
+use Rattle.pending.specs.SortedMsgs.{IsFirstEdit}
 use Rattle.pending.proofs.pending.Pending.push_reserved.Goals as goal
 
 pub returns-then-defers-clause-takes : goal.returns-then-defers-clause-takes
 returns-then-defers-clause-takes g c = subst (λ t. Takes g.U.Update.means c.args.self.now.0 (c.args.msg ∷ []) t) (sym c.push_uncondensed.ensures.messages) (takes-append g.U.Update.means c.args.self.now.0 (c.args.msg ∷ []))
 
-pub returns-then-not-join-clause-takes : goal.returns-then-not-join-clause-takes
-returns-then-not-join-clause-takes g c = subst (λ t. Takes g.U.Update.means t (c.args.msg ∷ []) c.push_condensed.new.self.0) (OnFalse_at c.if-not-join.true c.join.ensures.unchanged) c.push_condensed.ensures.takes
+pub push_first-requires-clause-first : goal.push_first-requires-clause-first
+push_first-requires-clause-first g c = subst (λ t. IsFirstEdit c.args.msg t) (sym c.in-NoKey.ensures.joined.1) c.in-NoKey.ensures.joined.0
 
-pub returns-else-not-join-clause-takes : goal.returns-else-not-join-clause-takes
-returns-else-not-join-clause-takes g c = OnTrue_at c.if-not-join.false c.join.ensures.takes
+pub returns-in-NoKey-clause-takes : goal.returns-in-NoKey-clause-takes
+returns-in-NoKey-clause-takes g c = subst (λ t. Takes g.U.Update.means t (c.args.msg ∷ []) c.push_first.new.self.0) c.in-NoKey.ensures.joined.1 c.push_first.ensures.takes
+
+pub returns-in-Apart-clause-takes : goal.returns-in-Apart-clause-takes
+returns-in-Apart-clause-takes g c = subst (λ t. Takes g.U.Update.means t (c.args.msg ∷ []) c.push_condensed.new.self.0) c.in-Apart.ensures.joined c.push_condensed.ensures.takes

@@ -1,8 +1,6 @@
 use Rattle.std.proofs.Common.{◌∙◌, Some, ap, subst, sym, arith}
 use Rattle.std.specs.BTreeMap.{insert_entry}
 use Rattle.pathkey.specs.Order.{by_bytes}
-use Rattle.cow_map.specs.Places.{at_key}
-use Rattle.point_ops.specs.Changes.{run_effect}
 use Rattle.point_ops.specs.PointOps.{found_effect, point_count, ArePoints, Inserts}
 use Rattle.point_ops.proofs.Laying.{inserts_put, counted_at, counted_put, put_same, runs_put}
 use Rattle.point_ops.proofs.points.PointOps.edit.Goals as goal
@@ -50,13 +48,3 @@ returns-in-Done-Err-clause-unchanged g c =
     let h = rw c.in-Done-Err.field-0-is at c.in-Done-Err.ensures in
     let es = c.self.inside.rows in
     h.is ∙ ap (λ t. insert_entry by_bytes es c.args.key t) h.done.unchanged ∙ put_same c.args.key h.old es c.assert_invariant.ensures h.there ∙ c.self.view_is
-
-pub returns-in-Ok-clause-inserts : goal.returns-in-Ok-clause-inserts
-returns-in-Ok-clause-inserts g c =
-    let means = g.U.Update.means in
-    let u = c.args.update in
-    let k = c.args.key in
-    let es = c.args.self.now in
-    let same = c.in-Absent.ensures.1 ∙ c.self.view_is in
-    let none = ap (λ t. at_key k t) (sym c.self.view_is) ∙ c.in-Absent.ensures.0 in
-    inserts_put means k (means u) c.of_edit.result es c.overwrite.new.self (c.in-Ok.ensures.entries ∙ ap (λ t. insert_entry by_bytes t k c.of_edit.result) same) (λ o. ap (λ t. run_effect means t o) c.of_edit.ensures ∙ ap (λ e. means e.update o) c.in-Absent.ensures.2 ∙ sym (ap (λ t. means u (found_effect means t o)) none))
