@@ -36,9 +36,13 @@ module _ {X : Type 0} where
     pub done : does old new a
     pub is : fs ≡ insert_entry by_bytes es k new
 
-  -- the same, or v was put at the key k where there was no value; nothing was done if an allocation failed
+  -- the same, with this answer; or, if there is none, v was put at the key k where there was no value
+  abbrev pub IsChangedOrPut : {A : Type 0} → (X → X → A → Type 0) → List ℕ → X → List (List ℕ × X) → List (List ℕ × X) → Option A → Type 0
+  IsChangedOrPut does k v es fs answer = MatchOption answer ((at_key k es ≡ None) × (fs ≡ insert_entry by_bytes es k v)) (ChangesValue does k es fs)
+
+  -- one of the two was done, with the result r; nothing was if an allocation failed
   abbrev pub IsEditedOrPut : {A E : Type 0} → (X → X → A → Type 0) → List ℕ → X → List (List ℕ × X) → List (List ℕ × X) → Result (Option A) E → Type 0
-  IsEditedOrPut does k v es fs r = MatchResult r (λ answer. MatchOption answer ((at_key k es ≡ None) × (fs ≡ insert_entry by_bytes es k v)) (ChangesValue does k es fs)) (λ _. fs ≡ es)
+  IsEditedOrPut does k v es fs r = MatchResult r (IsChangedOrPut does k v es fs) (λ _. fs ≡ es)
 
   -- the chunk at index n was changed as `does` says
   pub record IsRowChanged {A : Type 0} (does : List (List ℕ × X) → List (List ℕ × X) → A → Type 0) (n : ℕ) (rs ss : List (List (List ℕ × X))) (answer : A) : Type 0 where

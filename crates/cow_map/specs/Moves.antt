@@ -1,8 +1,8 @@
 -- The first entry of a list, which is moved to another map, or shared with it.
-use Rattle.std.specs.Prelude.{◌≡◌, ℕ, List, ◌∷◌, Option, None, MatchOption}
+use Rattle.std.specs.Prelude.{◌≡◌, ℕ, List, ◌∷◌, Option}
 use Rattle.std.specs.BTreeMap.{insert_entry}
 use Rattle.pathkey.specs.Order.{by_bytes}
-use Rattle.cow_map.specs.Changes.{ChangesValue}
+use Rattle.cow_map.specs.Changes.{IsChangedOrPut}
 use Rattle.cow_map.specs.Places.{at_key}
 
 -- the first entry of a list, before `rest`, was put at its place in another, where `was` is the previous value at its key
@@ -19,4 +19,4 @@ pub record IsFirstJoined {X A : Type 0} (does : X → X → A → Type 0) (answe
   pub key : List ℕ
   pub value : X
   pub parts : from ≡ (key, value) ∷ rest
-  pub is : MatchOption answer ((at_key key old ≡ None) × (new ≡ insert_entry by_bytes old key value)) (ChangesValue does key old new)
+  pub is : IsChangedOrPut does key value old new answer

@@ -1,5 +1,8 @@
 //! Changes of a list of chunks that has one owner: an entry is put, edited or moved, and the first entries are dropped.
-ghost use Rattle.std.specs.Prelude.{◌≡◌, ◌<◌, ◌≤◌, [], ◌∷◌, length, drop, OnErr, IfOk};
+ghost use Rattle.std.specs.Prelude.{◌≡◌, ◌<◌, ◌≤◌, [], length, drop, OnOk, OnErr, IfOk};
+ghost use Rattle.std.specs.BTreeMap.{insert_entry};
+ghost use Rattle.pathkey.specs.Order.{by_bytes};
+ghost use Rattle.cow_map.specs.Places.{at_key};
 ghost use Rattle.cow_map.specs.CowMap.{joined, AreRows};
 ghost use Rattle.cow_map.specs.Changes.{IsPut, IsEdited, IsEditedOrPut};
 ghost use Rattle.cow_map.specs.Moves.{IsFirstMoved};
@@ -7,7 +10,7 @@ ghost use Rattle.cow_map.specs.Moves.{IsFirstMoved};
 use crate::chunk::Chunk;
 use crate::chunk_edit::{EditEntry, EditOrShare, Put, PutEntry};
 use crate::chunks::{
-    begin, begin_item, chunk_index, drop_front_of_first, edit_chunk, split_full, whole_rows,
+    begin, begin_item, chunk_index, drop_front_of_first, edit_chunk, split_long, whole_rows,
 };
 use crate::cursor::Cursor;
 use crate::edit::{Edit, Edited};
@@ -31,7 +34,7 @@ pub(crate) fn put_among<T: CopyValue>(
         begin(rows, key, value)?;
         return Ok(None);
     }
-    let Some(n) = split_full(rows, &key) else {
+    let Some(n) = split_long(rows, &key) else {
         return Err((key, value));
     };
     match edit_chunk(rows, n, Put { key, value }) {
@@ -78,14 +81,9 @@ pub(crate) fn move_first_among<T: CopyValue>(
     let Some(item) = Cursor::of(&[], from.as_slice()).first() else {
         unreachable!()
     };
-    let item = item.share()?;
-    match put_item_among(rows, item) {
-        Ok(was) => {
-            drop_among(from, 1);
-            Ok(was)
-        }
-        Err(_) => Err(NoMemory),
-    }
+    let was = put_shared_among(rows, item)?;
+    drop_among(from, 1);
+    Ok(was)
 }
 
 /// Edits the value in chunks at the key of an entry of another map in place, or puts that entry, which both maps then share, if the
@@ -105,7 +103,7 @@ pub(crate) fn edit_or_share_among<T: CopyValue, E: Edit<T>>(
         };
         return Ok(None);
     }
-    let Some(n) = split_full(rows, item.key()) else {
+    let Some(n) = split_long(rows, item.key()) else {
         return Err(NoMemory);
     };
     match edit_chunk(rows, n, EditOrShare { item, edit }) {
@@ -127,12 +125,30 @@ pub(crate) fn put_item_among<T: CopyValue>(
         begin_item(rows, item)?;
         return Ok(None);
     }
-    let Some(n) = split_full(rows, item.key()) else {
+    let Some(n) = split_long(rows, item.key()) else {
         return Err(item);
     };
     match edit_chunk(rows, n, PutEntry { item }) {
         Ok(answer) => answer,
         Err(PutEntry { item }) => Err(item),
+    }
+}
+
+/// Puts an entry of another map at its key in chunks, and returns the previous value. Both maps then share the entry. If an
+/// allocation fails the entries are unchanged.
+pub(crate) fn put_shared_among<T: CopyValue>(
+    rows: &mut Vec<Chunk<T>>,
+    item: &SharedEntry<T>,
+) -> Result<Option<T>, NoMemory>
+    requires { AreRows rows.old.items }
+    ensures rows { AreRows rows.new.items }
+    ensures put { OnOk result (joined rows.new.items ≡ insert_entry by_bytes (joined rows.old.items) item.now.0 item.now.1) }
+    ensures was { IfOk result (λ was. was ≡ at_key item.now.0 (joined rows.old.items)) }
+    ensures err { OnErr result (joined rows.new.items ≡ joined rows.old.items) }
+{
+    match put_item_among(rows, item.share()?) {
+        Ok(was) => Ok(was),
+        Err(_) => Err(NoMemory),
     }
 }
 

@@ -1,11 +1,11 @@
 //! Changes of the entries of one chunk, once it is not shared.
 //!
-//! Each change says what it applies to and what the entries are afterwards. If an allocation fails, the entries are unchanged and
-//! what was to be added is returned.
-ghost use Rattle.std.specs.Prelude.{◌≡◌, ◌<◌, ◌≤◌, ◌+◌, ◌++◌, ℕ, List, Result, length, take, drop, OnOk, OnErr, IfOk, IfErr, vec_len, vec_capacity, ⊤};
+//! Each change says what it applies to and what the entries are afterwards. If an allocation fails, the entries are unchanged, and
+//! what the change was to add and owns is returned.
+ghost use Rattle.std.specs.Prelude.{◌≡◌, ◌<◌, ◌≤◌, ◌+◌, ◌++◌, ℕ, List, Result, length, vec_len, vec_capacity, ⊤};
 ghost use Rattle.std.specs.List.{insert};
 ghost use Rattle.cow_map.specs.Places.{Rises, IsHolder};
-ghost use Rattle.cow_map.specs.Changes.{IsPut, IsCutBetween, IsCutOff, IsEdited, IsEditedOrPut, IsJoined, AreTaken, ChangesValue};
+ghost use Rattle.cow_map.specs.Changes.{IsPut, IsCutBetween, IsCutOff, IsEdited, IsEditedOrPut, IsJoined, AreTaken};
 
 use crate::chunk::{Chunk, share_items};
 use crate::edit::{Edit, Edited};
@@ -13,7 +13,6 @@ use crate::search::find;
 use crate::shared_entry::SharedEntry;
 use crate::stored::CopyValue;
 use pathkey::{Key, NoMemory};
-use std::alloc::Global;
 use std::sync::Arc;
 
 /// A change of the entries of one chunk.

@@ -3,7 +3,7 @@
 //! Invariant (`AreRows`): the keys of all chunks, concatenated, rise strictly, and each chunk has 1 to 128 entries. A split or a
 //! merge does not change the concatenated entries.
 ghost use Rattle.std.specs.Prelude.{◌≡◌, ◌+◌, ◌-◌, ◌<◌, ◌≤◌, ◌^◌, ◌++◌, ◌∷◌, [], length, take, drop, None, Some, OnOk, OnErr, IfOk, IfErr, IfNone, IfSome, true, false, vec_len, vec_capacity};
-ghost use Rattle.std.specs.List.{insert, remove_range, slice_get, slice_index_or, slice_set};
+ghost use Rattle.std.specs.List.{insert, remove_range, slice_index_or, slice_set};
 ghost use Rattle.cow_map.specs.Places.{AreBefore, AreFrom};
 ghost use Rattle.cow_map.specs.CowMap.{joined, row_number, chunk_index, behind, AreRows, IsBehind};
 ghost use Rattle.cow_map.specs.Changes.{IsRowChanged};
@@ -174,8 +174,9 @@ fn row_of<T: CopyValue>(alloc: Global, item: SharedEntry<T>) -> Result<Chunk<T>,
 }
 
 /// Splits the chunk to which the key belongs if it has as many entries as a list of this length allows. Returns the index of the
-/// chunk to which the key then belongs, and which has space for one more entry; `None` if an allocation fails.
-pub(crate) fn split_full<T: CopyValue>(rows: &mut Vec<Chunk<T>>, key: &Key) -> Option<usize>
+/// chunk to which the key then belongs, and which has space for one more entry; `None` if the chunk is full and the split fails to
+/// allocate.
+pub(crate) fn split_long<T: CopyValue>(rows: &mut Vec<Chunk<T>>, key: &Key) -> Option<usize>
     requires rows { AreRows rows.old.items }
     requires some { 0 < length rows.old.items }
     ensures same { joined rows.new.items ≡ joined rows.old.items }
@@ -184,16 +185,16 @@ pub(crate) fn split_full<T: CopyValue>(rows: &mut Vec<Chunk<T>>, key: &Key) -> O
     ensures bound { IfSome result (λ n. n < length rows.new.items) }
     ensures room { IfSome result (λ n. length (slice_index_or rows.new.items n []) < 128) }
 {
-    let found = chunk_below(rows.as_slice(), key, split_size(rows.len()));
+    let found = chunk_with_space(rows.as_slice(), key, split_size(rows.len()));
     if found.is_some() {
         return found;
     }
-    split_if_full(rows, key);
-    chunk_below(rows.as_slice(), key, MAX_ENTRIES)
+    split_if_long(rows, key);
+    chunk_with_space(rows.as_slice(), key, MAX_ENTRIES)
 }
 
 /// The index of the chunk to which the key belongs, if it has fewer than `most` entries.
-fn chunk_below<T: CopyValue>(rows: &[Chunk<T>], key: &Key, most: usize) -> Option<usize>
+fn chunk_with_space<T: CopyValue>(rows: &[Chunk<T>], key: &Key, most: usize) -> Option<usize>
     requires few { most ≤ 128 }
     requires rows { AreRows rows.now }
     requires some { 0 < length rows.now }
@@ -210,7 +211,7 @@ fn chunk_below<T: CopyValue>(rows: &[Chunk<T>], key: &Key, most: usize) -> Optio
 }
 
 /// Splits the chunk to which the key belongs, if it has as many entries as a list of this length allows and no allocation fails.
-fn split_if_full<T: CopyValue>(rows: &mut Vec<Chunk<T>>, key: &Key)
+fn split_if_long<T: CopyValue>(rows: &mut Vec<Chunk<T>>, key: &Key)
     requires rows { AreRows rows.old.items }
     requires some { 0 < length rows.old.items }
     ensures same { joined rows.new.items ≡ joined rows.old.items }
@@ -472,7 +473,7 @@ pub(crate) fn whole_rows<T: CopyValue>(rows: &[Chunk<T>], count: usize) -> (usiz
     ensures rows { result.0 ≤ length rows.now }
     ensures left { result.1 ≤ length (joined (drop result.0 rows.now)) }
     ensures same { drop count (joined rows.now) ≡ drop result.1 (joined (drop result.0 rows.now)) }
-    ensures split_chunks_at { 0 < result.1 → (result.0 < length rows.now) × (result.1 < length (slice_index_or rows.now result.0 [])) }
+    ensures within { 0 < result.1 → (result.0 < length rows.now) × (result.1 < length (slice_index_or rows.now result.0 [])) }
 {
     let mut left = count;
     let mut n = 0;
@@ -487,7 +488,7 @@ pub(crate) fn whole_rows<T: CopyValue>(rows: &[Chunk<T>], count: usize) -> (usiz
 pub(crate) fn drop_front_of_first<T: CopyValue>(rows: &mut Vec<Chunk<T>>, count: usize)
     requires rows { AreRows rows.old.items }
     requires some { 0 < length rows.old.items }
-    requires split_chunks_at { count < length (slice_index_or rows.old.items 0 []) }
+    requires more { count < length (slice_index_or rows.old.items 0 []) }
     ensures rows { AreRows rows.new.items }
     ensures entries { joined rows.new.items ≡ drop count (joined rows.old.items) }
 {

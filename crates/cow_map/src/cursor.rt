@@ -1,6 +1,6 @@
 //! A cursor through entries, in the order of their keys.
 //!
-//! Invariant: if the current chunk has no entry left, there are no later chunks, and no later chunk is empty. So the next entry is
+//! Invariant: no later chunk is empty, and there are later ones only if the current chunk has an entry left. So the next entry is
 //! found without a search.
 ghost use Rattle.std.specs.Prelude.{◌≡◌, ◌++◌, [], IfNone};
 ghost use Rattle.std.specs.Option.{option_map, option_to_list};

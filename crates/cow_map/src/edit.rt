@@ -1,7 +1,6 @@
 //! An edit of the value at a key, in place, and its outcome.
 //!
 //! An edit that is not applied is returned, so that the caller can retry it or apply it elsewhere.
-ghost use Rattle.std.specs.Prelude.{◌≡◌};
 
 /// An edit of one value.
 pub trait Edit<T>: Drop {

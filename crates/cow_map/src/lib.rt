@@ -11,11 +11,12 @@
 //! dropped without a copy: the chunk then begins after them;
 //! - the same holds of the list of chunks of a long map.
 //!
-//! `chunk` is one chunk, `chunk_edit` has the changes of its entries, and `search` finds a key among them. `strides` is a
-//! search for any sorted slice, which the crates above use. `chunks` has the list of chunks: which of them has a key, the only
-//! way to change one, and how chunks are split and merged. `changes` puts, edits, moves and drops entries of the list, `extract`
-//! extracts a range, and `neighbours` finds the entries next to a key. `shared_rows` is a list that several maps share. `map` is
-//! the public interface, and `cursor` iterates over a map.
+//! `stored` says what a value must support, and `edit` what an edit of one in place is. `shared_entry` is one entry, which several
+//! chunks may share, `chunk` is one chunk, `chunk_edit` has the changes of its entries, and `search` finds a key among them.
+//! `strides` is a search for any sorted slice, which the crates above use. `chunks` has the list of chunks: which of them has a
+//! key, the only way to change one, and how chunks are split and merged. `changes` puts, edits, moves and drops entries of the
+//! list, `extract` extracts a range, and `neighbours` finds the entries next to a key. `shared_rows` is a list that several maps
+//! share. `map` is the public interface, and `cursor` iterates over a map.
 #![tactic(auto)]
 
 pub(crate) mod changes;

@@ -4,9 +4,9 @@
 //! they take constant time, and the first change of either copies it.
 //!
 //! Invariant: that of its chunks (`chunks`), so the entries are sorted by key without duplicates.
-ghost use Rattle.std.specs.Prelude.{◌≡◌, ◌+◌, ◌^◌, ◌<◌, ◌≤◌, ◌++◌, ◌∷◌, [], None, not, true, false, length, take, drop, OnOk, OnErr, IfOk, IfNone, IfSome, IsSome};
+ghost use Rattle.std.specs.Prelude.{◌≡◌, ◌+◌, ◌^◌, ◌<◌, ◌≤◌, ◌++◌, [], None, not, true, false, length, take, drop, OnOk, OnErr, IfOk, IfSome, IsSome};
 ghost use Rattle.std.specs.Option.{option_copied, option_map};
-ghost use Rattle.std.specs.List.{filter, slice_get};
+ghost use Rattle.std.specs.List.{filter};
 ghost use Rattle.pathkey.specs.Keys.{is_in};
 ghost use Rattle.cow_map.specs.Places.{Rises, at_key, last_of, place, place_past, AreBefore, AreFrom};
 ghost use Rattle.cow_map.specs.CowMap.{joined, behind, kept, AreRows, IsBehind};
@@ -14,7 +14,7 @@ ghost use Rattle.cow_map.specs.Changes.{IsPut, IsEdited};
 ghost use Rattle.cow_map.specs.Moves.{IsFirstJoined, IsFirstMoved};
 
 use crate::changes::{
-    drop_among, edit_among, edit_or_share_among, move_first_among, put_among, put_item_among,
+    drop_among, edit_among, edit_or_share_among, move_first_among, put_among, put_shared_among,
 };
 use crate::chunk::Chunk;
 use crate::chunks::{entries_in, has_none, share_rows, split_chunks_at};
@@ -230,7 +230,8 @@ impl<T: CopyValue> CowMap<T> {
         Ok(())
     }
 
-    /// Drops the first entries. It allocates nothing.
+    /// Drops the first entries. It needs no memory: if a clone shares the list of chunks, that is copied if memory is there, and
+    /// otherwise the entries are skipped.
     pub fn drop_front(&mut self, count: usize)
         requires { count ≤ length self.old }
         ensures { self.new ≡ drop count self.old }
@@ -265,10 +266,7 @@ impl<T: CopyValue> CowMap<T> {
         let Some(item) = walk.first() else {
             unreachable!()
         };
-        match put_item_among(&mut self.rows, item.share()?) {
-            Ok(was) => Ok(was),
-            Err(_) => Err(NoMemory),
-        }
+        put_shared_among(&mut self.rows, item)
     }
 
     /// Edits the value at the key of the next entry of a cursor of another map in place, or puts that entry, which both maps then

@@ -6,11 +6,11 @@ use Rattle.cow_map.proofs.TableFacts.{row_rises}
 use Rattle.cow_map.proofs.changes.edit_or_share_among.Goals as goal
 
 pub edit_chunk-requires-clause-fits : goal.edit_chunk-requires-clause-fits
-edit_chunk-requires-clause-fits g c = row_rises c.split_full.new.rows.items c.in-Some.n c.in-Some.ensures.rows c.in-Some.ensures.bound
+edit_chunk-requires-clause-fits g c = row_rises c.split_long.new.rows.items c.in-Some.n c.in-Some.ensures.rows c.in-Some.ensures.bound
 
 pub returns-in-Ok-edit_chunk-clause-rows : goal.returns-in-Ok-edit_chunk-clause-rows
 returns-in-Ok-edit_chunk-clause-rows g c =
-    let rs = c.split_full.new.rows.items in
+    let rs = c.split_long.new.rows.items in
     let n = c.in-Some.n in
     let item = c.args.item.now in
     let number = c.in-Some.ensures.number ∙ ap (λ k. chunk_index k rs) c.key.ensures in
@@ -18,7 +18,7 @@ returns-in-Ok-edit_chunk-clause-rows g c =
 
 pub returns-in-Ok-edit_chunk-clause-done : goal.returns-in-Ok-edit_chunk-clause-done
 returns-in-Ok-edit_chunk-clause-done g c =
-    let rs = c.split_full.new.rows.items in
+    let rs = c.split_long.new.rows.items in
     let n = c.in-Some.n in
     let item = c.args.item.now in
     let does = g.E.Edit.does c.args.edit in

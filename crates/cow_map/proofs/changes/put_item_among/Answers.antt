@@ -6,17 +6,17 @@ use Rattle.cow_map.proofs.TableFacts.{row_rises}
 use Rattle.cow_map.proofs.changes.put_item_among.Goals as goal
 
 pub edit_chunk-requires-clause-fits : goal.edit_chunk-requires-clause-fits
-edit_chunk-requires-clause-fits g c = row_rises c.split_full.new.rows.items c.in-Some.n c.in-Some.ensures.rows c.in-Some.ensures.bound
+edit_chunk-requires-clause-fits g c = row_rises c.split_long.new.rows.items c.in-Some.n c.in-Some.ensures.rows c.in-Some.ensures.bound
 
 pub returns-in-Ok-clause-rows : goal.returns-in-Ok-clause-rows
 returns-in-Ok-clause-rows g c =
-    let rs = c.split_full.new.rows.items in
+    let rs = c.split_long.new.rows.items in
     let number = c.in-Some.ensures.number ∙ ap (λ k. chunk_index k rs) c.key.ensures in
     put_rows c.args.item.0 rs c.in-Some.n c.in-Some.ensures.rows number c.in-Some.ensures.bound c.args.item.1 c.edit_chunk.new.rows.items c.in-Ok.answer c.in-Some.ensures.room c.in-Ok.ensures.changed
 
 pub returns-in-Ok-clause-put : goal.returns-in-Ok-clause-put
 returns-in-Ok-clause-put g c =
-    let rs = c.split_full.new.rows.items in
+    let rs = c.split_long.new.rows.items in
     let ss = c.edit_chunk.new.rows.items in
     let number = c.in-Some.ensures.number ∙ ap (λ k. chunk_index k rs) c.key.ensures in
     let put = put_whole c.args.item.0 rs c.in-Some.n c.in-Some.ensures.rows number c.in-Some.ensures.bound c.args.item.1 ss c.in-Ok.answer c.in-Ok.ensures.changed in

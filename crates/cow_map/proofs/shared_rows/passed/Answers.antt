@@ -14,7 +14,7 @@ returns-clause-left g c =
     let one : n + 1 ≡ suc n = omega arith in
     let same : drop n later ≡ drop (n + 1) rs = sym (ap (λ t. drop (n + 1) t) is ∙ ap (λ j. drop j (first ∷ later)) one) in
     let sized : AreSized (first ∷ later) = subst (λ t. AreSized t) is c.requires.rows.sized in
-    subst (λ t. IsBehind l t) same (left_out l n later sized.2 c.whole_rows-whole.ensures.left c.whole_rows-whole.ensures.split_chunks_at)
+    subst (λ t. IsBehind l t) same (left_out l n later sized.2 c.whole_rows-whole.ensures.left c.whole_rows-whole.ensures.within)
 
 pub returns-clause-entries : goal.returns-clause-entries
 returns-clause-entries g c =
@@ -31,6 +31,6 @@ returns-clause-entries g c =
     let sized : AreSized (first ∷ later) = subst (λ t. AreSized t) is c.requires.rows.sized in
     let long : length c.entries.result.now ≡ length first = c.entries.ensures.len in
     let few : length first - o ≤ count = omega (arith, long, c.if-count-rest.false) in
-    let left : IsBehind l (drop n later) = left_out l n later sized.2 c.whole_rows-whole.ensures.left c.whole_rows-whole.ensures.split_chunks_at in
+    let left : IsBehind l (drop n later) = left_out l n later sized.2 c.whole_rows-whole.ensures.left c.whole_rows-whole.ensures.within in
     let rest = ap (λ j. drop (count - (j - o)) (joined later)) (sym long) ∙ c.whole_rows-whole.ensures.same in
     ap (λ t. joined (behind l t)) (sym same) ∙ passed_first count o l n first later few left rest ∙ ap (λ t. drop count (joined (behind o t))) (sym is)
