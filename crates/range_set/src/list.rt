@@ -71,7 +71,7 @@ impl RangeSet {
         self.rows.cursor().peek()
     }
 
-    /// Drops the first ranges. It allocates nothing.
+    /// Drops the first ranges. It needs no memory.
     pub fn drop_front(&mut self, count: usize)
         requires { count ≤ length self.old }
         ensures { self.new ≡ drop count self.old }
