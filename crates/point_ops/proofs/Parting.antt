@@ -67,7 +67,7 @@ module _ {U V : Type 0} where
 
   -- ---- the messages without the oldest
 
-  msgs_len : (k : List ℕ) (cs : List (KeyOp U V)) → length (run_msgs k cs) ≡ length cs
+  pub msgs_len : (k : List ℕ) (cs : List (KeyOp U V)) → length (run_msgs k cs) ≡ length cs
   msgs_len k cs = length-map cs (msg_at k)
 
   pub msgs_left : (n : ℕ) (es : List (List ℕ × List (KeyOp U V))) → IsLeft n es → point_msgs (left n es) ≡ drop n (point_msgs es)

@@ -38,6 +38,12 @@ only_is e [] l h = absurd (omega (arith, l))
 only_is e (x ∷ []) l h = (let is : e ≡ x = cc in ap (λ t. t ∷ []) is)
 only_is e (x ∷ (y ∷ xs)) l h = absurd (omega (arith, l))
 
+-- the list has one element
+pub single : {X : Type 0} (xs : List X) → length xs ≡ 1 → (x : X) × (xs ≡ x ∷ [])
+single [] l = absurd (omega (arith, l))
+single (x ∷ []) l = (x, refl)
+single (x ∷ (y ∷ xs)) l = absurd (omega (arith, l))
+
 -- one update came, and the operations that came are no more
 pub appended_run : {U V : Type 0} (means : U → Option V → Option V) (u : U) (newer cs ds : List (KeyOp U V)) (r : Option (ℕ × ℕ)) → Edit u ∷ [] ≡ newer → IfSome r (λ n. IsAppended means (Edit u ∷ []) cs ds n) → IfNone r (ds ≡ cs) → MatchOption r (ds ≡ cs) (IsAppended means newer cs ds)
 appended_run means u newer cs ds None e s n = n

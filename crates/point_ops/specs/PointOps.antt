@@ -54,7 +54,7 @@ module _ {U V : Type 0} where
 
     -- what became of an update that was to be joined to the only operation of the key k in the entries es, which gave fs
     abbrev pub JoinsAt : JoinReply → List ℕ → U → List (List ℕ × List (KeyOp U V)) → List (List ℕ × List (KeyOp U V)) → Type 0
-    JoinsAt Joined k u es fs = Inserts k (means u) es fs × (point_count fs ≡ point_count es)
+    JoinsAt Joined k u es fs = Inserts k (means u) es fs × (point_count fs ≡ point_count es) × ((c : KeyOp U V) × (at_key k es ≡ Some (c ∷ [])))
     JoinsAt NoKey k u es fs = (at_key k es ≡ None) × (fs ≡ es)
     JoinsAt Apart k u es fs = fs ≡ es
 
@@ -79,10 +79,10 @@ module _ {U V : Type 0} where
       pub adds : AddsFirst came most from old rest new
       pub is : new ≡ insert_entry by_bytes old adds.key adds.run
 
-    -- `consumed` operations were replaced
-    pub record IsMoved (came consumed most : ℕ) (from old rest new : List (List ℕ × List (KeyOp U V))) : Type 0 where
+    -- the same, and `replaced` is how many were replaced
+    pub record IsMoved (came replaced most : ℕ) (from old rest new : List (List ℕ × List (KeyOp U V))) : Type 0 where
       pub takes : TakesFirst came most from old rest new
-      pub counted : point_count new + consumed ≡ point_count old + came
+      pub counted : point_count new + replaced ≡ point_count old + came
 
     -- the operations of the first key of a list, before `rest`, were added to another list, which had `before` operations at that key
     -- and now has `after`

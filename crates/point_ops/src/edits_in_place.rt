@@ -1,7 +1,7 @@
 //! In-place edits of the operations of one key, which `cow_map` runs within their chunk.
 //!
-//! Invariant: each leaves at least one operation. On allocation failure the update is returned, and the operations are
-//! unchanged.
+//! Invariant: each leaves at least one operation. On allocation failure the operations are unchanged, and `PushOp` returns
+//! its update.
 ghost use Rattle.std.specs.Prelude.{◌≡◌, ◌<◌, drop, length, MatchOption};
 ghost use Rattle.point_ops.specs.KeyOps.{IsAppended, IsInserted, IsJoined};
 
@@ -49,18 +49,18 @@ impl<'a, U: Update> Edit<KeyOps<U>> for JoinOp<'a, U> {
 /// Appends the only update of other operations. The answer is how many operations there were and how many there are now; none if the
 /// others are not one update, or an allocation failed.
 #[derive(Drop)]
-pub(crate) struct JoinRun<'a, U: UpdateTarget> {
+pub(crate) struct AppendOps<'a, U: UpdateTarget> {
     pub(crate) alloc: Global,
     pub(crate) newer: &'a KeyOps<U>,
 }
 
-impl<'a, U: Update> Edit<KeyOps<U>> for JoinRun<'a, U> {
+impl<'a, U: Update> Edit<KeyOps<U>> for AppendOps<'a, U> {
     type Answer = Option<(usize, usize)>;
 
     ghost does = { λ l cs ds r. MatchOption r (ds ≡ cs) (IsAppended U.means l.newer.now cs ds) };
 
     fn edit(self, run: &mut KeyOps<U>) -> Option<(usize, usize)> {
-        let JoinRun { alloc, newer } = self;
+        let AppendOps { alloc, newer } = self;
         if newer.len() != 1 {
             return None;
         }

@@ -7,6 +7,7 @@ pub enum JoinReply {
     Joined,
     /// It was not, since the key has no pending operation.
     NoKey,
-    /// It was not, since the key has several operations, the update does not join, or an allocation failed.
+    /// It was not, for another reason: the key has several operations, the update does not join, an allocation failed, or the key
+    /// was not looked for.
     Apart,
 }

@@ -1,8 +1,9 @@
 //! The operations of one key, the oldest first.
 //!
 //! Invariant: there is at least one. A put or a delete is the only operation of its key.
-ghost use Rattle.std.specs.Prelude.{true, false, ◌≡◌, ◌+◌, ◌-◌, ◌<◌, ◌≤◌, [], ◌∷◌, ◌++◌, Option, None, Some, if◌then◌else◌, length, take, drop, OnOk, OnErr, IfOk, IfErr, IfSome, IfNone};
+ghost use Rattle.std.specs.Prelude.{true, false, ◌≡◌, ◌+◌, ◌-◌, ◌<◌, [], ◌∷◌, ◌++◌, Option, None, Some, if◌then◌else◌, length, take, drop, OnOk, IfOk, IfSome, IfNone};
 ghost use Rattle.std.specs.List.{slice_get};
+ghost use Rattle.message.specs.declared.resolution.Resolution.TheVariants as resolution;
 ghost use Rattle.point_ops.specs.Changes.{Put, Del, Edit, is_whole, run_effect, run_msgs};
 ghost use Rattle.point_ops.specs.KeyOps.{borrowed_change, IsAppended, IsInserted, IsJoined, IsResolvedOf};
 
@@ -123,7 +124,7 @@ impl<U: Update> KeyOps<U> {
     }
 
     /// What the operations, without the `consumed` oldest, say of the value at their key, given whether an older range-delete
-    /// covers the key.
+    /// covers the key. They determine it unless they depend on an older value, which no range-delete covers.
     pub fn resolve(
         &self,
         alloc: Global,
@@ -131,7 +132,8 @@ impl<U: Update> KeyOps<U> {
         is_covered: bool,
     ) -> Result<Resolution<U::Value>, NoMemory>
         requires { consumed < length self.now }
-        ensures { IfOk result (IsResolvedOf (λ o. run_effect U.means (drop consumed self.now) (if is_covered then None else o))) }
+        ensures resolved { IfOk result (IsResolvedOf (λ o. run_effect U.means (drop consumed self.now) (if is_covered then None else o))) }
+        ensures base { IfOk result (λ r. r ≡ resolution.NeedsBase → (is_whole self.now ≡ false) × (is_covered ≡ false)) }
     {
         match &self.waits {
             KeyOpsRepr::Put(value) => Ok(Resolution::Value(Some(U::copy_value(alloc, value)?))),

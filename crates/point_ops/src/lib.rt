@@ -11,8 +11,8 @@
 //! - the list stores the number of its messages.
 //!
 //! `points` has the public interface. `key_ops` has the operations of one key, `key_ops_repr` their in-memory representation,
-//! `edits` updates in sequence, and `key_op_ref` a borrowed operation. `edits_in_place` edits the operations of a key in place,
-//! `one_key` changes the map at one key, and `counts` iterates over it.
+//! `edits` updates in sequence, `key_op_ref` a borrowed operation, and `join_reply` what became of an update that was to be joined.
+//! `edits_in_place` edits the operations of a key in place, `one_key` changes the map at one key, and `counts` iterates over it.
 #![tactic(auto)]
 
 pub(crate) mod counts;

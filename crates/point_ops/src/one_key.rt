@@ -1,17 +1,15 @@
 //! Operations at one key of the map, and the numbers of messages that they add and remove.
 //!
-//! Invariant: the caller's count stays correct, since each call returns the number of messages that it removed and added, and
-//! an allocation failure leaves the map unchanged.
-ghost use Rattle.std.specs.Prelude.{◌≡◌, ◌+◌, ◌<◌, ◌≤◌, true, None, Some, drop, length, IfOk, IfErr, OnOk, OnErr, IfSome, IfNone};
-ghost use Rattle.std.specs.BTreeMap.{insert_entry};
+//! Invariant: the caller's count stays correct, since each call that adds or replaces operations returns how many, and an
+//! allocation failure leaves the map unchanged.
+ghost use Rattle.std.specs.Prelude.{◌≡◌, ◌<◌, true, None, Some, drop, length, OnOk, OnErr, IfSome, IfNone};
 ghost use Rattle.std.specs.List.{slice_get};
 ghost use Rattle.std.specs.Option.{option_map, unwrap_or};
-ghost use Rattle.pathkey.specs.Order.{by_bytes};
 ghost use Rattle.cow_map.specs.Places.{at_key};
 ghost use Rattle.point_ops.specs.Changes.{is_whole};
-ghost use Rattle.point_ops.specs.PointOps.{left, point_count, AreRuns, IsFree, IsLeft, IsMoved, IsShared, Inserts};
+ghost use Rattle.point_ops.specs.PointOps.{left, IsFree, IsLeft, IsMoved, IsShared};
 
-use crate::edits_in_place::{DropOldestOps, JoinRun};
+use crate::edits_in_place::{AppendOps, DropOldestOps};
 use crate::key_ops::KeyOps;
 use cow_map::{CowMap, Cursor, Edited};
 use message::Update;
@@ -110,7 +108,7 @@ fn share_updates<U: Update>(
     ensures none { IfNone result (rows.new ≡ rows.old) }
 {
     rows.assert_invariant();
-    match rows.edit_or_share_first_of(walk, JoinRun { alloc, newer }) {
+    match rows.edit_or_share_first_of(walk, AppendOps { alloc, newer }) {
         Ok(None) => Some((0, newer.len())),
         Ok(Some(Some(counts))) => Some(counts),
         Ok(Some(None)) => None,

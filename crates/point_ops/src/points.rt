@@ -9,7 +9,7 @@ ghost use Rattle.std.specs.Option.{option_copied, option_map};
 ghost use Rattle.pathkey.specs.Keys.{is_in};
 ghost use Rattle.pathkey.specs.Order.{by_bytes};
 ghost use Rattle.cow_map.specs.Places.{Rises, at_key, place, AreBefore, AreFrom};
-ghost use Rattle.point_ops.specs.Changes.{Put, Del, Edit, run_effect};
+ghost use Rattle.point_ops.specs.Changes.{Put, Del, Edit};
 ghost use Rattle.point_ops.specs.PointOps.{left, point_count, point_msgs, first_from, last_below, AreRuns, IsLeft, AddsFirst, Inserts, JoinsAt, TakesFirst};
 
 use crate::counts::{copy_msgs, count_of, whole_keys};
@@ -94,6 +94,16 @@ impl<U: Update> PointOps<U> {
         ensures { option_copied result ≡ at_key key.now self.now }
     {
         self.rows.get(key)
+    }
+
+    /// A cursor over the pending operations of all keys.
+    pub fn walk(&self) -> Cursor<'_, KeyOps<U>>
+        ensures list { result ≡ self.now }
+        ensures rises { Rises self.now }
+    {
+        let rows = &self.rows;
+        rows.assert_invariant();
+        rows.cursor()
     }
 
     /// A cursor over the pending operations of the key and of the keys after it.
@@ -301,20 +311,10 @@ impl<U: Update> PointOps<U> {
         ensures moved { IfSome result (λ n. TakesFirst U.means n most from.old self.old from.new self.new) }
         ensures none { IfNone result ((self.new ≡ self.old) × (from.new ≡ from.old)) }
     {
-        let (came, consumed) = move_first(&mut self.rows, &mut from.rows, most)?;
-        self.count = self.count + came - consumed;
+        let (came, replaced) = move_first(&mut self.rows, &mut from.rows, most)?;
+        self.count = self.count + came - replaced;
         from.count -= came;
         Some(came)
-    }
-
-    /// A cursor over the pending operations of all keys.
-    pub fn walk(&self) -> Cursor<'_, KeyOps<U>>
-        ensures list { result ≡ self.now }
-        ensures rises { Rises self.now }
-    {
-        let rows = &self.rows;
-        rows.assert_invariant();
-        rows.cursor()
     }
 
     /// Adds the operations of the next key of a cursor of another list, which are newer than all messages here, and returns how many.
@@ -358,7 +358,7 @@ impl<U: Update> PointOps<U> {
     }
 
     /// Removes the `count` oldest messages as far as they make up all operations of a key, and returns how many are still to be
-    /// removed from the first remaining key. It allocates no memory.
+    /// removed from the first remaining key. It needs no memory.
     pub fn drop_oldest(&mut self, count: usize) -> usize
         requires { count ≤ point_count self.old }
         ensures same { point_msgs (left result self.new) ≡ drop count (point_msgs self.old) }

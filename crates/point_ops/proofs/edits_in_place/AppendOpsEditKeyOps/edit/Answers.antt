@@ -1,7 +1,7 @@
 use Rattle.std.proofs.Common.{◌≡◌, arith, length}
 use Rattle.point_ops.specs.Changes.{Edit}
 use Rattle.point_ops.proofs.Updates.{appended_run, only_is}
-use Rattle.point_ops.proofs.edits_in_place.JoinRunEditKeyOps.edit.Goals as goal
+use Rattle.point_ops.proofs.edits_in_place.AppendOpsEditKeyOps.edit.Goals as goal
 
 pub returns : goal.returns
 returns g c =

@@ -6,6 +6,7 @@ use Rattle.cow_map.specs.Places.{at_key}
 use Rattle.point_ops.specs.declared.join_reply.JoinReply.{JoinReply}
 use Rattle.point_ops.specs.PointOps.{found_effect, point_count, ArePoints, Inserts, JoinsAt}
 use Rattle.point_ops.proofs.Laying.{inserts_put, counted_put, put_same, runs_put}
+use Rattle.point_ops.proofs.Updates.{single}
 use Rattle.point_ops.proofs.points.PointOps.join.Goals.{in-Done-true, in-Done-false, in-Refused, in-Absent}
 use Rattle.point_ops.proofs.points.PointOps.join.Goals as goal
 
@@ -42,7 +43,8 @@ returns g c =
       | in-Done-true w ↦
           let h = w.in-Done-true.ensures in
           let counted = counted_put k h.new es c.edit.new.self (Some h.old) (length h.old) c.assert_invariant.ensures h.is (sym h.there) refl in
-          subst P (sym w.result-is) (subst (λ t. Inserts means k (means u) t c.edit.new.self) c.self.view_is (inserts_put means k (means u) h.new es c.edit.new.self h.is (λ o. OnTrue_at w.in-Done-true.field-0-test h.done.meaning o ∙ sym (ap (λ t. means u (found_effect means t o)) h.there))), omega (arith, counted, h.done.len, ap (λ t. point_count t) c.self.view_is))
+          let only = single h.old (OnTrue_at w.in-Done-true.field-0-test h.done.one) in
+          subst P (sym w.result-is) (subst (λ t. Inserts means k (means u) t c.edit.new.self) c.self.view_is (inserts_put means k (means u) h.new es c.edit.new.self h.is (λ o. OnTrue_at w.in-Done-true.field-0-test h.done.meaning o ∙ sym (ap (λ t. means u (found_effect means t o)) h.there))), omega (arith, counted, h.done.len, ap (λ t. point_count t) c.self.view_is), (only.0, ap (λ t. at_key k t) (sym c.self.view_is) ∙ h.there ∙ ap (λ t. Some t) only.1))
       | in-Done-false w ↦
           let h = w.in-Done-false.ensures in
           subst P (sym w.result-is) (h.is ∙ ap (λ t. insert_entry by_bytes es k t) (OnFalse_at w.in-Done-false.field-0-test h.done.unchanged) ∙ put_same k h.old es c.assert_invariant.ensures h.there ∙ c.self.view_is)
