@@ -23,7 +23,8 @@ use Rattle.message.specs.Ranges.{reaches}
 use Rattle.point_ops.specs.Changes.{KeyOp, run_msgs}
 use Rattle.point_ops.specs.PointOps.{point_msgs}
 use Rattle.pending.specs.OldestWalk.{first_len}
-use Rattle.pending.proofs.Runs.{run_alike, run_first, length-run}
+use Rattle.point_ops.proofs.Parting.{msgs_len}
+use Rattle.pending.proofs.Runs.{run_alike, run_first}
 use Rattle.node.specs.Appended.{batches_by_slot, HaveTaken}
 use Rattle.node.specs.Lawful.{next_lo}
 use Rattle.node.specs.Meaning.{begins_by, slot_number, holder}
@@ -142,10 +143,10 @@ module _ {U V : Type 0} (means : U → Option V → Option V) where
 
   module _ (k : List ℕ) (cs : List (KeyOp U V)) (es : List (List ℕ × List (KeyOp U V))) where
     run_taken : take (length cs) (run_msgs k cs ++ point_msgs es) ≡ run_msgs k cs
-    run_taken = ap (λ n. take n (run_msgs k cs ++ point_msgs es)) (sym (length-run k cs)) ∙ take-append_seam (run_msgs k cs) (point_msgs es)
+    run_taken = ap (λ n. take n (run_msgs k cs ++ point_msgs es)) (sym (msgs_len k cs)) ∙ take-append_seam (run_msgs k cs) (point_msgs es)
 
     run_left : drop (length cs) (run_msgs k cs ++ point_msgs es) ≡ point_msgs es
-    run_left = ap (λ n. drop n (run_msgs k cs ++ point_msgs es)) (sym (length-run k cs)) ∙ drop-append_seam (run_msgs k cs) (point_msgs es)
+    run_left = ap (λ n. drop n (run_msgs k cs ++ point_msgs es)) (sym (msgs_len k cs)) ∙ drop-append_seam (run_msgs k cs) (point_msgs es)
 
     run_alone : 0 < length cs → All (λ m. point_key m ≡ first_point (run_msgs k cs ++ point_msgs es)) (take (length cs) (run_msgs k cs ++ point_msgs es))
     run_alone some =
@@ -160,7 +161,7 @@ module _ {U V : Type 0} (means : U → Option V → Option V) where
       let r : Result ℕ ℕ = Ok n in
       moved_run means k xs i d p room ms (point_msgs w) r rising held b key takes
       (sym (ap (λ j. drop j ms) len ∙ run_left f.0 f.1 w))
-      (few, omega (arith, len, length-append (run_msgs f.0 f.1) (point_msgs w), length-run f.0 f.1))
+      (few, omega (arith, len, length-append (run_msgs f.0 f.1) (point_msgs w), msgs_len f.0 f.1))
       (subst (λ j. All (λ m. point_key m ≡ first_point ms) (take j ms)) (sym len) (run_alone f.0 f.1 w (omega (arith, some, len))))
       (λ z. absurd (omega (arith, z, some)))
 

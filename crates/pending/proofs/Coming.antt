@@ -25,9 +25,10 @@ use Rattle.point_ops.specs.Changes.{KeyOp, run_msgs, run_effect}
 use Rattle.point_ops.specs.PointOps.{point_msgs, point_count, found_effect, AddsFirst, AreRuns, Inserts, JoinsAt}
 use Rattle.point_ops.specs.declared.join_reply.JoinReply.{JoinReply}
 use Rattle.point_ops.specs.declared.join_reply.JoinReply.TheVariants.{Joined, NoKey, Apart}
+use Rattle.point_ops.proofs.Parting.{msgs_len}
 use Rattle.range_set.specs.Disjoint.{Span, covered, range_msgs, CoversMore, TakesFirst as TakesRange}
 use Rattle.pending.specs.SortedMsgs.{sorted_msgs, IsFirstEdit, JoinsMsg}
-use Rattle.pending.proofs.Runs.{run_alike, run_first, length-run, effects-run_here, effects-run_apart, apart_from_untouched, none_from_untouched, untouched_from_none, length-points}
+use Rattle.pending.proofs.Runs.{run_alike, run_first, effects-run_here, effects-run_apart, apart_from_untouched, none_from_untouched, untouched_from_none, length-points}
 use Rattle.pending.proofs.Meaning.{effects-points, effects-sorted, length-sorted, touches-ranges}
 use Rattle.pending.proofs.Stretching.{none_for, sorted_point}
 
@@ -71,6 +72,10 @@ module _ {U V : Type 0} (means : U → Option V → Option V) where
   -- the whole list takes a message that its points mean
   pub inserts_point : (m n : Msg U V) (rs : List Span) (es fs : List (List ℕ × List (KeyOp U V))) (k : List ℕ) → n ≡ m → Rises es → Rises fs → AreRuns es → ((q : List ℕ) → touches m q ≡ same k q) → Inserts means k (made_of means m) es fs → point_count fs ≤ point_count es + 1 → Takes means (sorted_msgs rs es) (n ∷ []) (sorted_msgs rs fs)
   inserts_point m n rs es fs k e s t r w l b = subst (λ x. Takes means (sorted_msgs rs es) (x ∷ []) (sorted_msgs rs fs)) (sym e) (takes_behind (range_msgs rs) (point_msgs es) (m ∷ []) (point_msgs fs) (takes_inserts m es fs k s t r w l b))
+
+  -- a message was put behind the list
+  pub takes_pushed : (m : Msg U V) (old new : List (Msg U V)) → new ≡ old ++ m ∷ [] → Takes means old (m ∷ []) new
+  takes_pushed m old new e = subst (λ t. Takes means old (m ∷ []) t) (sym e) (takes-append means old (m ∷ []))
 
   -- what became of an update at its key becomes of its message in the whole list
   pub joins_msg : (j : JoinReply) (n : Msg U V) (rs : List Span) (es fs : List (List ℕ × List (KeyOp U V))) (k : List ℕ) (u : U) → n ≡ msg.Edit k u → Rises es → Rises fs → AreRuns es → JoinsAt means j k u es fs → JoinsMsg means j n (sorted_msgs rs es) (sorted_msgs rs fs)
@@ -165,7 +170,7 @@ module _ {U V : Type 0} (means : U → Option V → Option V) where
         ∙ l.meaning q (cond (covered rs q) None o)
         ∙ ap (λ x. cond (same k q) (run_effect means cs x) x) (sym (effects-sorted means rs es q o s))
         ∙ sym (effects-run k q cs (effects means (sorted_msgs rs es) q o));
-    bound = omega (arith, length-sorted rs es, length-sorted rs fs, b, length-run k cs);
+    bound = omega (arith, length-sorted rs es, length-sorted rs fs, b, msgs_len k cs);
     touched = λ q h a.
         any_touches-append (range_msgs rs) (point_msgs fs) q
         (untouched_first (range_msgs rs) (point_msgs es) q h)
@@ -174,54 +179,54 @@ module _ {U V : Type 0} (means : U → Option V → Option V) where
 
   -- ---- what follows where the first run of one list has gone to another
 
-  module _ (gs rs : List Span) (from rest es fs : List (List ℕ × List (KeyOp U V))) (come most : ℕ) (created_key : List (Msg U V)) (none : gs ≡ []) (v : sorted_msgs gs from ≡ created_key) (h : AddsFirst means come most from es rest fs) where
-    front : created_key ≡ run_msgs h.key h.run ++ point_msgs rest
+  module _ (gs rs : List Span) (from rest es fs : List (List ℕ × List (KeyOp U V))) (come most : ℕ) (msgs : List (Msg U V)) (none : gs ≡ []) (v : sorted_msgs gs from ≡ msgs) (h : AddsFirst means come most from es rest fs) where
+    front : msgs ≡ run_msgs h.key h.run ++ point_msgs rest
     front = sym v ∙ ap (λ t. range_msgs t ++ point_msgs from) none ∙ ap (λ t. point_msgs t) h.parts
 
     all : come ≡ length (run_msgs h.key h.run)
-    all = h.all ∙ sym (length-run h.key h.run)
+    all = h.all ∙ sym (msgs_len h.key h.run)
 
-    taken : take come created_key ≡ run_msgs h.key h.run
+    taken : take come msgs ≡ run_msgs h.key h.run
     taken = ap (λ t. take come t) front ∙ ap (λ i. take i (run_msgs h.key h.run ++ point_msgs rest)) all ∙ take-append_seam (run_msgs h.key h.run) (point_msgs rest)
 
     some : 0 < length h.run
     some = omega (arith, h.some, h.all)
 
-    pub first_taken : Rises es → Rises fs → AreRuns es → Takes means (sorted_msgs rs es) (take come created_key) (sorted_msgs rs fs)
+    pub first_taken : Rises es → Rises fs → AreRuns es → Takes means (sorted_msgs rs es) (take come msgs) (sorted_msgs rs fs)
     first_taken s t r = subst (λ ms. Takes means (sorted_msgs rs es) ms (sorted_msgs rs fs)) (sym taken) (takes_run rs es fs h.key h.run s t r some h.inserts (omega (arith, h.bound, h.all)))
 
-    pub first_left : sorted_msgs gs rest ≡ drop come created_key
+    pub first_left : sorted_msgs gs rest ≡ drop come msgs
     first_left = ap (λ t. range_msgs t ++ point_msgs rest) none ∙ sym (ap (λ t. drop come t) front ∙ ap (λ i. drop i (run_msgs h.key h.run ++ point_msgs rest)) all ∙ drop-append_seam (run_msgs h.key h.run) (point_msgs rest))
 
-    pub first_alike : All (λ m. point_key m ≡ first_point created_key) (take come created_key)
+    pub first_alike : All (λ m. point_key m ≡ first_point msgs) (take come msgs)
     first_alike =
-        let key : Some h.key ≡ first_point created_key = sym (ap (λ t. first_point t) front ∙ run_first h.key h.run (point_msgs rest) some) in
-        subst (λ ms. All (λ m. point_key m ≡ first_point created_key) ms) (sym taken) (subst (λ (o : Option (List ℕ)). All (λ m. point_key m ≡ o) (run_msgs h.key h.run)) key (run_alike h.key h.run))
+        let key : Some h.key ≡ first_point msgs = sym (ap (λ t. first_point t) front ∙ run_first h.key h.run (point_msgs rest) some) in
+        subst (λ ms. All (λ m. point_key m ≡ first_point msgs) ms) (sym taken) (subst (λ (o : Option (List ℕ)). All (λ m. point_key m ≡ o) (run_msgs h.key h.run)) key (run_alike h.key h.run))
 
-    pub first_few : come ≤ length created_key
+    pub first_few : come ≤ length msgs
     first_few = omega (arith, all, ap (λ t. length t) front, length-append (run_msgs h.key h.run) (point_msgs rest))
 
     pub first_fewer : point_count rest + come ≡ point_count from
     first_fewer = omega (arith, ap (λ (t : List (List ℕ × List (KeyOp U V))). point_count t) h.parts, sum_by-cons (λ (x : List ℕ × List (KeyOp U V)). length x.1) (h.key, h.run) rest, h.all)
 
   -- the first range-delete has gone to another
-  module _ (gs hs rs ss : List Span) (from : List (List ℕ × List (KeyOp U V))) (created_key : List (Msg U V)) (v : sorted_msgs gs from ≡ created_key) (h : TakesRange gs hs rs ss) where
-    range_front : created_key ≡ msg.DelRange (record { lo = h.first.0; hi = h.first.1 }) ∷ sorted_msgs hs from
+  module _ (gs hs rs ss : List Span) (from : List (List ℕ × List (KeyOp U V))) (msgs : List (Msg U V)) (v : sorted_msgs gs from ≡ msgs) (h : TakesRange gs hs rs ss) where
+    range_front : msgs ≡ msg.DelRange (record { lo = h.first.0; hi = h.first.1 }) ∷ sorted_msgs hs from
     range_front = sym v ∙ ap (λ t. range_msgs t ++ point_msgs from) h.parts
 
-    pub range_taken : (es : List (List ℕ × List (KeyOp U V))) → Rises es → AreRuns es → left_by (record { lo = h.first.0; hi = h.first.1 }) es ≡ es → Takes means (sorted_msgs rs es) (take 1 created_key) (sorted_msgs ss es)
+    pub range_taken : (es : List (List ℕ × List (KeyOp U V))) → Rises es → AreRuns es → left_by (record { lo = h.first.0; hi = h.first.1 }) es ≡ es → Takes means (sorted_msgs rs es) (take 1 msgs) (sorted_msgs ss es)
     range_taken es s r l = subst (λ ms. Takes means (sorted_msgs rs es) ms (sorted_msgs ss es)) (sym (ap (λ t. take 1 t) range_front)) (takes_range rs ss es es (record { lo = h.first.0; hi = h.first.1 }) s s r h.covers h.bound (sym l) (omega arith))
 
-    pub range_left : sorted_msgs hs from ≡ drop 1 created_key
+    pub range_left : sorted_msgs hs from ≡ drop 1 msgs
     range_left = sym (ap (λ t. drop 1 t) range_front)
 
-    pub range_some : 1 ≤ length created_key
+    pub range_some : 1 ≤ length msgs
     range_some = omega (arith, ap (λ t. length t) range_front)
 
-    pub range_alike : All (λ m. point_key m ≡ first_point created_key) (take 1 created_key)
+    pub range_alike : All (λ m. point_key m ≡ first_point msgs) (take 1 msgs)
     range_alike =
-        let none : None ≡ first_point created_key = sym (ap (λ t. first_point t) range_front) in
-        subst (λ ms. All (λ m. point_key m ≡ first_point created_key) ms) (sym (ap (λ t. take 1 t) range_front)) (alone (msg.DelRange (record { lo = h.first.0; hi = h.first.1 })) (first_point created_key) none)
+        let none : None ≡ first_point msgs = sym (ap (λ t. first_point t) range_front) in
+        subst (λ ms. All (λ m. point_key m ≡ first_point msgs) ms) (sym (ap (λ t. take 1 t) range_front)) (alone (msg.DelRange (record { lo = h.first.0; hi = h.first.1 })) (first_point msgs) none)
       where
         alone : (m : Msg U V) (o : Option (List ℕ)) → point_key m ≡ o → All (λ x. point_key x ≡ o) (m ∷ [])
         alone m o e = All-cons (λ (x : Msg U V). point_key x ≡ o) m [] e (All-nil (λ (x : Msg U V). point_key x ≡ o))

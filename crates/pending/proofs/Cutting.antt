@@ -6,7 +6,7 @@ use Rattle.std.specs.List.Sorted.{IsStrictlySortedBy}
 use Rattle.std.specs.declared.cmp.Ordering.TheVariants.{Less}
 use Rattle.std.specs.Map.{keys_of}
 use Rattle.std.proofs.lemmas.List.{map-append}
-use Rattle.std.proofs.lemmas.List.Elements.{All-append, All-head, All-tail}
+use Rattle.std.proofs.lemmas.List.Elements.{All-head, All-tail}
 use Rattle.pathkey.specs.Order.{by_bytes}
 use Rattle.pathkey.proofs.KeyOrder.{from_start, less_from_lt, lt_le, not_reaches_from_before, not_before_from_reaches}
 use Rattle.cow_map.specs.Places.{Rises, AreBefore, AreFrom}
@@ -115,9 +115,6 @@ module _ {U V : Type 0} where
 
     pub points_back : point_msgs fs ≡ pieces p None (point_msgs all)
     points_back = back_part [] p (point_msgs all) (point_msgs es) (point_msgs fs) parted
-
-  pub runs_both : (es fs all : List (List ℕ × List (KeyOp U V))) → all ≡ es ++ fs → AreRuns es → AreRuns fs → AreRuns all
-  runs_both es fs all e r s = subst (λ (t : List (List ℕ × List (KeyOp U V))). AreRuns t) (sym e) (All-append (λ (x : List ℕ × List (KeyOp U V)). 0 < length x.1) es fs r s)
 
   -- ---- where the keys of point messages stand
 

@@ -17,13 +17,14 @@ use Rattle.message.specs.Ranges.{within}
 use Rattle.message.specs.Effects.{any_touches, effects, range_count}
 use Rattle.message.specs.Resolution.{IsResolved}
 use Rattle.message.proofs.Lists.{effects-append, any_touches-append}
+use Rattle.message.proofs.Composing.{untouched_first, untouched_second}
 use Rattle.message.proofs.NextKey.{by_bool}
 use Rattle.point_ops.specs.Changes.{KeyOp, msg_at, run_msgs, run_effect}
-use Rattle.point_ops.specs.PointOps.{point_msgs, point_count, found_effect, left}
+use Rattle.point_ops.specs.PointOps.{point_msgs, point_count, found_effect, left, AreRuns}
 use Rattle.point_ops.specs.KeyOps.{IsResolvedOf}
 use Rattle.range_set.specs.Disjoint.{Span, covered, range_msgs}
 use Rattle.pending.specs.SortedMsgs.{sorted_msgs}
-use Rattle.pending.proofs.Runs.{effects-run_here, effects-run_apart, untouched_from_none, length-points, points_count}
+use Rattle.pending.proofs.Runs.{effects-run_here, effects-run_apart, none_from_untouched, untouched_from_none, length-points, points_count}
 
 module _ (U V : Type 0) where
   pub touches-ranges : (rs : List Span) (q : List ℕ) → any_touches {U = U} {V = V} (range_msgs rs) q ≡ covered rs q
@@ -113,6 +114,23 @@ module _ {U V : Type 0} (means : U → Option V → Option V) where
       ∙ effects-points es q (cond (covered rs q) None o) s
 
   -- ---- what is told
+
+  pub touched_before : (s f : List (Msg U V)) (k : List ℕ) → any_touches s k ≡ true → any_touches (s ++ f) k ≡ true
+  touched_before s f k h = by_bool (any_touches (s ++ f) k) (any_touches (s ++ f) k ≡ true) (λ y. y) (λ n. absurd (let no : any_touches s k ≡ false = untouched_first s f k n in cc))
+
+  pub touched_behind : (s f : List (Msg U V)) (k : List ℕ) → any_touches f k ≡ true → any_touches (s ++ f) k ≡ true
+  touched_behind s f k h = by_bool (any_touches (s ++ f) k) (any_touches (s ++ f) k ≡ true) (λ y. y) (λ n. absurd (let no : any_touches f k ≡ false = untouched_second s f k n in cc))
+
+  -- a key at which operations wait is touched
+  pub touched_there : (rs : List Span) (es : List (List ℕ × List (KeyOp U V))) (msgs : List (Msg U V)) (k : List ℕ) (cs : List (KeyOp U V)) → AreRuns es → sorted_msgs rs es ≡ msgs → Some cs ≡ at_key k es → any_touches msgs k ≡ true
+  touched_there rs es msgs k cs r v f =
+      by_bool (any_touches msgs k) (any_touches msgs k ≡ true) (λ y. y)
+      (λ n. absurd (let none : at_key k es ≡ None = none_from_untouched es k r (untouched_second (range_msgs rs) (point_msgs es) k (ap (λ ms. any_touches ms k) v ∙ n)) in let no : Some cs ≡ None = f ∙ none in cc))
+
+  -- without operations none is asked for
+  pub untouched_says : (b : Bool) (t : Resolution V) → t ≡ cond b (Value None) Untouched → t ≡ NeedsBase → ⊥
+  untouched_says true t e n = (let no : NeedsBase ≡ Value None = sym n ∙ e in cc)
+  untouched_says false t e n = (let no : NeedsBase ≡ Untouched = sym n ∙ e in cc)
 
   pub found_at : (rs : List Span) (es : List (List ℕ × List (KeyOp U V))) (msgs : List (Msg U V)) (k : List ℕ) (b : Bool) (t : Option (List (KeyOp U V))) → Rises es → sorted_msgs rs es ≡ msgs → b ≡ covered rs k → t ≡ at_key k es → (o : Option V) → found_effect means t (cond b None o) ≡ effects means msgs k o
   found_at rs es msgs k b t s v c f o =

@@ -7,7 +7,6 @@ use Rattle.std.specs.Ordering.{is_eq}
 use Rattle.std.specs.Map.{keys_of}
 use Rattle.std.specs.BTreeMap.{is_at}
 use Rattle.std.proofs.lemmas.Bool.{or_parts}
-use Rattle.std.proofs.lemmas.List.{length-map}
 use Rattle.std.proofs.lemmas.List.Elements.{All-nil, All-cons, All-head, All-tail}
 use Rattle.std.proofs.lemmas.List.Sums.{sum_by-cons}
 use Rattle.std.proofs.lemmas.Map.Entries.{lookup_head, lookup_tail}
@@ -23,7 +22,8 @@ use Rattle.message.proofs.Composing.{untouched_first, untouched_second}
 use Rattle.message.proofs.NextKey.{by_bool}
 use Rattle.point_ops.specs.Changes.{KeyOp, Put, Del, Edit, msg_at, run_msgs, changed, run_effect}
 use Rattle.point_ops.specs.PointOps.{point_msgs, point_count, left, AreRuns, IsLeft}
-use Rattle.point_ops.proofs.Counting.{none_consumed}
+use Rattle.point_ops.proofs.Counting.{none_consumed, some_left}
+use Rattle.point_ops.proofs.Parting.{msgs_len}
 
 module _ {U V : Type 0} where
   -- ---- one change
@@ -66,9 +66,6 @@ module _ {U V : Type 0} where
   run_count k [] ms = refl
   run_count k (c ∷ cs) ms = count_at k c (run_msgs k cs ++ ms) ∙ run_count k cs ms
 
-  pub length-run : (k : List ℕ) (cs : List (KeyOp U V)) → length (run_msgs k cs) ≡ length cs
-  length-run k cs = length-map cs (msg_at k)
-
   -- ---- those of all keys
 
   pub none_from_untouched : (es : List (List ℕ × List (KeyOp U V))) (q : List ℕ) → AreRuns es → any_touches (point_msgs es) q ≡ false → at_key q es ≡ None
@@ -92,14 +89,13 @@ module _ {U V : Type 0} where
 
   pub length-points : (es : List (List ℕ × List (KeyOp U V))) → length (point_msgs es) ≡ point_count es
   length-points [] = refl
-  length-points (e ∷ es) = omega (arith, length-append (run_msgs e.0 e.1) (point_msgs es), length-run e.0 e.1, length-points es, sum_by-cons (λ (x : List ℕ × List (KeyOp U V)). length x.1) e es)
+  length-points (e ∷ es) = omega (arith, length-append (run_msgs e.0 e.1) (point_msgs es), msgs_len e.0 e.1, length-points es, sum_by-cons (λ (x : List ℕ × List (KeyOp U V)). length x.1) e es)
 
   -- ---- without the oldest of the first key
 
   -- where none are gone, some are left
   pub none_left : (n : ℕ) (es : List (List ℕ × List (KeyOp U V))) → n ≡ 0 → AreRuns es → IsLeft n es
-  none_left n [] z r = z
-  none_left n (e ∷ es) z r = omega (arith, z, All-head (λ (x : List ℕ × List (KeyOp U V)). 0 < length x.1) e es r)
+  none_left n es z r = subst (λ i. IsLeft i es) (sym z) (some_left es r)
 
   pub left_whole : (n : ℕ) (es : List (List ℕ × List (KeyOp U V))) → n ≡ 0 → left n es ≡ es
   left_whole n es z = ap (λ i. left i es) z ∙ none_consumed es

@@ -1,13 +1,9 @@
 -- A walk over the oldest messages.
 use Rattle.std.proofs.Common.{◌≡◌, ℕ, zero, suc, List, [], ◌∷◌, ◌++◌, length, drop, refl, sym, ap, ◌∙◌, Option, Some, None}
 use Rattle.std.specs.List.{slice_get}
-use Rattle.std.specs.Map.{keys_of}
 use Rattle.std.specs.Option.{option_map, option_to_list}
 use Rattle.std.specs.Prelude.{IfSome, IfNone}
-use Rattle.std.proofs.lemmas.Map.Keys.{sorted_tail}
 use Rattle.std.proofs.lemmas.Option.{IfSome_then}
-use Rattle.pathkey.specs.Order.{by_bytes}
-use Rattle.cow_map.specs.Places.{Rises}
 use Rattle.message.specs.declared.msg.Msg.{Msg}
 use Rattle.point_ops.specs.Changes.{KeyOp, msg_at, run_msgs}
 use Rattle.point_ops.specs.PointOps.{point_msgs}
@@ -37,10 +33,6 @@ module _ {U V : Type 0} where
       ap (λ (x : List ℕ × List (KeyOp U V)). slice_get (run_msgs x.0 x.1 ++ point_msgs es) i) is ∙ run_msg i k cs c (point_msgs es) g
 
   -- ---- the later keys
-
-  pub rises_later : (es : List (List ℕ × List (KeyOp U V))) → Rises es → Rises (drop 1 es)
-  rises_later [] r = r
-  rises_later (e ∷ es) r = sorted_tail by_bytes e.0 (keys_of es) r
 
   pub later_is : {X : Type 0} (f : X → List ℕ × List (KeyOp U V)) (es rest : List (List ℕ × List (KeyOp U V))) (o : Option X) → es ≡ option_to_list (option_map f o) ++ rest → IfNone o (es ≡ []) → rest ≡ drop 1 es
   later_is f es rest None p e = sym p ∙ e ∙ sym (ap (λ t. drop 1 t) e)

@@ -51,7 +51,7 @@ pub(crate) fn apply_msgs<U: Update>(
 {
     let mut value = old;
     for waiting in msgs {
-        value = waiting.as_msg().insert(alloc, key, value)?;
+        value = waiting.as_msg().apply_msg(alloc, key, value)?;
     }
     Ok(value)
 }

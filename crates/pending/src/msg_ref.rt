@@ -67,7 +67,7 @@ impl<'a, U: Update> MsgRef<'a, U> {
     }
 
     /// The key to which it may give a value, if it is a put or an edit.
-    pub(crate) fn created_key(&self) -> Option<&'a Key>
+    pub fn created_key(&self) -> Option<&'a Key>
         ensures { option_copied result ≡ given_at (borrowed_msg self.now) }
     {
         match self {
@@ -166,7 +166,7 @@ impl<'a, U: Update> MsgRef<'a, U> {
     }
 
     /// Applies it to `old`, the older value at `key`, and returns the resulting value.
-    pub(crate) fn insert(
+    pub(crate) fn apply_msg(
         &self,
         alloc: Global,
         key: &Key,

@@ -7,7 +7,7 @@ ghost use Rattle.std.specs.Prelude.{◌≡◌, ◌+◌, ◌≤◌, ◌<◌, ◌+
 ghost use Rattle.std.specs.Option.{option_copied, option_map};
 ghost use Rattle.std.specs.List.{All, slice_get};
 ghost use Rattle.message.specs.Cuts.{pieces, IsJoined, IsUpTo, LieIn};
-ghost use Rattle.message.specs.Effects.{effects, point_key, range_count, Takes};
+ghost use Rattle.message.specs.Effects.{any_touches, effects, point_key, range_count, Takes};
 ghost use Rattle.pending.specs.MsgRef.{borrowed_msg};
 ghost use Rattle.pending.specs.OldestWalk.{first_len, IsWalk};
 ghost use Rattle.point_ops.specs.PointOps.{point_msgs};
@@ -15,6 +15,7 @@ ghost use Rattle.message.specs.Oldest.{first_point, first_put, first_given, meet
 ghost use Rattle.message.specs.PointKeys.{is_cleared, IsNextPoint, IsClearStretch};
 ghost use Rattle.message.specs.Stretches.{IsStretch};
 ghost use Rattle.message.specs.Resolution.{IsResolved};
+ghost use Rattle.message.specs.declared.resolution.Resolution.TheVariants as resolution;
 ghost use Rattle.pathkey.specs.Keys.{is_below};
 ghost use Rattle.pending.specs.Ahead.{StandsAt};
 ghost use Rattle.pending.specs.LastPoint.{IsLastPoint};
@@ -127,7 +128,8 @@ impl<U: Update> Pending<U> {
         self.sorted.join(alloc, msg)
     }
 
-    /// Like [`Pending::push_reserved`], for an update of a key that no message is for: it is not searched again.
+    /// Like [`Pending::push_reserved`], for an update of a key that no message is for: it is put without another attempt to
+    /// join it.
     #[inline(always)]
     fn push_first(&mut self, msg: Msg<U>)
         requires room { 0 < self.old.1 }
@@ -157,7 +159,7 @@ impl<U: Update> Pending<U> {
         ensures takes { Takes U.means self.old.0 (msg ∷ []) self.new.0 }
         ensures room { self.old.1 ≤ self.new.1 + 1 }
     {
-        condense(&mut self.sorted, &mut self.tail_msgs);
+        condense(&mut self.sorted, &mut self.tail_msgs, CONDENSE_AT);
         if self.tail_msgs.len() > 0 {
             self.push_uncondensed(msg);
             return;
@@ -172,7 +174,7 @@ impl<U: Update> Pending<U> {
         ensures { Takes U.means self.old.0 [] self.new.0 }
     {
         if !self.sorted.is_shared() {
-            condense(&mut self.sorted, &mut self.tail_msgs);
+            condense(&mut self.sorted, &mut self.tail_msgs, CONDENSE_AT);
         }
     }
 
@@ -306,7 +308,8 @@ impl<U: Update> Pending<U> {
         Ok(front)
     }
 
-    /// Prepares for copies, which then take constant time but for the tail, and new messages wait in the tail while a copy exists.
+    /// Prepares for copies, which then take constant time but for the tail, and up to 64 new messages wait in the tail while a copy
+    /// exists.
     pub fn make_sharable(&mut self)
         ensures { self.new ≡ self.old }
     {
@@ -448,8 +451,8 @@ impl<U: Update> Pending<U> {
         }
     }
 
-    /// Moves the oldest messages, those of one key and at most `most`, without copying them, and returns how many. It moves
-    /// none if the other list has a tail, or if its sorted part accepts none.
+    /// Moves the oldest messages, a range-delete or those of one key and at most `most`, without copying them, and returns how
+    /// many. It moves none if the other list has a tail, or if its sorted part accepts none.
     fn flush_key(&mut self, to: &mut Pending<U>, most: usize) -> Option<usize>
         ensures takes { IfSome result (λ n. Takes U.means to.old.0 (take n self.old.0) to.new.0) }
         ensures left { IfSome result (λ n. self.new.0 ≡ drop n self.old.0) }
@@ -465,8 +468,8 @@ impl<U: Update> Pending<U> {
         Some(count)
     }
 
-    /// A walk over the oldest messages, if they are not range-deletes and none of the first key is consumed: over all in the sorted
-    /// part.
+    /// A walk over the messages of the sorted part, if that has no range-delete and no message of its first key is consumed. It
+    /// needs no memory.
     pub fn walk_oldest(&self) -> Option<OldestWalk<'_, U>>
         ensures { IfSome result (λ w. IsWalk w self.now.0) }
     {
@@ -532,7 +535,8 @@ impl<U: Update> Pending<U> {
             std::mem::swap(self, to);
             return Ok(());
         }
-        condense_all(&mut to.sorted, &mut to.tail_msgs);
+        let most = to.tail_msgs.len();
+        condense(&mut to.sorted, &mut to.tail_msgs, most);
         while !self.flush_more(to)? {}
         Ok(())
     }
@@ -627,7 +631,8 @@ impl<U: Update> Pending<U> {
     /// What the list says of the value at the key. It copies only a value that it determines. If a message of the tail touches
     /// the key, it determines none.
     pub fn resolve(&self, alloc: Global, key: &Key) -> Result<Resolution<U::Value>, NoMemory>
-        ensures { IfOk result (IsResolved U.means self.now.0 key.now) }
+        ensures resolved { IfOk result (IsResolved U.means self.now.0 key.now) }
+        ensures touched { IfOk result (λ r. r ≡ resolution.NeedsBase → any_touches self.now.0 key.now ≡ true) }
     {
         if self.tail_msgs.is_touched(key) {
             return Ok(Resolution::NeedsBase);
@@ -723,25 +728,18 @@ impl<U: Update> Pending<U> {
 }
 
 /// Condenses the tail into the sorted part, the oldest message first, up to one that cannot be inserted there, and at most
-/// [`CONDENSE_AT`] messages.
-fn condense<U: Update>(sorted: &mut SortedMsgs<U>, tail_msgs: &mut Tail<U>)
+/// `most` messages.
+fn condense<U: Update>(sorted: &mut SortedMsgs<U>, tail_msgs: &mut Tail<U>, most: usize)
     ensures same { Takes U.means (sorted.old ++ tail_msgs.old.0) [] (sorted.new ++ tail_msgs.new.0) }
     ensures room { tail_msgs.old.1 ≤ tail_msgs.new.1 }
 {
     if tail_msgs.len() == 0 {
         return;
     }
-    let mut more = CONDENSE_AT;
+    let mut more = most;
     while more > 0 && condense_oldest(sorted, tail_msgs) {
         more -= 1;
     }
-}
-
-/// Condenses the tail into the sorted part, the oldest message first, up to one that cannot be inserted there.
-fn condense_all<U: Update>(sorted: &mut SortedMsgs<U>, tail_msgs: &mut Tail<U>)
-    ensures same { Takes U.means (sorted.old ++ tail_msgs.old.0) [] (sorted.new ++ tail_msgs.new.0) }
-{
-    while condense_oldest(sorted, tail_msgs) {}
 }
 
 /// Inserts the oldest message of the tail into the sorted part, and returns whether it did; otherwise both are unchanged.

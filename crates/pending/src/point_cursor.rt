@@ -78,7 +78,7 @@ impl<'a, U: Update> PointCursor<'a, U> {
         ensures same { self.new.0 ≡ self.old.0 }
         ensures along { is_some self.new.1 ≡ true }
         ensures fewer { IfSome result (λ m. entries_left self.new.1 < entries_left self.old.1) }
-        ensures point_key { (from : List ℕ) → StandsAt from self.old → IsNextPoint self.old.0 from (option_copied end.entry) (option_map (λ m. m.0) result) }
+        ensures next { (from : List ℕ) → StandsAt from self.old → IsNextPoint self.old.0 from (option_copied end.entry) (option_map (λ m. m.0) result) }
         ensures stands { (from : List ℕ) → StandsAt from self.old → IfSome result (λ m. StandsAt (next_key m.0) self.new) }
         ensures met { (from : List ℕ) → StandsAt from self.old → IfSome result (λ m. IsMet self.old.0 m) }
     {
@@ -126,7 +126,7 @@ pub fn advance<'a: 'b, 'b, U: Update>(
     requires { StandsAt from.now ahead.old }
     ensures same { ahead.new.0 ≡ ahead.old.0 }
     ensures along { is_some ahead.new.1 ≡ is_some ahead.old.1 }
-    ensures point_key { IsNextPoint ahead.old.0 from.now (option_copied end.entry) (option_map (λ m. m.0) result) }
+    ensures next { IsNextPoint ahead.old.0 from.now (option_copied end.entry) (option_map (λ m. m.0) result) }
     ensures stands { IfSome result (λ m. StandsAt (next_key m.0) ahead.new) }
     ensures met { IfSome result (λ m. IsMet ahead.old.0 m) }
 {

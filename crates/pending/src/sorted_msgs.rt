@@ -8,7 +8,7 @@ ghost use Rattle.std.specs.Option.{option_copied, option_map};
 ghost use Rattle.std.specs.List.{All, slice_get};
 ghost use Rattle.pathkey.specs.Keys.{is_below};
 ghost use Rattle.message.specs.Cuts.{pieces, IsJoined, IsParted, LieIn};
-ghost use Rattle.message.specs.Effects.{effects, point_key, range_count, Takes};
+ghost use Rattle.message.specs.Effects.{any_touches, effects, point_key, range_count, Takes};
 ghost use Rattle.message.specs.Oldest.{first_point};
 ghost use Rattle.message.specs.PointKeys.{is_cleared, IsPointStop, IsClearStretch};
 ghost use Rattle.message.specs.Stretches.{EndsAhead, is_key};
@@ -167,6 +167,13 @@ impl<U: Update> SortedMsgs<U> {
         joined
     }
 
+    /// Whether `most` is at least 1, and the list with as many more messages has fewer than [`MOST`].
+    fn accepts(&self, most: usize) -> bool
+        ensures { result ≡ true → (0 < most) × (length self.now + most ≤ 2 ^ 62) }
+    {
+        most > 0 && self.len() < MOST - most.min(MOST)
+    }
+
     /// Moves the oldest messages of another list, a range-delete or those of one key and at most `most`, into this one, newer
     /// than all that are here, and returns how many. It moves none if [`SortedMsgs::take_range`] or [`PointOps::take_first`]
     /// moves none.
@@ -182,7 +189,7 @@ impl<U: Update> SortedMsgs<U> {
         ensures alike { IfSome result (λ n. All (λ m. point_key m ≡ first_point from.old) (take n from.old)) }
         ensures none { IfNone result ((self.new ≡ self.old) × (from.new ≡ from.old)) }
     {
-        if most == 0 || self.len() >= MOST - most.min(MOST) {
+        if !self.accepts(most) {
             return None;
         }
         if from.ranges.len() > 0 {
@@ -216,7 +223,7 @@ impl<U: Update> SortedMsgs<U> {
     }
 
     /// Adds the operations of a walk's next key, at most `most`, newer than all messages here, and returns how many. It adds none if
-    /// [`PointOps::share_first_of`] does not.
+    /// [`PointOps::share_first_of`] does not, if the list is nearly full, or if the consumed messages find no memory to be dropped.
     pub(crate) fn share_first_of(
         &mut self,
         alloc: Global,
@@ -227,7 +234,7 @@ impl<U: Update> SortedMsgs<U> {
         ensures within { IfSome result (λ n. (n ≡ first_len walk.now) × (0 < n) × (n ≤ most)) }
         ensures none { IfNone result (self.new ≡ self.old) }
     {
-        if most == 0 || self.len() >= MOST - most.min(MOST) {
+        if !self.accepts(most) {
             return None;
         }
         let Ok(()) = make_whole(&mut self.points, alloc, &mut self.consumed) else {
@@ -263,7 +270,7 @@ impl<U: Update> SortedMsgs<U> {
 
     // ---- removal and copies
 
-    /// Removes the `count` oldest messages. It allocates no memory.
+    /// Removes the `count` oldest messages. It needs no memory.
     pub(crate) fn drop_front(&mut self, count: usize)
         requires { count ≤ length self.old }
         ensures { self.new ≡ drop count self.old }
@@ -419,7 +426,8 @@ impl<U: Update> SortedMsgs<U> {
 
     /// What the list says of the value at the key. It copies only a value that it determines.
     pub(crate) fn resolve(&self, alloc: Global, key: &Key) -> Result<Resolution<U::Value>, NoMemory>
-        ensures { IfOk result (IsResolved U.means self.now key.now) }
+        ensures resolved { IfOk result (IsResolved U.means self.now key.now) }
+        ensures touched { IfOk result (λ r. r ≡ resolution.NeedsBase → any_touches self.now key.now ≡ true) }
     {
         self.points.assert_invariant();
         let is_covered = self.ranges.is_covered(key);

@@ -5,8 +5,8 @@ use Rattle.pending.specs.Ahead.{StandsAt, AreFrom}
 use Rattle.pending.proofs.Meeting.{met_some, met_stands, met_waits}
 use Rattle.pending.proofs.point_cursor.advance.Goals as goal
 
-pub returns-in-Some-clause-point_key : goal.returns-in-Some-clause-point_key
-returns-in-Some-clause-point_key g c =
+pub returns-in-Some-clause-next : goal.returns-in-Some-clause-next
+returns-in-Some-clause-next g c =
     let ms = c.args.ahead.now.0 in
     let from = c.args.from.now in
     let end = option_copied c.args.end in

@@ -9,7 +9,7 @@ returns-then-goes_along g c = record {
   same = c.next_along.ensures.same;
   along = c.next_along.ensures.along ∙ sym c.if-goes_along.true ∙ c.goes_along.ensures;
   fewer = λ h. c.next_along.ensures.fewer;
-  point = λ here s e. c.next_along.ensures.point_key here s;
+  point = λ here s e. c.next_along.ensures.next here s;
   stands = c.next_along.ensures.stands;
   met = c.next_along.ensures.met;
 }
@@ -22,7 +22,7 @@ returns g c = record {
   same = c.advance.ensures.same;
   along = c.advance.ensures.along;
   fewer = λ h. absurd (let no : true ≡ false = sym h ∙ sym c.goes_along.ensures ∙ c.if-goes_along.false in cc);
-  point = λ here s e. subst (λ k. IsNextPoint c.args.ahead.now.0 k (option_copied c.args.end) (option_map (λ m. m.0) c.advance.result)) (sym (e (sym c.goes_along.ensures ∙ c.if-goes_along.false))) c.advance.ensures.point_key;
+  point = λ here s e. subst (λ k. IsNextPoint c.args.ahead.now.0 k (option_copied c.args.end) (option_map (λ m. m.0) c.advance.result)) (sym (e (sym c.goes_along.ensures ∙ c.if-goes_along.false))) c.advance.ensures.next;
   stands = λ here s. c.advance.ensures.stands;
   met = λ here s. c.advance.ensures.met;
 }

@@ -58,7 +58,7 @@ first-returns g t c = none_past (value g.U.Update.means c.args.node.now) c.args.
 
 pub first_of_slot-returns-in-Value : goal.first_of_slot-returns-in-Value
 first_of_slot-returns-in-Value g t c =
-    let resolution = rw c.in-Value.is at c.in_ok-resolution.ensures in
+    let resolution = rw c.in-Value.is at c.in_ok-resolution.ensures.resolved in
     let here = first_of_resolved g.U.Update.means c.args.slot.now.pending.0 (value g.U.Update.means c.args.slot.now.child.value) c.args.from.now (option_copied c.args.stop) c.requires.some c.requires.alike c.in-Value.value resolution in
     IfOk-weaker c.pair_at.result _ (IsFirst (slot_value g.U.Update.means c.args.slot.now) c.args.from.now (option_copied c.args.stop)) (λ r e. subst (IsFirst (slot_value g.U.Update.means c.args.slot.now) c.args.from.now (option_copied c.args.stop)) (sym e) here) c.pair_at.ensures
 
@@ -70,7 +70,7 @@ first_of_slot-returns-then-matches g t c =
     let stop = option_copied c.args.stop in
     let below = subst (λ n. IsFirst (value means n) from stop c.in_ok-below.below) c.deref.ensures c.in_ok-below.ensures in
     elim c.match-matches.branch [
-      | first_of_slot-in-Untouched w ↦ (let none = rw w.in-Untouched.is at c.in_ok-resolution.ensures in first_untouched means s.pending.0 (value means s.child.value) from stop c.requires.some c.requires.alike c.in_ok-below.below none.1 below)
+      | first_of_slot-in-Untouched w ↦ (let none = rw w.in-Untouched.is at c.in_ok-resolution.ensures.resolved in first_untouched means s.pending.0 (value means s.child.value) from stop c.requires.some c.requires.alike c.in_ok-below.below none.1 below)
       | first_of_slot-in_default-matches w ↦ absurd (true≢false (sym c.if-matches.true ∙ w.matches-is))
     ]
 

@@ -20,8 +20,8 @@ returns-then-len-eq0-clause-moved g c = ap (λ (t : _). t.0) c.swap.ensures.x_af
 pub loop-init : goal.loop-init
 loop-init g c =
     let means = g.U.Update.means in
-    let new = c.condense_all.new.sorted ++ c.condense_all.new.tail_msgs.0 in
-    takes_before means c.args.to.now.0 c.args.self.now.0 new (subst (λ xs. Takes means xs [] new) (ap (λ (t : _). t.0) c.to.view_is) c.condense_all.ensures.same)
+    let new = c.condense.new.sorted ++ c.condense.new.tail_msgs.0 in
+    takes_before means c.args.to.now.0 c.args.self.now.0 new (subst (λ xs. Takes means xs [] new) (ap (λ (t : _). t.0) c.to.view_is) c.condense.ensures.same)
 
 pub loop-preserved : goal.loop-preserved
 loop-preserved g c = takes-then g.U.Update.means _ [] _ [] _ c.loop.invariant c.in_ok-flush_more.ensures.same

@@ -2,7 +2,7 @@ use Rattle.std.proofs.Common.{◌≡◌, ap, sym, ◌∙◌, subst, [], ◌∷�
 use Rattle.std.proofs.lemmas.List.{nil_from_length}
 use Rattle.message.specs.Effects.{Takes}
 use Rattle.message.proofs.Composing.{takes-then}
-use Rattle.message.proofs.Lists.{takes-append}
+use Rattle.pending.proofs.Coming.{takes_pushed}
 use Rattle.pending.proofs.pending.Pending.push_condensed.Goals as goal
 
 pub returns-then-len-gt0-clause-takes : goal.returns-then-len-gt0-clause-takes
@@ -10,7 +10,7 @@ returns-then-len-gt0-clause-takes g c =
     let means = g.U.Update.means in
     let all = c.condense.new.sorted ++ c.condense.new.tail_msgs.0 in
     let m = c.args.msg in
-    subst (λ t. Takes means t (m ∷ []) c.push_uncondensed.new.self.0) (ap (λ p. p.0) c.self.view_is) (takes-then means _ [] all _ _ c.condense.ensures.same (subst (λ t. Takes means all (m ∷ []) t) (sym c.push_uncondensed.ensures.messages) (takes-append means all (m ∷ []))))
+    subst (λ t. Takes means t (m ∷ []) c.push_uncondensed.new.self.0) (ap (λ p. p.0) c.self.view_is) (takes-then means _ [] all _ _ c.condense.ensures.same (takes_pushed means m all c.push_uncondensed.new.self.0 c.push_uncondensed.ensures.messages))
 
 pub returns-in-Err-clause-takes : goal.returns-in-Err-clause-takes
 returns-in-Err-clause-takes g c =

@@ -1,11 +1,11 @@
 use Rattle.std.proofs.Common.{sym, subst, [], ◌∷◌}
 use Rattle.message.specs.Effects.{Takes}
-use Rattle.message.proofs.Lists.{takes-append}
 use Rattle.pending.specs.SortedMsgs.{IsFirstEdit}
+use Rattle.pending.proofs.Coming.{takes_pushed}
 use Rattle.pending.proofs.pending.Pending.push_reserved.Goals as goal
 
 pub returns-then-defers-clause-takes : goal.returns-then-defers-clause-takes
-returns-then-defers-clause-takes g c = subst (λ t. Takes g.U.Update.means c.args.self.now.0 (c.args.msg ∷ []) t) (sym c.push_uncondensed.ensures.messages) (takes-append g.U.Update.means c.args.self.now.0 (c.args.msg ∷ []))
+returns-then-defers-clause-takes g c = takes_pushed g.U.Update.means c.args.msg c.args.self.now.0 c.push_uncondensed.new.self.0 c.push_uncondensed.ensures.messages
 
 pub push_first-requires-clause-first : goal.push_first-requires-clause-first
 push_first-requires-clause-first g c = subst (λ t. IsFirstEdit c.args.msg t) (sym c.in-NoKey.ensures.joined.1) c.in-NoKey.ensures.joined.0

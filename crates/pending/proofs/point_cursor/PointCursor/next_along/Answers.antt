@@ -8,8 +8,8 @@ use Rattle.pending.proofs.point_cursor.PointCursor.next_along.Goals as goal
 pub returns-clause-fewer : goal.returns-clause-fewer
 returns-clause-fewer g c = subst (λ o. IfSome c.pass_before.result (λ m. length c.pass_before.new.rest < entries_left o)) (sym c.in-Some.is ∙ ap (λ a. a.1) c.self.view_is) (met_fewer (option_copied c.args.end) c.in-Some.rest c.pass_before.new.rest c.pass_before.result c.pass_before.ensures.some)
 
-pub returns-clause-point_key : goal.returns-clause-point_key
-returns-clause-point_key g c = λ from s.
+pub returns-clause-next : goal.returns-clause-next
+returns-clause-next g c = λ from s.
     let ms = c.args.self.now.0 in
     let stands : AreFrom ms from c.in-Some.rest = subst (λ t. IfSome t (λ rest. AreFrom ms from rest)) (sym (ap (λ a. a.1) c.self.view_is) ∙ c.in-Some.is) s in
     met_some ms from (option_copied c.args.end) c.in-Some.rest c.pass_before.new.rest c.pass_before.result stands c.pass_before.ensures.some c.pass_before.ensures.none

@@ -2,8 +2,9 @@ use Rattle.std.proofs.Common.{ap, sym, ◌∙◌, subst, arith}
 use Rattle.message.specs.Cuts.{IsJoined}
 use Rattle.point_ops.specs.PointOps.{left, point_count}
 use Rattle.point_ops.proofs.Counting.{none_consumed, some_left}
+use Rattle.point_ops.proofs.Parting.{runs_joined}
 use Rattle.pending.specs.SortedMsgs.{sorted_msgs}
-use Rattle.pending.proofs.Cutting.{back_ranges, both_joined, few_both, front_ranges, points_rise, runs_both}
+use Rattle.pending.proofs.Cutting.{back_ranges, both_joined, few_both, front_ranges, points_rise}
 use Rattle.pending.proofs.Meaning.{length-sorted}
 use Rattle.pending.proofs.sorted_msgs.SortedMsgs.merged.Goals as goal
 
@@ -34,7 +35,7 @@ invariant_of-result g c =
     let hs = c.in_ok-all.all in
     let both = both_joined c.args.pivot.now c.self.inside.ranges c.newer.inside.ranges c.in_ok-points.points c.in_ok-later.later c.args.self c.args.newer front back c.requires.before c.requires.from gs hs c.in_ok-ranges.ensures c.in_ok-all.ensures in
     record {
-      some = some_left hs (runs_both c.in_ok-points.points c.in_ok-later.later hs c.in_ok-all.ensures c.in_ok-points.ensures.runs c.in_ok-later.ensures.runs);
+      some = some_left hs (runs_joined hs c.in_ok-points.points c.in_ok-later.later c.in_ok-all.ensures c.in_ok-points.ensures.runs c.in_ok-later.ensures.runs);
       small = omega (arith, both.bound, length-sorted gs hs, ap (λ t. point_count t) (none_consumed hs), c.len.ensures.len, c.len-2.ensures.len, c.if-len-gt-MOST.false);
     }
 

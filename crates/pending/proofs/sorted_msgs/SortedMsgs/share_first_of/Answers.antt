@@ -14,7 +14,7 @@ share_first_of-requires g c =
     let rs = c.self.inside.ranges in
     let old = left c.self.inside.consumed c.self.inside.points in
     let same : es ≡ old = sym (left_whole c.make_whole.new.consumed es c.in-Ok.ensures.whole) ∙ c.make_whole.ensures.same in
-    omega (arith, ap (λ t. point_count t) same, length-sorted rs old, ap length c.self.view_is, c.len.ensures.len, c.min.ensures, c.if-len-min.false)
+    omega (arith, ap (λ t. point_count t) same, length-sorted rs old, ap length c.self.view_is, (c.accepts.ensures c.if-not-accepts.false).1)
 
 pub invariant_of-self-2 : goal.invariant_of-self-2
 invariant_of-self-2 g c =
@@ -27,7 +27,7 @@ invariant_of-self-2 g c =
     let added = c.in_ok-came.ensures.added in
     record {
       some = none_left c.make_whole.new.consumed fs zero c.assert_invariant.ensures.runs;
-      small = omega (arith, added.bound, added.few, ap (λ t. point_count t) same, ap (λ t. point_count t) (left_whole c.make_whole.new.consumed fs zero), length-sorted rs old, ap length c.self.view_is, c.len.ensures.len, c.min.ensures, c.if-len-min.false);
+      small = omega (arith, added.bound, added.few, ap (λ t. point_count t) same, ap (λ t. point_count t) (left_whole c.make_whole.new.consumed fs zero), length-sorted rs old, ap length c.self.view_is, (c.accepts.ensures c.if-not-accepts.false).1);
     }
 
 pub returns-clause-takes : goal.returns-clause-takes
