@@ -629,7 +629,7 @@ impl<U: Update> Pending<U> {
     // ---- queries
 
     /// What the list says of the value at the key. It copies only a value that it determines. If a message of the tail touches
-    /// the key, it determines none.
+    /// the key, it determines none. It needs the base only if a message touches the key.
     pub fn resolve(&self, alloc: Global, key: &Key) -> Result<Resolution<U::Value>, NoMemory>
         ensures resolved { IfOk result (IsResolved U.means self.now.0 key.now) }
         ensures touched { IfOk result (λ r. r ≡ resolution.NeedsBase → any_touches self.now.0 key.now ≡ true) }

@@ -424,7 +424,8 @@ impl<U: Update> SortedMsgs<U> {
         }
     }
 
-    /// What the list says of the value at the key. It copies only a value that it determines.
+    /// What the list says of the value at the key. It copies only a value that it determines. It needs the base only if a message
+    /// touches the key.
     pub(crate) fn resolve(&self, alloc: Global, key: &Key) -> Result<Resolution<U::Value>, NoMemory>
         ensures resolved { IfOk result (IsResolved U.means self.now key.now) }
         ensures touched { IfOk result (λ r. r ≡ resolution.NeedsBase → any_touches self.now key.now ≡ true) }
