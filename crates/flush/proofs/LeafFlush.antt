@@ -40,7 +40,7 @@ use Rattle.node.proofs.Parting.{Parted, parted_pieces, parted_lawful, parted_sin
 use Rattle.node.proofs.Sinking.{touch_only-take, touch_only-drop}
 use Rattle.node.proofs.StepPlaces.{slots_from-get}
 use Rattle.flush.proofs.Flushable.{seen_from}
-use Rattle.node.proofs.Splice.{slots_from-past, slots-split_chunk, slots-set_split, slot_count-take, slots_from-joined, slot_count-joined, pending-joined, lawful-split_chunk}
+use Rattle.node.proofs.Splice.{slots_from-past, slots-split, slots-set_split, slot_count-take, slots_from-joined, slot_count-joined, pending-joined, lawful-split}
 use Rattle.flush.specs.Sunk.{left}
 use Rattle.flush.specs.Leaf.{AddsNone, Absorbed, HasPlace, Filled, AfterOldest, MayGo, KeptOldest, IsHalved}
 
@@ -187,7 +187,7 @@ module _ {U V : Type 0} (means : U → Option V → Option V) where
     did_in_place n ms (leaf es) (leaf fs) one has q st = λ h lp hi l able may.
         let old = more lo ms (leaf es) none in
         let all = joined b (joined old a) in
-        let here : AreLawfulSlots shape old h (next_lo hi a) = (lawful-split_chunk shape h hi old a (lawful-split_chunk shape h hi b (joined old a) l.each).1).0 in
+        let here : AreLawfulSlots shape old h (next_lo hi a) = (lawful-split shape h hi old a (lawful-split shape h hi b (joined old a) l.each).1).0 in
         replies_did means FlushLeaf shape root i n b old (more lo (drop n ms) (leaf fs) none) a at_i refl tt tt refl (λ z. z) (λ r z. omega (arith, z, length-drop n ms)) (λ h hi l able. absorbed shape n lo ms es fs one has q.0 q.1 h (next_lo hi a) l) (λ _ f. roomy all ms (leaf es) h (next_lo hi a) st here (subst (LeafHasNoRoom means shape root all) (slots_from-joined i b (joined old a) at_i) f)) h lp hi l able may
 
     -- what each reply of a flush in place says of the node
@@ -228,7 +228,7 @@ module _ {U V : Type 0} (means : U → Option V → Option V) where
         cut_in_two : Overflows means shape.leaf es (take n ms) → length new ≤ shape.leaf + shape.leaf → (h : ℕ) (e : Option (List ℕ)) → AreLawfulSlots shape old h e → Sinks means n e old two × Formed means FlushLeaf shape n old two × AreLawfulSlots shape two h e
         cut_in_two over few h e l =
             let q = leaf_parted tl tr in
-            let sum : length new ≡ length front + length back = ap length d.batches_by_slot ∙ length-append front back in
+            let sum : length new ≡ length front + length back = ap length d.whole ∙ length-append front back in
             let rise = d.rise lo e (p.rises lo e l.2.2 (touch_only-take n lo e ms l.1)) in (
               parted_sinks means n lo pivot ms lm rm (leaf es) (leaf front) (leaf back) q e,
               record { lo = lo; msgs = ms; entries = es; some = one; has = has; was = refl; leaves = tt; uncut = λ z. absurd (omega arith); cut = λ z. over; pieces_grow = omega (arith, parted_pieces means n lo pivot ms lm rm (leaf es) (leaf front) (leaf back) q) },
@@ -240,7 +240,7 @@ module _ {U V : Type 0} (means : U → Option V → Option V) where
         was_cut u go over room h lp hi l able may =
             let all = joined b (joined old a) in
             let w = pending-joined b (more lo ms (leaf es) a) in
-            let here : AreLawfulSlots shape old h (next_lo hi a) = (lawful-split_chunk shape h hi old a (lawful-split_chunk shape h hi b (joined old a) l.each).1).0 in
+            let here : AreLawfulSlots shape old h (next_lo hi a) = (lawful-split shape h hi old a (lawful-split shape h hi b (joined old a) l.each).1).0 in
             let fits : LeafHasNoRoom means shape root all (slots_from i all) → ⊥ = λ f. roomy_cut all n ms (leaf es) h (next_lo hi a) (omega (arith, w, one, has)) u go room here (subst (LeafHasNoRoom means shape root all) (slots_from-joined i b (joined old a) at_i) f) in
             let count = slot_count-joined b (more lo ms (leaf es) a) in
             let q = leaf_parted tl tr in
@@ -272,7 +272,7 @@ module _ {U V : Type 0} (means : U → Option V → Option V) where
 
     -- the slot between them
     was : seen_slots xs ≡ joined before (more s.lo s.pending.0 s.child.value after)
-    was = slots-split_chunk xs i s h ∙ ap (λ (x : Slot U V). joined before (more x.lo x.pending.0 x.child.value after)) (sym at)
+    was = slots-split xs i s h ∙ ap (λ (x : Slot U V). joined before (more x.lo x.pending.0 x.child.value after)) (sym at)
 
     -- another in its place, which begins where it does
     is : (t : Slot U V) → t.lo ≡ s.lo → seen_slots (set xs i t) ≡ joined before (more s.lo t.pending.0 t.child.value after)
@@ -359,7 +359,7 @@ module _ {U V : Type 0} (means : U → Option V → Option V) (shape : Shape) (r
   small : (g : ℕ) (lo : List ℕ) (hi : Option (List ℕ)) → LawfulSlots shape root g lo hi (seen_slots xs) → length es ≤ shape.leaf
   small g lo hi l =
       let all = subst (λ z. AreLawfulSlots shape z g hi) (was means shape root i xs s h at) l.each in
-      let here = (lawful-split_chunk shape g hi (seen_slots (take i xs)) (more s.lo s.pending.0 s.child.value (seen_slots (drop (suc i) xs))) all).1.2 in
+      let here = (lawful-split shape g hi (seen_slots (take i xs)) (more s.lo s.pending.0 s.child.value (seen_slots (drop (suc i) xs))) all).1.2 in
       let mine = subst (λ c. IsLawfulNode shape c (pred g) s.lo (next_lo hi (seen_slots (drop (suc i) xs)))) (sym ec) here in
       mine.1
 

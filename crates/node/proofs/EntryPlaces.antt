@@ -15,18 +15,6 @@ use Rattle.node.proofs.EntryFacts.{first_reaches}
 use Rattle.node.proofs.HeadSearch.{Climbs, point_at}
 
 module _ {V : Type 0} where
-  -- what a search asks of entries that rise
-  pub entries_partitioned : (lo : List ℕ) (hi : Option (List ℕ)) (k : List ℕ) (es : List (List ℕ × V)) → Rises lo hi es → IsPartitionedBy (λ (e : List ℕ × V). before e.0 k) es
-  entries_partitioned lo hi k [] r i j d a b h = absurd (omega arith)
-  entries_partitioned lo hi k (e ∷ es) r zero zero d a b h = h
-  entries_partitioned lo hi k (e ∷ es) r zero (suc j) d a b h = le_lt e.0 (get_or es j d).0 k (first_reaches lo hi e es j d r (omega arith)) h
-  entries_partitioned lo hi k (e ∷ es) r (suc i) zero d a b h = absurd (omega arith)
-  entries_partitioned lo hi k (e ∷ es) r (suc i) (suc j) d a b h = entries_partitioned e.0 hi k es r.2 i j d (omega arith) (omega arith) h
-
-  -- where a search ends
-  pub is_count : (k : List ℕ) (es : List (List ℕ × V)) (i : ℕ) → i ≤ length es → IsPartitionPoint (λ (e : List ℕ × V). before e.0 k ≡ true) (λ (e : List ℕ × V). before e.0 k ≡ false) es i → IsCount es (Some k) i
-  is_count k es i b p = record { bound = b; earlier = λ j d h. p.0 j d (omega arith) h; others = λ j d h l. p.1 j d h l }
-
   -- each entry stands at or behind the earlier ones
   pub entries_climb : (lo : List ℕ) (hi : Option (List ℕ)) (es : List (List ℕ × V)) → Rises lo hi es → Climbs (λ (e : List ℕ × V). e.0) es
   entries_climb lo hi [] r i j d a b = absurd (omega arith)
@@ -34,6 +22,14 @@ module _ {V : Type 0} where
   entries_climb lo hi (e ∷ es) r zero (suc j) d a b = first_reaches lo hi e es j d r (omega arith)
   entries_climb lo hi (e ∷ es) r (suc i) zero d a b = absurd (omega arith)
   entries_climb lo hi (e ∷ es) r (suc i) (suc j) d a b = entries_climb e.0 hi es r.2 i j d (omega arith) (omega arith)
+
+  -- what a search asks of entries that rise
+  pub entries_partitioned : (lo : List ℕ) (hi : Option (List ℕ)) (k : List ℕ) (es : List (List ℕ × V)) → Rises lo hi es → IsPartitionedBy (λ (e : List ℕ × V). before e.0 k) es
+  entries_partitioned lo hi k es r i j d a b h = le_lt (get_or es i d).0 (get_or es j d).0 k (entries_climb lo hi es r i j d a b) h
+
+  -- where a search ends
+  pub is_count : (k : List ℕ) (es : List (List ℕ × V)) (i : ℕ) → i ≤ length es → IsPartitionPoint (λ (e : List ℕ × V). before e.0 k ≡ true) (λ (e : List ℕ × V). before e.0 k ≡ false) es i → IsCount es (Some k) i
+  is_count k es i b p = record { bound = b; earlier = λ j d h. p.0 j d (omega arith) h; others = λ j d h l. p.1 j d h l }
 
   -- entries before a key, up to one that is not
   pub is_count_at : (k : List ℕ) (es : List (List ℕ × V)) (i : ℕ) → AreBefore (λ (e : List ℕ × V). e.0) es k i → Rises [] None es → ((d : List ℕ × V) → i < length es → before (get_or es i d).0 k ≡ false) → IsCount es (Some k) i

@@ -18,7 +18,7 @@ use Rattle.node.specs.Sinks.{Sinks}
 use Rattle.node.proofs.Roots.{tree_of}
 use Rattle.node.proofs.Sinking.{touch_only-drop}
 use Rattle.node.proofs.Wholes.{kept-none}
-use Rattle.node.proofs.Splice.{slots-split_chunk, slots-set_split, slot_count-take, slot_count-joined, starts_at-joined, lawful-spliced, value-spliced, starts-first}
+use Rattle.node.proofs.Splice.{slots-split, slots-set_split, slot_count-take, slot_count-joined, starts_at-joined, lawful-spliced, value-spliced, starts-first}
 
 module _ {U V : Type 0} where
   -- what holds at a slot is of a slot
@@ -65,7 +65,7 @@ module _ {U V : Type 0} where
         old = more s.lo s.pending.0 s.child.value none;
         new = more t.lo t.pending.0 t.child.value none;
         after = seen_slots (drop (suc i) xs);
-        was = slots-split_chunk xs i d h;
+        was = slots-split xs i d h;
         is = slots-set_split xs i t h;
         number = slot_count-take xs i (omega arith);
         width = refl;

@@ -8,22 +8,14 @@ use Rattle.node.specs.Lawful.{Rises}
 use Rattle.node.specs.Meaning.{lookup}
 use Rattle.node.specs.Leaves.{IsDivided}
 use Rattle.node.proofs.EntryFacts.{first_below, first_reaches, rises-before, rises-others, lookup-front, lookup-back}
-use Rattle.node.proofs.EntryPlaces.{after_entry}
+use Rattle.node.proofs.EntryPlaces.{after_entry, entries_climb}
 
 module _ {V : Type 0} where
   -- each entry stands below the end
-  all_below : (lo : List ℕ) (hi : Option (List ℕ)) (es : List (List ℕ × V)) (j : ℕ) (d : List ℕ × V) → Rises lo hi es → j < length es → is_below (get_or es j d).0 hi ≡ true
+  pub all_below : (lo : List ℕ) (hi : Option (List ℕ)) (es : List (List ℕ × V)) (j : ℕ) (d : List ℕ × V) → Rises lo hi es → j < length es → is_below (get_or es j d).0 hi ≡ true
   all_below lo hi [] j d r b = absurd (omega arith)
   all_below lo hi (x ∷ es) zero d r b = first_below lo hi x es r
   all_below lo hi (x ∷ es) (suc j) d r b = all_below x.0 hi es j d r.2 (omega arith)
-
-  -- an entry stands at or before itself and each later one
-  reaches_at : (lo : List ℕ) (hi : Option (List ℕ)) (es : List (List ℕ × V)) (i j : ℕ) (d : List ℕ × V) → Rises lo hi es → i ≤ j → j < length es → reaches (get_or es i d).0 (get_or es j d).0 ≡ true
-  reaches_at lo hi [] i j d r h b = absurd (omega arith)
-  reaches_at lo hi (x ∷ es) zero zero d r h b = reaches-refl x.0
-  reaches_at lo hi (x ∷ es) zero (suc j) d r h b = first_reaches lo hi x es j d r (omega arith)
-  reaches_at lo hi (x ∷ es) (suc i) zero d r h b = absurd (omega arith)
-  reaches_at lo hi (x ∷ es) (suc i) (suc j) d r h b = reaches_at x.0 hi es i j d r.2 (omega arith) (omega arith)
 
   -- the first entry stands at or after the beginning
   from_lo : (lo : List ℕ) (hi : Option (List ℕ)) (es : List (List ℕ × V)) (d : List ℕ × V) → Rises lo hi es → 0 < length es → reaches lo (get_or es 0 d).0 ≡ true
@@ -42,11 +34,11 @@ module _ {V : Type 0} where
       let inside : m < length es = omega arith in
       let is : (d : List ℕ × V) → get_or es m d ≡ e = λ d. get_or_default es m d e inside ∙ sym at in
       let earlier : (j : ℕ) (d : List ℕ × V) → j < m → before (get_or es j d).0 e.0 ≡ true = λ j d h. subst (λ (x : List ℕ × V). before (get_or es j d).0 x.0 ≡ true) (is e) (rising_at [] None es j m d e r h inside) in
-      let later : (j : ℕ) (d : List ℕ × V) → m ≤ j → j < length es → reaches e.0 (get_or es j d).0 ≡ true = λ j d h b. subst (λ (x : List ℕ × V). reaches x.0 (get_or es j d).0 ≡ true) (is d) (reaches_at [] None es m j d r h b) in
+      let later : (j : ℕ) (d : List ℕ × V) → m ≤ j → j < length es → reaches e.0 (get_or es j d).0 ≡ true = λ j d h b. subst (λ (x : List ℕ × V). reaches x.0 (get_or es j d).0 ≡ true) (is d) (entries_climb [] None es r m j d h b) in
       let others : (j : ℕ) (d : List ℕ × V) → m ≤ j → j < length es → before (get_or es j d).0 e.0 ≡ false = λ j d h b. not_before_from_reaches e.0 (get_or es j d).0 (later j d h b) in
       let whole : take m es ++ drop m es ≡ es = take-append-drop m es in
       record {
-        batches_by_slot = sym whole;
+        whole = sym whole;
         front_some = omega (arith, length-take m es);
         back_some = omega (arith, length-drop m es);
         halves = (omega (arith, length-take m es, length-drop m es), omega (arith, length-take m es, length-drop m es));

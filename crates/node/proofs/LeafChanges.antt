@@ -81,8 +81,8 @@ module _ {V : Type 0} (k : List ℕ) (es : List (List ℕ × V)) (i : ℕ) where
   pub is_replaced : (x : List ℕ × V) (v : V) → IsEntry es k i → Rises [] None es → x ≡ get_or es i x → IsChanged (same k) (Some v) es (set es i (x.0, v))
   is_replaced x v g r at =
       let key : x.0 ≡ k = ap (λ (y : List ℕ × V). y.0) at ∙ g.key x in
-      let batches_by_slot : set es i (x.0, v) ≡ take i es ++ (k, v) ∷ drop (suc i) es = set_split es i (x.0, v) g.bound ∙ ap (λ (q : List ℕ). take i es ++ (q, v) ∷ drop (suc i) es) key in
-      subst (λ (new : List (List ℕ × V)). IsChanged (same k) (Some v) es new) (sym batches_by_slot) (is_put k es i (suc i) (around_entry k es i g r) v)
+      let parts : set es i (x.0, v) ≡ take i es ++ (k, v) ∷ drop (suc i) es = set_split es i (x.0, v) g.bound ∙ ap (λ (q : List ℕ). take i es ++ (q, v) ∷ drop (suc i) es) key in
+      subst (λ (new : List (List ℕ × V)). IsChanged (same k) (Some v) es new) (sym parts) (is_put k es i (suc i) (around_entry k es i g r) v)
 
   -- or goes
   pub is_removed : IsEntry es k i → Rises [] None es → IsChanged (same k) None es (remove es i)

@@ -34,7 +34,7 @@ or_empty None = []
 or_empty (Some q) = q
 
 -- the next slot begins above a key above which this one begins
-next_above : (c : Bool) (lo lp q : List ℕ) → reaches lp q ≡ c → before lo lp ≡ true → reaches lo q ≡ false → c ≡ false
+pub next_above : (c : Bool) (lo lp q : List ℕ) → reaches lp q ≡ c → before lo lp ≡ true → reaches lo q ≡ false → c ≡ false
 next_above false lo lp q e h f = refl
 next_above true lo lp q e h f = sym (le_le lo lp q (reaches-from_before lo lp h) e) ∙ f
 
@@ -101,9 +101,15 @@ module _ {U V : Type 0} where
   not_taken hi m q lo none p e f = (cc)
   not_taken hi m q lo (more lp o k ss) p e f = out lo (Some lp) m q p e (and_right (reaches lo q) (before q lp) (not_before_from_reaches lp q f))
 
-  reached_before : (lo q : List ℕ) (ss : PSlots U V) → is_below lo (next_lo None ss) ≡ true → begins_by ss q ≡ true → reaches lo q ≡ true
+  -- a slot before one that begins at or before a key does too
+  pub reached_before : (lo q : List ℕ) (ss : PSlots U V) → is_below lo (next_lo None ss) ≡ true → begins_by ss q ≡ true → reaches lo q ≡ true
   reached_before lo q none b h = (cc)
   reached_before lo q (more lp o k ss) b h = le_le lo lp q (reaches-from_before lo lp b) h
+
+  -- slots that begin at or before a key begin at or before a later one
+  pub begins_later : (ss : PSlots U V) (k l : List ℕ) → reaches k l ≡ true → begins_by ss k ≡ true → begins_by ss l ≡ true
+  begins_later none k l b h = h
+  begins_later (more lo ms n ss) k l b h = le_le lo k l h b
 
   -- so one of the slots takes it, if the first begins at or before its key
   pub one_piece : (m : Msg U V) (q : List ℕ) (ss : PSlots U V) → point_key m ≡ Some q → AreRising ss → piece_count (m ∷ []) ss ≡ cond (begins_by ss q) 1 0

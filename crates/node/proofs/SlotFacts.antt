@@ -54,14 +54,6 @@ module _ {U V : Type 0} where
   first_reaches x (y ∷ ys) zero d r h = reaches-from_before x.lo y.lo r.0
   first_reaches x (y ∷ ys) (suc j) d r h = le_le x.lo y.lo (get_or ys j d).lo (reaches-from_before x.lo y.lo r.0) (first_reaches y ys j d r.1 (omega arith))
 
-  -- what a binary search asks of rising pivots
-  pub partitioned-rising : (k : List ℕ) (xs : List (Slot U V)) → AreRising (seen_slots xs) → IsPartitionedBy (λ (s : Slot U V). reaches s.lo k) xs
-  partitioned-rising k [] r i j d a b e = absurd (omega arith)
-  partitioned-rising k (x ∷ xs) r zero zero d a b e = e
-  partitioned-rising k (x ∷ xs) r zero (suc j) d a b e = le_le x.lo (get_or xs j d).lo k (first_reaches x xs j d r (omega arith)) e
-  partitioned-rising k (x ∷ xs) r (suc i) zero d a b e = absurd (omega arith)
-  partitioned-rising k (x ∷ xs) r (suc i) (suc j) d a b e = partitioned-rising k xs r.1 i j d (omega arith) (omega arith) e
-
   -- each slot begins at or above the earlier ones
   pub slots_climb : (xs : List (Slot U V)) → AreRising (seen_slots xs) → Climbs (λ (s : Slot U V). s.lo) xs
   slots_climb [] r i j d a b = absurd (omega arith)
@@ -69,6 +61,10 @@ module _ {U V : Type 0} where
   slots_climb (x ∷ xs) r zero (suc j) d a b = first_reaches x xs j d r (omega arith)
   slots_climb (x ∷ xs) r (suc i) zero d a b = absurd (omega arith)
   slots_climb (x ∷ xs) r (suc i) (suc j) d a b = slots_climb xs r.1 i j d (omega arith) (omega arith)
+
+  -- what a search asks of rising pivots
+  pub partitioned-rising : (k : List ℕ) (xs : List (Slot U V)) → AreRising (seen_slots xs) → IsPartitionedBy (λ (s : Slot U V). reaches s.lo k) xs
+  partitioned-rising k xs r i j d a b e = le_le (get_or xs i d).lo (get_or xs j d).lo k (slots_climb xs r i j d a b) e
 
   -- slots that begin before a key begin at or before it
   pub begun : (k : List ℕ) (xs : List (Slot U V)) (n : ℕ) → AreBefore (λ (s : Slot U V). s.lo) xs k n → AllWithin (λ (s : Slot U V). reaches s.lo k ≡ true) xs 0 n

@@ -66,10 +66,10 @@ module _ {U V : Type 0} where
   slots_from-joined (suc i) (more lo ms n ss) y e = slots_from-joined i ss y (omega arith)
 
   -- the slots before a number, the one with it, and those behind
-  pub slots-split_chunk : (xs : List (Slot U V)) (i : ℕ) (d : Slot U V) → i < length xs → seen_slots xs ≡ joined (seen_slots (take i xs)) (more (get_or xs i d).lo (get_or xs i d).pending.0 (get_or xs i d).child.value (seen_slots (drop (suc i) xs)))
-  slots-split_chunk [] i d h = absurd (omega arith)
-  slots-split_chunk (x ∷ xs) zero d h = refl
-  slots-split_chunk (x ∷ xs) (suc i) d h = ap (more x.lo x.pending.0 x.child.value) (slots-split_chunk xs i d (omega arith))
+  pub slots-split : (xs : List (Slot U V)) (i : ℕ) (d : Slot U V) → i < length xs → seen_slots xs ≡ joined (seen_slots (take i xs)) (more (get_or xs i d).lo (get_or xs i d).pending.0 (get_or xs i d).child.value (seen_slots (drop (suc i) xs)))
+  slots-split [] i d h = absurd (omega arith)
+  slots-split (x ∷ xs) zero d h = refl
+  slots-split (x ∷ xs) (suc i) d h = ap (more x.lo x.pending.0 x.child.value) (slots-split xs i d (omega arith))
 
   -- the same where another was put there
   pub slots-set_split : (xs : List (Slot U V)) (i : ℕ) (s : Slot U V) → i < length xs → seen_slots (set xs i s) ≡ joined (seen_slots (take i xs)) (more s.lo s.pending.0 s.child.value (seen_slots (drop (suc i) xs)))
@@ -102,11 +102,11 @@ module _ {U V : Type 0} where
 
   module _ (S : Shape) (h : ℕ) where
     -- lawful slots are lawful before and behind any place
-    pub lawful-split_chunk : (hi : Option (List ℕ)) (x y : PSlots U V) → AreLawfulSlots S (joined x y) h hi → AreLawfulSlots S x h (next_lo hi y) × AreLawfulSlots S y h hi
-    lawful-split_chunk hi none y l = (tt, l)
-    lawful-split_chunk hi (more lo ms n ss) y l =
+    pub lawful-split : (hi : Option (List ℕ)) (x y : PSlots U V) → AreLawfulSlots S (joined x y) h hi → AreLawfulSlots S x h (next_lo hi y) × AreLawfulSlots S y h hi
+    lawful-split hi none y l = (tt, l)
+    lawful-split hi (more lo ms n ss) y l =
         let e = next_lo-joined hi ss y in
-        let r = lawful-split_chunk hi ss y l.3 in
+        let r = lawful-split hi ss y l.3 in
         ((subst (λ z. is_below lo z ≡ true) e l.0, subst (λ z. TouchOnly lo z ms) e l.1, subst (λ z. IsLawfulNode S n (pred h) lo z) e l.2, r.0), r.1)
 
     -- and the other way round
@@ -125,8 +125,8 @@ module _ {U V : Type 0} where
     -- lawful slots in the place of lawful ones that begin alike
     pub lawful-spliced : (hi : Option (List ℕ)) (b x y a : PSlots U V) → IsMore x → IsMore y → first_lo y ≡ first_lo x → (AreLawfulSlots S x h (next_lo hi a) → AreLawfulSlots S y h (next_lo hi a)) → AreLawfulSlots S (joined b (joined x a)) h hi → AreLawfulSlots S (joined b (joined y a)) h hi
     lawful-spliced hi b x y a p q s f l =
-        let r = lawful-split_chunk hi b (joined x a) l in
-        let t = lawful-split_chunk hi x a r.1 in
+        let r = lawful-split hi b (joined x a) l in
+        let t = lawful-split hi x a r.1 in
         let e = next_lo-joined hi x a ∙ sym (same_end (next_lo hi a) x y p q s) ∙ sym (next_lo-joined hi y a) in
         lawful-join hi b (joined y a) (subst (λ z. AreLawfulSlots S b h z) e r.0) (lawful-join hi y a (f t.0) t.1)
 
@@ -167,13 +167,7 @@ module _ {U V : Type 0} where
     value-sinks n e x y s k w =
         slots_value_parts y k ∙ ap (effects means (msgs_at y k) k) (s.below k w) ∙ s.above k _ w ∙ effects-take_drop n (msgs_at x k) k (child_value means x k) ∙ sym (slots_value_parts x k)
 
-    -- slots that begin alike begin by the same keys
-    begins_by-first : (x y : PSlots U V) (k : List ℕ) → IsMore x → IsMore y → first_lo y ≡ first_lo x → begins_by y k ≡ begins_by x k
-    begins_by-first none y k p q s = absurd p
-    begins_by-first (more lo ms n ss) none k p q s = absurd q
-    begins_by-first (more lo ms n ss) (more lp mt o rs) k p q s = ap (λ l. reaches l k) s
-
-    -- also behind others
+    -- slots that begin by the same keys do so behind others too
     begins_by-joined : (b x y : PSlots U V) (k : List ℕ) → begins_by y k ≡ begins_by x k → begins_by (joined b y) k ≡ begins_by (joined b x) k
     begins_by-joined none x y k e = e
     begins_by-joined (more lo ms n b) x y k e = refl

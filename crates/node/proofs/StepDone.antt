@@ -12,7 +12,7 @@ use Rattle.node.specs.Lawful.{AreLawfulSlots, slot_count, pending, starts_at, ne
 use Rattle.node.specs.Site.{joined, slots_from}
 use Rattle.node.specs.Sinks.{first_lo, Sinks}
 use Rattle.node.specs.Steps.{applies, Formed, HasNoRoom, MayHaveRoom, Replies, width}
-use Rattle.node.proofs.Splice.{IsMore, slot_count-joined, pending-joined, lawful-spliced, lawful-split_chunk}
+use Rattle.node.proofs.Splice.{IsMore, slot_count-joined, pending-joined, lawful-spliced, lawful-split}
 
 module _ {U V : Type 0} where
   -- slots that begin alike start alike, also behind others
@@ -25,7 +25,7 @@ module _ {U V : Type 0} where
   -- the slots `old`, which a step names, gave way to `new` between b and a
   pub replies_did : (means : U → Option V → Option V) (kind : StepKind) (shape : Shape) (root : Bool) (i n : ℕ) (b old new a : PSlots U V) → slot_count b ≡ i → slot_count old ≡ width kind → IsMore old → IsMore new → first_lo new ≡ first_lo old → (slot_count old + (slot_count b + slot_count a) ≤ shape.fanout → slot_count new + (slot_count b + slot_count a) ≤ shape.fanout) → (root ≡ false → pending old + (pending b + pending a) ≤ shape.pending → pending new + (pending b + pending a) ≤ shape.pending) → ((h : ℕ) (hi : Option (List ℕ)) → AreLawfulSlots shape old h (next_lo hi a) → applies kind hi (slots_from i (joined b (joined old a))) ≡ true → Sinks means n (next_lo hi a) old new × Formed means kind shape n old new × AreLawfulSlots shape new h (next_lo hi a)) → (MayHaveRoom means kind shape root i (joined b (joined old a)) → HasNoRoom means kind shape root i (joined b (joined old a)) → ⊥) → Replies means kind shape root i (Did n) (joined b (joined old a)) (joined b (joined new a))
   replies_did means kind shape root i n b old new a at_i wide p q first few light made fits h lo hi l able room =
-      let inside : AreLawfulSlots shape old h (next_lo hi a) = (lawful-split_chunk shape h hi old a (lawful-split_chunk shape h hi b (joined old a) l.each).1).0 in
+      let inside : AreLawfulSlots shape old h (next_lo hi a) = (lawful-split shape h hi old a (lawful-split shape h hi b (joined old a) l.each).1).0 in
       let m = made h hi inside able in
       let count : slot_count old + (slot_count b + slot_count a) ≤ shape.fanout = omega (arith, l.few, slot_count-joined b (joined old a), slot_count-joined old a) in
       let wait : root ≡ false → pending old + (pending b + pending a) ≤ shape.pending = λ r. omega (arith, l.light r, pending-joined b (joined old a), pending-joined old a) in (

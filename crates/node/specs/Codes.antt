@@ -15,11 +15,11 @@ abbrev Parts : Type 0 → Type 0 → Type 0
 Parts U V = (List ℕ × V) ⊎ (List ℕ ⊎ ((List ℕ × Option (List ℕ)) ⊎ (List ℕ × U)))
 
 module _ {U V : Type 0} where
-  abbrev batches_by_slot : Msg U V → Parts U V
-  batches_by_slot (Put k v) = inl (k, v)
-  batches_by_slot (Del k) = inr (inl k)
-  batches_by_slot (DelRange r) = inr (inr (inl (r.lo, r.hi)))
-  batches_by_slot (Edit k u) = inr (inr (inr (k, u)))
+  abbrev parts : Msg U V → Parts U V
+  parts (Put k v) = inl (k, v)
+  parts (Del k) = inr (inl k)
+  parts (DelRange r) = inr (inr (inl (r.lo, r.hi)))
+  parts (Edit k u) = inr (inr (inr (k, u)))
 
   abbrev whole : Parts U V → Msg U V
   whole (inl p) = Put p.0 p.1
@@ -27,14 +27,14 @@ module _ {U V : Type 0} where
   whole (inr (inr (inl p))) = DelRange (record { lo = p.0; hi = p.1 })
   whole (inr (inr (inr p))) = Edit p.0 p.1
 
-  pub whole-batches_by_slot : (m : Msg U V) → whole (batches_by_slot m) ≡ m
-  whole-batches_by_slot (Put k v) = refl
-  whole-batches_by_slot (Del k) = refl
-  whole-batches_by_slot (DelRange r) = refl
-  whole-batches_by_slot (Edit k u) = refl
+  pub whole-parts : (m : Msg U V) → whole (parts m) ≡ m
+  whole-parts (Put k v) = refl
+  whole-parts (Del k) = refl
+  whole-parts (DelRange r) = refl
+  whole-parts (Edit k u) = refl
 
   abbrev pub coded_msg : Coded U → Coded V → Coded (Msg U V)
-  coded_msg u v = code_by (Parts U V) (coded⊎ (coded× coded_key v) (coded⊎ coded_key (coded⊎ (coded× coded_key (coded_option coded_key)) (coded× coded_key u)))) batches_by_slot whole whole-batches_by_slot
+  coded_msg u v = code_by (Parts U V) (coded⊎ (coded× coded_key v) (coded⊎ coded_key (coded⊎ (coded× coded_key (coded_option coded_key)) (coded× coded_key u)))) parts whole whole-parts
 
 abbrev tag : Gv → ℕ
 tag gnil = 0

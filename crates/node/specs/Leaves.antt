@@ -39,7 +39,7 @@ module _ {V : Type 0} where
 
   -- two parts of entries that rise, both with entries, of which the second begins at the pivot
   pub record IsDivided (old front back : List (List ℕ × V)) (pivot : List ℕ) : Type 0 where
-    pub batches_by_slot : old ≡ front ++ back
+    pub whole : old ≡ front ++ back
     pub front_some : 0 < length front
     pub back_some : 0 < length back
     pub halves : (length front ≤ length back) × (length back ≤ length front + 1)

@@ -28,7 +28,7 @@ use Rattle.node.specs.Steps.{Formed, Replies}
 use Rattle.node.proofs.StepDone.{replies_did}
 use Rattle.node.proofs.Sinking.{touch_only-drop}
 use Rattle.node.proofs.Sizes.{lawful_depth}
-use Rattle.node.proofs.Splice.{slots-split_chunk, slots-set_split, slot_count-take, slots_from-joined}
+use Rattle.node.proofs.Splice.{slots-split, slots-set_split, slot_count-take, slots_from-joined}
 use Rattle.split_merge.specs.Swept.{bare, Swept}
 
 -- ---- the range
@@ -116,7 +116,7 @@ module _ {U V : Type 0} where
   dropped means shape root i xs s t r h e el q =
       let b = seen_slots (take i xs) in
       let a = seen_slots (drop (suc i) xs) in
-      let was : seen_slots xs ≡ joined b (more s.lo s.pending.0 s.child.value a) = slots-split_chunk xs i s h ∙ ap (λ (x : Slot U V). joined b (more x.lo x.pending.0 x.child.value a)) (sym e) in
+      let was : seen_slots xs ≡ joined b (more s.lo s.pending.0 s.child.value a) = slots-split xs i s h ∙ ap (λ (x : Slot U V). joined b (more x.lo x.pending.0 x.child.value a)) (sym e) in
       let is : seen_slots (set xs i t) ≡ joined b (more s.lo t.pending.0 t.child.value a) = slots-set_split xs i t h ∙ ap (λ z. joined b (more z t.pending.0 t.child.value a)) el in
       let core = replies means shape root i b a s.lo (slot_count-take xs i (omega arith)) r s.pending.0 t.pending.0 s.child.value t.child.value q in
       subst (λ z. Replies means DropCovered shape root i r z (seen_slots (set xs i t))) (sym was) (subst (λ z. Replies means DropCovered shape root i r (joined b (more s.lo s.pending.0 s.child.value a)) z) (sym is) core)

@@ -22,7 +22,7 @@ use Rattle.node.specs.Sinks.{first_lo, Sinks}
 use Rattle.node.specs.Steps.{Formed, Replies}
 use Rattle.node.proofs.StepDone.{replies_did, slots-cut}
 use Rattle.node.proofs.Parting.{Parted, pieces-apart, parted_pieces, parted_lawful, parted_sinks}
-use Rattle.node.proofs.Splice.{IsMore, slots-split_chunk, slot_count-take, slots_from-joined, slot_count-joined, pending-joined, lawful-split_chunk, slots_value-joined, counted-more}
+use Rattle.node.proofs.Splice.{IsMore, slots-split, slot_count-take, slots_from-joined, slot_count-joined, pending-joined, lawful-split, slots_value-joined, counted-more}
 use Rattle.node.specs.Cutting.{IsCutAt}
 use Rattle.split_merge.specs.declared.split.SplitNode.{SplitNode}
 use Rattle.split_merge.specs.SplitNode.{AreHalves}
@@ -101,7 +101,7 @@ module _ {U V : Type 0} where
     was_split cx cy h e l =
         let c = l.2 in
         let p = parted (pred h) e c.4 in
-        let s = lawful-split_chunk shape (pred h) e x y c.4 in
+        let s = lawful-split shape (pred h) e x y c.4 in
         let n = slot_count-joined x y in
         let w = pending-joined x y in
         let xs : AreLawfulSlots shape x (pred h) (Some pivot) = subst (λ z. AreLawfulSlots shape x (pred h) z) (next_lo-more e y py) s.0 in (
@@ -137,7 +137,7 @@ module _ {U V : Type 0} where
       let b = seen_slots (take i xs) in
       let a = seen_slots (drop (suc i) xs) in
       let new = seen_slots (insert (set xs i l) (suc i) r) in
-      let was : seen_slots xs ≡ joined b (more s.lo s.pending.0 (inner (joined p.left p.right)) a) = slots-split_chunk xs i s h ∙ ap (λ (x : Slot U V). joined b (more x.lo x.pending.0 x.child.value a)) (sym e) ∙ ap (λ z. joined b (more s.lo s.pending.0 z a)) p.was in
+      let was : seen_slots xs ≡ joined b (more s.lo s.pending.0 (inner (joined p.left p.right)) a) = slots-split xs i s h ∙ ap (λ (x : Slot U V). joined b (more x.lo x.pending.0 x.child.value a)) (sym e) ∙ ap (λ z. joined b (more s.lo s.pending.0 z a)) p.was in
       let is : new ≡ joined b (more s.lo l.pending.0 (inner p.left) (more (first_lo p.right) r.pending.0 (inner p.right) a)) = slots-cut xs i l r h ∙ (λ j. joined b (more (c.left_lo j) l.pending.0 ((c.left_is ∙ p.left_is) j) (more ((c.right_lo ∙ p.pivot_is) j) r.pending.0 ((c.right_is ∙ p.right_is) j) a))) in
       let left_msgs = subst (λ z. Takes means [] (pieces s.lo (Some z) s.pending.0) l.pending.0) p.pivot_is c.left_msgs in
       let right_msgs = subst (λ z. Takes means [] (pieces z None s.pending.0) r.pending.0) p.pivot_is c.right_msgs in

@@ -7,9 +7,11 @@ ghost use Rattle.message.specs.Effects.{Takes};
 ghost use Rattle.node.specs.Appended.{batches_by_slot as parts_of, HaveTaken, IsAppended};
 ghost use Rattle.node.specs.Batches.{batch_parts, HasRoomFor, HaveHomes};
 ghost use Rattle.node.specs.Grafts.{IsFirstKept, KeepLists, KeepsLists};
+ghost use Rattle.node.specs.Lawful.{pending as pending_of};
 ghost use Rattle.node.specs.Pure.{inner};
 ghost use Rattle.node.specs.Searchable.{IsRoot, HasRoom, see_list};
 ghost use Rattle.node.specs.See.{see_slot, seen_slots};
+ghost use Rattle.node.specs.StepRows.{piece_count};
 
 use super::batch::{Batch, copy_batches, prepare, reserve_each};
 use super::search::target_slot;
@@ -161,6 +163,7 @@ pub fn append_copies<U: Update>(
     msgs: &[Msg<U>],
 ) -> Result<(), NoMemory>
     ensures ok { OnOk result (HaveTaken U.means (seen_slots slots.old) (parts_of None msgs.now (seen_slots slots.old)) (seen_slots slots.new)) }
+    ensures pieces { OnOk result (pending_of (seen_slots slots.new) ≤ pending_of (seen_slots slots.old) + piece_count msgs.now (seen_slots slots.old)) }
     ensures err { OnErr result (map see_slot slots.new ≡ map see_slot slots.old) }
 {
     let mut batches_by_slot = copy_batches(alloc, slots, msgs)?;

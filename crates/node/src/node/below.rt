@@ -1,11 +1,14 @@
 //! A step in a subtree that is not part of a tree, as a job builds it.
 //!
 //! Invariant: the subtree stays lawful for its range, and means what it meant at each key of the range.
-ghost use Rattle.std.specs.Prelude.{◌≡◌, IsTrue, ℕ, List};
+ghost use Rattle.std.specs.Prelude.{◌≡◌, IsTrue, ℕ, List, false};
 ghost use Rattle.std.specs.Option.{option_copied};
 ghost use Rattle.node.specs.Lawful.{IsLawfulNode};
+ghost use Rattle.node.specs.Places.{way};
 ghost use Rattle.node.specs.Shapes.{is_shape};
+ghost use Rattle.node.specs.Steps.{UnlessDid, there};
 ghost use Rattle.node.specs.Subtrees.{StaysSubtree};
+ghost use Rattle.node.specs.declared.step.StepReply.TheVariants.{NotThere};
 
 use super::Node;
 use super::change::SlotStep;
@@ -34,7 +37,9 @@ pub fn step_subtree<U: Update, C: SlotStep<U>>(
 ) -> StepReply
     requires shape { IsTrue (is_shape shape) }
     requires lawful { (h : ℕ) × (lo : List ℕ) × IsLawfulNode shape top.old.value h lo (option_copied hi) }
-    ensures { StaysSubtree U.means shape (option_copied hi.entry) top.old.value top.new.value }
+    ensures stays { StaysSubtree U.means shape (option_copied hi.entry) top.old.value top.new.value }
+    ensures unchanged { UnlessDid result (top.new.value ≡ top.old.value) }
+    ensures not_there { result ≡ NotThere → there C.kind slot (way at) (option_copied hi.entry) top.old.value ≡ false }
 {
     step_below(alloc, change, shape, top, hi, at.numbers(), slot as usize)
 }
@@ -51,7 +56,9 @@ fn step_below<U: Update, C: SlotStep<U>>(
 ) -> StepReply
     requires shape { IsTrue (is_shape shape) }
     requires lawful { (h : ℕ) × (lo : List ℕ) × IsLawfulNode shape top.old.value h lo (option_copied hi) }
-    ensures { StaysSubtree U.means shape (option_copied hi.entry) top.old.value top.new.value }
+    ensures stays { StaysSubtree U.means shape (option_copied hi.entry) top.old.value top.new.value }
+    ensures unchanged { UnlessDid result (top.new.value ≡ top.old.value) }
+    ensures not_there { result ≡ NotThere → there C.kind slot numbers.now (option_copied hi.entry) top.old.value ≡ false }
 {
     if let Some(reply) = precheck(change, shape, false, top, numbers, slot, hi) {
         return reply;

@@ -36,7 +36,7 @@ pub fn position<V>(entries: &[(Key, V)], key: &Key) -> Result<usize, usize>
     ensures { IsPlace entries.now key.now result }
 {
     if has_head(entries.first(), key) {
-        return position_behind(entries, 0, key);
+        return position_by_keys(entries, 0, key);
     }
     position_from(entries, count_by_heads(entries, key), key)
 }
@@ -76,18 +76,18 @@ fn position_from<V>(entries: &[(Key, V)], low: usize, key: &Key) -> Result<usize
     match entry.0.cmp(key) {
         Ordering::Equal => Ok(low),
         Ordering::Greater => Err(low),
-        Ordering::Less => position_behind(entries, low + 1, key),
+        Ordering::Less => position_by_keys(entries, low + 1, key),
     }
 }
 
 /// The position of the key by whole keys, where the first `low` entries are before it.
 #[inline(never)]
-fn position_behind<V>(entries: &[(Key, V)], low: usize, key: &Key) -> Result<usize, usize>
+fn position_by_keys<V>(entries: &[(Key, V)], low: usize, key: &Key) -> Result<usize, usize>
     requires rising { Rises [] None entries.now }
     requires low { AreBefore (λ e. e.0) entries.now key.now low }
     ensures { IsPlace entries.now key.now result }
 {
-    let i = count_behind(entries, low, key);
+    let i = count_by_keys(entries, low, key);
     match entries.get(i) {
         Some(entry) if entry.0 == *key => Ok(i),
         _ => Err(i),
@@ -96,7 +96,7 @@ fn position_behind<V>(entries: &[(Key, V)], low: usize, key: &Key) -> Result<usi
 
 /// How many entries are before the key, by whole keys, where the first `low` are.
 #[inline(always)]
-fn count_behind<V>(entries: &[(Key, V)], low: usize, key: &Key) -> usize
+fn count_by_keys<V>(entries: &[(Key, V)], low: usize, key: &Key) -> usize
     requires rising { Rises [] None entries.now }
     requires low { AreBefore (λ e. e.0) entries.now key.now low }
     ensures { IsCount entries.now (Some key.now) result }

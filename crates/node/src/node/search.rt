@@ -44,7 +44,7 @@ fn count_to<U: Update>(slots: &[Slot<U>], key: &Key) -> usize
     ensures point { IsPartitionPoint (λ s. reaches s.lo key.now ≡ true) (λ s. reaches s.lo key.now ≡ false) slots.now result }
 {
     if has_head(slots.first(), key) {
-        return count_behind(slots, 0, key);
+        return count_by_keys(slots, 0, key);
     }
     count_from(slots, count_by_heads(slots, key), key)
 }
@@ -82,12 +82,12 @@ fn count_from<U: Update>(slots: &[Slot<U>], low: usize, key: &Key) -> usize
     if slot.lo.head() != key.head() {
         return low;
     }
-    count_behind(slots, low, key)
+    count_by_keys(slots, low, key)
 }
 
 /// The same by whole keys, where the first `low` slots begin before the key.
 #[inline(never)]
-fn count_behind<U: Update>(slots: &[Slot<U>], low: usize, key: &Key) -> usize
+fn count_by_keys<U: Update>(slots: &[Slot<U>], low: usize, key: &Key) -> usize
     requires rising { AreRising (seen_slots slots.now) }
     requires low { AreBefore (λ s. s.lo) slots.now key.now low }
     ensures bound { result ≤ length slots.now }

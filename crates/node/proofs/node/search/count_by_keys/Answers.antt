@@ -5,7 +5,7 @@ use Rattle.std.proofs.lemmas.List.Sorted.{IsPartitionPoint-from_clause}
 use Rattle.message.specs.Ranges.{reaches}
 use Rattle.node.proofs.SlotFacts.{begun, partitioned-rising}
 use Rattle.node.proofs.HeadSearch.{partitioned-drop, point-drop}
-use Rattle.node.proofs.node.search.count_behind.Goals as goal
+use Rattle.node.proofs.node.search.count_by_keys.Goals as goal
 
 pub returns-clause-point : goal.returns-clause-point
 returns-clause-point g c =

@@ -5,7 +5,7 @@ use Rattle.std.proofs.lemmas.List.Sorted.{IsPartitionPoint-from_clause}
 use Rattle.message.specs.Ranges.{before}
 use Rattle.node.proofs.EntryPlaces.{entries_partitioned, is_count}
 use Rattle.node.proofs.HeadSearch.{partitioned-drop, point-drop}
-use Rattle.node.proofs.node.leaf.count_behind.Goals as goal
+use Rattle.node.proofs.node.leaf.count_by_keys.Goals as goal
 
 pub returns : goal.returns
 returns g c =
