@@ -1,6 +1,6 @@
 -- Where two slots can be merged.
 use Rattle.std.proofs.Common.{◌≡◌, ℕ, zero, suc, ◌<◌, ◌≤◌, false, not, List, [], ◌∷◌, length, get_or, drop, refl, ap, sym, ◌∙◌, subst, arith, ◌++◌, ◌+◌, inl, inr, ⊎_elim}
-use Rattle.std.specs.Prelude.{◌&&◌, ◌⊎◌, Result, Ok, Err, is_ok, OnErr}
+use Rattle.std.specs.Prelude.{◌&&◌, ◌⊎◌}
 use Rattle.message.specs.declared.msg.Msg.{Msg}
 use Rattle.node.specs.declared.node.Slot.{Slot}
 use Rattle.node.specs.declared.shape.Shape.{Shape}
@@ -12,11 +12,6 @@ use Rattle.node.specs.Site.{slots_from}
 use Rattle.node.proofs.Placing.{slot_count-slots}
 use Rattle.split_merge.specs.Merged.{are_alike, both}
 use Rattle.split_merge.proofs.InnerSplit.{slots-append}
-
--- a fact at an error
-pub when_err : {T E P : Type 0} (r : Result T E) → is_ok r ≡ false → OnErr r P → P
-when_err (Ok x) e p = (cc)
-when_err (Err x) e p = p
 
 module _ {U V : Type 0} where
   -- the slots from a number on begin with the two that the code reads

@@ -1,9 +1,9 @@
 -- A new root above the old one.
-use Rattle.std.proofs.Common.{◌≡◌, ℕ, suc, ◌+◌, ◌<◌, ◌≤◌, Bool, true, false, List, [], ◌∷◌, length, map, refl, ap, sym, ◌∙◌, subst, arith, cond, Option, None, pred, length-append}
+use Rattle.std.proofs.Common.{◌≡◌, ℕ, suc, ◌+◌, ◌<◌, ◌≤◌, true, false, List, [], ◌∷◌, length, map, refl, ap, sym, ◌∙◌, subst, arith, cond, Option, None, pred, length-append}
 use Rattle.std.specs.Prelude.{◌&&◌, IsTrue}
 use Rattle.std.proofs.lemmas.Bool.{and_right, both_ways}
 use Rattle.pathkey.specs.Keys.{is_below}
-use Rattle.pathkey.proofs.KeyOrder.{reaches-from_before, not_before_from_reaches, from_start, le_le}
+use Rattle.pathkey.proofs.KeyOrder.{not_before_from_reaches, from_start}
 use Rattle.message.specs.declared.msg.Msg.{Msg}
 use Rattle.message.specs.Ranges.{reaches, before, within}
 use Rattle.message.specs.Effects.{effects}
@@ -20,6 +20,7 @@ use Rattle.node.specs.Lawful.{IsLawfulNode, IsLawfulRoot, AreLawfulSlots, IsLawf
 use Rattle.node.specs.StepRows.{emptied}
 use Rattle.node.specs.RootSteps.{levels, has_one_slot, with_root, RootRaised, AnswersUp}
 use Rattle.node.specs.Sinks.{msgs_at, child_value}
+use Rattle.node.proofs.Placing.{next_above}
 use Rattle.node.proofs.Sizes.{root_levels}
 use Rattle.node.proofs.Splice.{slots_value_parts}
 use Rattle.split_merge.specs.Raised.{hollow, all_msgs, IsAbove, Raised, Refused}
@@ -84,14 +85,9 @@ module _ {U V : Type 0} where
         effects-append means ms (all_msgs ss) k v ∙ effects-later S h hi ss k _ l.3 (not_behind lo ss k l.0 e) ∙ untouched means ms k v (l.1 k (ap (λ z. z && is_below k (next_lo hi ss)) e))
       where
         -- slots behind one that begins behind a key begin behind it
-        not_by : (c : Bool) (lo lp k : List ℕ) → reaches lp k ≡ c → before lo lp ≡ true → reaches lo k ≡ false → c ≡ false
-        not_by false lo lp k x y z = refl
-        not_by true lo lp k x y z = sym (le_le lo lp k (reaches-from_before lo lp y) x) ∙ z
-
-        -- likewise for the next slot
         not_behind : (lo : List ℕ) (ss : PSlots U V) (k : List ℕ) → is_below lo (next_lo hi ss) ≡ true → reaches lo k ≡ false → begins_by ss k ≡ false
         not_behind lo none k y z = refl
-        not_behind lo (more lp mt o ss) k y z = not_by (reaches lp k) lo lp k refl y z
+        not_behind lo (more lp mt o ss) k y z = next_above (reaches lp k) lo lp k refl y z
 
     -- at each key all messages mean what those of the slot that holds it mean
     effects-all : (S : Shape) (h : ℕ) (hi : Option (List ℕ)) (ss : PSlots U V) (k : List ℕ) (v : Option V) → AreLawfulSlots S ss h hi → effects means (all_msgs ss) k v ≡ effects means (msgs_at ss k) k v

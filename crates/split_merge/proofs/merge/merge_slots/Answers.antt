@@ -2,7 +2,7 @@ use Rattle.std.proofs.Common.{arith, ap, sym, ◌∙◌, ◌≤◌, ◌<◌, len
 use Rattle.node.specs.See.{seen_slots}
 use Rattle.message.proofs.Results.{done}
 use Rattle.split_merge.specs.Merged.{are_alike}
-use Rattle.split_merge.proofs.Mergeable.{when_err}
+use Rattle.node.proofs.Roots.{when_err}
 use Rattle.split_merge.proofs.Merging.{without_next, unlike, alike_left, merged_left, put_back}
 use Rattle.split_merge.proofs.merge.merge_slots.Goals as goal
 
