@@ -1,55 +1,29 @@
 -- The place of a key among a leaf's entries, where it is known without a search.
-use Rattle.std.proofs.Common.{◌≡◌, ℕ, zero, suc, ◌+◌, ◌-◌, ◌<◌, ◌≤◌, true, List, [], ◌∷◌, length, get_or, set, insert, remove, take, drop, refl, ap, sym, ◌∙◌, subst, Option, Some, None, cond, arith, length-append, length-take, length-drop}
+use Rattle.std.proofs.Common.{◌≡◌, ℕ, suc, ◌+◌, ◌-◌, ◌<◌, ◌≤◌, true, List, [], ◌∷◌, length, get_or, set, insert, remove, take, drop, refl, ap, sym, ◌∙◌, subst, Some, None, cond, arith, length-append, length-take, length-drop}
 use Rattle.std.proofs.lemmas.List.{get_or_default, get_or-set_same, length-set, get_or-take, get_or-drop, get_or-append_right, get_or_append_left}
 use Rattle.std.proofs.lemmas.List.Edits.{get_or-insert_at, length-insert}
 use Rattle.std.proofs.Math.Seq.{get_or-append_seam}
 use Rattle.pathkey.proofs.OrderFacts.{same_from_eq, same_itself}
-use Rattle.pathkey.proofs.KeyOrder.{lt_le, reaches-refl, not_before_from_reaches, reaches-from_before}
+use Rattle.pathkey.proofs.KeyOrder.{not_before_from_reaches, reaches-from_before}
 use Rattle.message.specs.Ranges.{reaches, before}
 use Rattle.node.specs.Lawful.{Rises}
 use Rattle.node.specs.Meaning.{lookup}
 use Rattle.node.specs.Leaves.{IsEntry, IsGap}
-use Rattle.node.proofs.EntryFacts.{first_below, first_reaches}
-use Rattle.node.proofs.EntryPlaces.{is_entry, around_entry}
+use Rattle.node.proofs.EntryPlaces.{is_entry, around_entry, entries_climb}
+use Rattle.node.proofs.Halves.{all_below, rising_at}
 use Rattle.node.proofs.LeafChanges.{is_removed}
 use Rattle.flush.specs.Merge.{EndsAt}
 use Rattle.flush.proofs.Merging.{lookup_ahead}
 
 module _ {V : Type 0} where
-  -- ---- entries that rise, by number
-
-  -- an earlier one stands at a later one or before it
-  in_turn : (lo : List ℕ) (hi : Option (List ℕ)) (es : List (List ℕ × V)) (i j : ℕ) (d : List ℕ × V) → Rises lo hi es → i ≤ j → j < length es → reaches (get_or es i d).0 (get_or es j d).0 ≡ true
-  in_turn lo hi [] i j d r l b = absurd (omega arith)
-  in_turn lo hi (e ∷ es) zero zero d r l b = reaches-refl e.0
-  in_turn lo hi (e ∷ es) zero (suc j) d r l b = first_reaches lo hi e es j d r (omega arith)
-  in_turn lo hi (e ∷ es) (suc i) zero d r l b = absurd (omega arith)
-  in_turn lo hi (e ∷ es) (suc i) (suc j) d r l b = in_turn e.0 hi es i j d r.2 (omega arith) (omega arith)
-
-  -- and before it where they are two
-  in_order : (lo : List ℕ) (hi : Option (List ℕ)) (es : List (List ℕ × V)) (i j : ℕ) (d : List ℕ × V) → Rises lo hi es → i < j → j < length es → before (get_or es i d).0 (get_or es j d).0 ≡ true
-  in_order lo hi [] i j d r l b = absurd (omega arith)
-  in_order lo hi (e ∷ es) i zero d r l b = absurd (omega arith)
-  in_order lo hi (e ∷ []) zero (suc j) d r l b = absurd (omega arith)
-  in_order lo hi (e ∷ (f ∷ es)) zero (suc j) d r l b = lt_le e.0 f.0 (get_or (f ∷ es) j d).0 r.1 (in_turn e.0 hi (f ∷ es) zero j d r.2 (omega arith) (omega arith))
-  in_order lo hi (e ∷ es) (suc i) (suc j) d r l b = in_order e.0 hi es i j d r.2 (omega arith) (omega arith)
-
-  -- those that end before a key
-  each_before : (lo k : List ℕ) (es : List (List ℕ × V)) (j : ℕ) (d : List ℕ × V) → Rises lo (Some k) es → j < length es → before (get_or es j d).0 k ≡ true
-  each_before lo k [] j d r b = absurd (omega arith)
-  each_before lo k (e ∷ es) zero d r b = first_below lo (Some k) e es r
-  each_before lo k (e ∷ es) (suc j) d r b = each_before e.0 k es j d r.2 (omega arith)
-
-  -- ---- places
-
   -- where an entry has the key
   entry_at : (k : List ℕ) (es : List (List ℕ × V)) (i : ℕ) (e : List ℕ × V) → Rises [] None es → i < length es → e ≡ get_or es i e → e.0 ≡ k → IsEntry es k i
   entry_at k es i e r b at is =
       let key : (d : List ℕ × V) → (get_or es i d).0 ≡ k = λ d. ap (λ (x : List ℕ × V). x.0) (get_or_default es i d e b ∙ sym at) ∙ is in
       is_entry k es i e (record {
         bound = omega (arith, b);
-        earlier = λ j d l. subst (λ (q : List ℕ). before (get_or es j d).0 q ≡ true) (key d) (in_order [] None es j i d r l b);
-        others = λ j d l c. not_before_from_reaches k (get_or es j d).0 (subst (λ (q : List ℕ). reaches q (get_or es j d).0 ≡ true) (key d) (in_turn [] None es i j d r l c));
+        earlier = λ j d l. subst (λ (q : List ℕ). before (get_or es j d).0 q ≡ true) (key d) (rising_at [] None es j i d d r l b);
+        others = λ j d l c. not_before_from_reaches k (get_or es j d).0 (subst (λ (q : List ℕ). reaches q (get_or es j d).0 ≡ true) (key d) (entries_climb [] None es r i j d l c));
       }) b at (same_from_eq e.0 k is)
 
   -- an entry that got another value
@@ -84,7 +58,7 @@ module _ {V : Type 0} where
   -- behind all entries
   pub gap_behind : (k : List ℕ) (es : List (List ℕ × V)) → Rises [] (Some k) es → IsGap es k (length es)
   gap_behind k es r = record {
-    count = record { bound = omega arith; earlier = λ j d l. each_before [] k es j d r l; others = λ j d l b. absurd (omega arith) };
+    count = record { bound = omega arith; earlier = λ j d l. all_below [] (Some k) es j d r l; others = λ j d l b. absurd (omega arith) };
     after = λ j d l b. absurd (omega arith);
     value = lookup_ahead k es r;
   }

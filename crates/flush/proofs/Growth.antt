@@ -43,11 +43,11 @@ module _ {V : Type 0} (q : List ℕ) where
   ]
 
   -- the key has no value there
-  lookup-consumed : (lo : List ℕ) (hi : Option (List ℕ)) (xs : List (List ℕ × V)) → Rises lo hi xs → lookup (without xs) q ≡ None
-  lookup-consumed lo hi [] r = refl
-  lookup-consumed lo hi (x ∷ xs) r = elim (same x.0 q) as (λ b. same x.0 q ≡ b → lookup (cond b xs (x ∷ without xs)) q ≡ None) [
+  lookup-removed : (lo : List ℕ) (hi : Option (List ℕ)) (xs : List (List ℕ × V)) → Rises lo hi xs → lookup (without xs) q ≡ None
+  lookup-removed lo hi [] r = refl
+  lookup-removed lo hi (x ∷ xs) r = elim (same x.0 q) as (λ b. same x.0 q ≡ b → lookup (cond b xs (x ∷ without xs)) q ≡ None) [
     | true ↦ λ s. subst (λ z. lookup xs z ≡ None) (same_true x.0 q s) (only_first lo hi x xs r)
-    | false ↦ λ s. ap (λ b. cond b (Some x.1) (lookup (without xs) q)) s ∙ lookup-consumed x.0 hi xs r.2
+    | false ↦ λ s. ap (λ b. cond b (Some x.1) (lookup (without xs) q)) s ∙ lookup-removed x.0 hi xs r.2
   ] refl
 
   -- every other key has its own
@@ -62,7 +62,7 @@ module _ {V : Type 0} (q : List ℕ) where
   one_more : (xs ys : List (List ℕ × V)) → Rises [] None xs → Rises [] None ys → ((k : List ℕ) → same q k ≡ false → lookup ys k ≡ None → lookup xs k ≡ None) → length xs ≤ length ys + 1
   one_more xs ys r s h =
       let few = no_more [] [] None None (without xs) ys (rises-others [] None xs r) s (λ k n. elim (same q k) as (λ b. same q k ≡ b → lookup (without xs) k ≡ None) [
-        | true ↦ λ e. subst (λ z. lookup (without xs) z ≡ None) (same_true q k e) (lookup-consumed [] None xs r)
+        | true ↦ λ e. subst (λ z. lookup (without xs) z ≡ None) (same_true q k e) (lookup-removed [] None xs r)
         | false ↦ λ e. lookup-kept xs k e ∙ h k e n
       ] refl) in
       omega (arith, few, length-without xs)

@@ -19,6 +19,7 @@ use Rattle.cow_map.specs.Places as places
 use Rattle.point_ops.specs.Changes.{KeyOp, Put, Del, Edit, msg_at, run_msgs}
 use Rattle.point_ops.specs.PointOps.{point_msgs}
 use Rattle.pending.specs.OldestWalk.{first_len}
+use Rattle.pending.proofs.Runs.{run_untouched}
 use Rattle.node.specs.Lawful.{first_key}
 
 module _ {U V : Type 0} where
@@ -34,21 +35,12 @@ module _ {U V : Type 0} where
   at-take k (m ∷ ms) (suc n) a q d = ap (λ b. b || any_touches (take n ms) q) (or_parts (touches m q) (any_touches ms q) (a q d)).0 ∙ at-take k ms n (λ p e. (or_parts (touches m p) (any_touches ms p) (a p e)).1) q d
 
   -- one message of a key
-  touched-at : (k : List ℕ) (c : KeyOp U V) (q : List ℕ) → touches (msg_at k c) q ≡ same k q
-  touched-at k (Put v) q = refl
-  touched-at k Del q = refl
-  touched-at k (Edit u) q = refl
-
   pub point-at : (k : List ℕ) (c : KeyOp U V) → point_key (msg_at k c) ≡ Some k
   point-at k (Put v) = refl
   point-at k Del = refl
   point-at k (Edit u) = refl
 
   -- the operations of a key
-  at-run : (k : List ℕ) (cs : List (KeyOp U V)) → AreAt k (run_msgs k cs)
-  at-run k [] q d = refl
-  at-run k (c ∷ cs) q d = ap (λ b. b || any_touches (run_msgs k cs) q) (touched-at k c q ∙ d) ∙ at-run k cs q d
-
   point-run : (k : List ℕ) (cs : List (KeyOp U V)) (ms : List (Msg U V)) (i : ℕ) (m : Msg U V) → i < length cs → slice_get (run_msgs k cs ++ ms) i ≡ Some m → point_key m ≡ Some k
   point-run k [] ms i m l h = absurd (omega arith)
   point-run k (c ∷ cs) ms zero m l h = let e : msg_at k c ≡ m = (cc) in ap point_key (sym e) ∙ point-at k c
@@ -67,7 +59,7 @@ module _ {U V : Type 0} where
   first_at k (e ∷ es) n f l =
       let is : e.0 ≡ k = (cc) in
       let few : n ≤ length (run_msgs e.0 e.1) = omega (arith, l, length-map e.1 (msg_at e.0)) in
-      subst (λ (ms : List (Msg U V)). AreAt k ms) (sym (take-append-le n (run_msgs e.0 e.1) (point_msgs es) few)) (subst (λ q. AreAt q (take n (run_msgs e.0 e.1))) is (at-take e.0 (run_msgs e.0 e.1) n (at-run e.0 e.1)))
+      subst (λ (ms : List (Msg U V)). AreAt k ms) (sym (take-append-le n (run_msgs e.0 e.1) (point_msgs es) few)) (subst (λ q. AreAt q (take n (run_msgs e.0 e.1))) is (at-take e.0 (run_msgs e.0 e.1) n (λ q. run_untouched e.0 q e.1)))
 
   pub first_point : (k : List ℕ) (es : List (List ℕ × List (KeyOp U V))) (i : ℕ) (m : Msg U V) → first_key None es ≡ Some k → i < first_len es → slice_get (point_msgs es) i ≡ Some m → point_key m ≡ Some k
   first_point k [] i m f l h = (cc)
@@ -78,7 +70,7 @@ module _ {U V : Type 0} where
   first_pointed k (e ∷ es) i m l h p = sym (point-run e.0 e.1 (point_msgs es) i m l h) ∙ p
 
   -- the messages of the next keys
-  next_msgs : (es : List (List ℕ × List (KeyOp U V))) → drop (first_len es) (point_msgs es) ≡ point_msgs (drop 1 es)
+  pub next_msgs : (es : List (List ℕ × List (KeyOp U V))) → drop (first_len es) (point_msgs es) ≡ point_msgs (drop 1 es)
   next_msgs [] = refl
   next_msgs (e ∷ es) = ap (λ n. drop n (run_msgs e.0 e.1 ++ point_msgs es)) (sym (length-map e.1 (msg_at e.0))) ∙ drop-append_seam (run_msgs e.0 e.1) (point_msgs es)
 

@@ -2,7 +2,6 @@
 use Rattle.std.proofs.Common.{◌≡◌, ℕ, suc, ◌+◌, ◌-◌, ◌<◌, ◌≤◌, Bool, true, false, List, [], ◌∷◌, length, get_or, take, drop, refl, ap, sym, ◌∙◌, subst, arith, cond, pred, Option, Some, None, inl, inr, ⊎_elim, length-drop, length-append}
 use Rattle.std.specs.Prelude.{◌&&◌, nat_le, IsTrue, ◌⊎◌, ⊤, Result, Ok, Err, is_err}
 use Rattle.std.proofs.Math.ListN.{set}
-use Rattle.std.proofs.Math.Seq.{take-length}
 use Rattle.std.proofs.lemmas.List.{length-take-le}
 use Rattle.std.specs.List.{insert}
 use Rattle.pathkey.specs.Order.{same}
@@ -44,14 +43,6 @@ use Rattle.node.proofs.Splice.{slots_from-past, slots-split, slots-set_split, sl
 use Rattle.flush.specs.Sunk.{left}
 use Rattle.flush.specs.Leaf.{AddsNone, Absorbed, HasPlace, Filled, AfterOldest, MayGo, KeptOldest, IsHalved}
 
--- what the code reads as the rest of a list
-abbrev pub rest : {T : Type 0} → List T → List T
-rest xs = take (length xs - 1) (drop 1 xs)
-
--- it is all but the first
-pub rest_is : {T : Type 0} (xs : List T) → rest xs ≡ drop 1 xs
-rest_is xs = let n : length xs - 1 ≡ length (drop 1 xs) = omega (arith, length-drop 1 xs) in ap (λ i. take i (drop 1 xs)) n ∙ take-length (drop 1 xs)
-
 -- a leaf of an allowed shape has room for four entries
 pub some_leaf : (S : Shape) → IsTrue (is_shape S) → 4 ≤ S.leaf
 some_leaf S h =
@@ -75,8 +66,8 @@ module _ {U V : Type 0} (means : U → Option V → Option V) where
   adds_none-found m es q (Err i) t p f = (cc)
 
   -- nor does one that takes values away
-  pub adds_none-consumed : (m : Msg U V) (es : List (List ℕ × V)) → made_of means m None ≡ None → AddsNone means es m
-  adds_none-consumed m es h k n = elim (touches m k) as (λ b. cond b (made_of means m None) None ≡ None) [ true ↦ h | false ↦ refl ]
+  pub adds_none-removed : (m : Msg U V) (es : List (List ℕ × V)) → made_of means m None ≡ None → AddsNone means es m
+  adds_none-removed m es h k n = elim (touches m k) as (λ b. cond b (made_of means m None) None ≡ None) [ true ↦ h | false ↦ refl ]
 
   -- a leaf with room for a message stays within the limit
   pub stays_within : (most : ℕ) (m : Msg U V) (es new : List (List ℕ × V)) → Rises [] None es → Applied means (m ∷ []) es new → (length es < most) ⊎ AddsNone means es m → length es ≤ most → length new ≤ most
@@ -99,8 +90,8 @@ module _ {U V : Type 0} (means : U → Option V → Option V) where
   -- a message that is no put does so only where it edits an absent key
   pub no_put : (most : ℕ) (m : Msg U V) (es : List (List ℕ × V)) → Rises [] None es → ((q : List ℕ) (v : V) → m ≡ Put q v → ⊥) → length es ≤ most → Overflows means most es (m ∷ []) → EditsAbsent (more [] (m ∷ []) (leaf es) none)
   no_put most (Put q v) es r f l o = absurd (f q v refl)
-  no_put most (Del q) es r f l o = absurd (room_within most (Del q) es r (inr (adds_none-consumed (Del q) es refl)) l o)
-  no_put most (DelRange d) es r f l o = absurd (room_within most (DelRange d) es r (inr (adds_none-consumed (DelRange d) es refl)) l o)
+  no_put most (Del q) es r f l o = absurd (room_within most (Del q) es r (inr (adds_none-removed (Del q) es refl)) l o)
+  no_put most (DelRange d) es r f l o = absurd (room_within most (DelRange d) es r (inr (adds_none-removed (DelRange d) es refl)) l o)
   no_put most (Edit q u) es r f l o = (elim (lookup es q) as (λ z. lookup es q ≡ z → z ≡ None) [
     | None ↦ λ e. refl
     | Some v ↦ λ e. absurd (room_within most (Edit q u) es r (inr (adds_none-at (Edit q u) es q v (λ k. refl) e)) l o)

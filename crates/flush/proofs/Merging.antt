@@ -5,7 +5,7 @@ use Rattle.std.specs.Option.{option_or}
 use Rattle.std.specs.Ordering.{is_eq, is_gt, is_le, is_lt}
 use Rattle.std.specs.declared.cmp.Ordering.TheVariants.{Less, Equal, Greater}
 use Rattle.std.proofs.Math.Seq.{take-add}
-use Rattle.std.proofs.lemmas.List.{append_assoc, take-take}
+use Rattle.std.proofs.lemmas.List.{append_assoc, take-append-le, take-take}
 use Rattle.pathkey.specs.Order.{by_bytes, same}
 use Rattle.pathkey.specs.Keys.{is_below}
 use Rattle.pathkey.proofs.OrderFacts.{equal, same_true}
@@ -15,11 +15,14 @@ use Rattle.message.specs.Ranges.{reaches, before, within}
 use Rattle.message.specs.Effects.{any_touches, effects}
 use Rattle.message.proofs.KeyOrder.{below_next, both}
 use Rattle.message.proofs.Lists.{untouched}
+use Rattle.point_ops.specs.Changes.{KeyOp}
+use Rattle.point_ops.specs.PointOps.{point_msgs}
+use Rattle.pending.specs.OldestWalk.{IsWalk}
 use Rattle.node.specs.Lawful.{first_key, Rises, TouchOnly}
 use Rattle.node.specs.Meaning.{lookup}
 use Rattle.node.specs.Leaves.{Applied}
 use Rattle.node.proofs.EntryFacts.{first_below, rises_all, rises_from, rises-append, lookup-append, lookup_outside, or_none}
-use Rattle.node.proofs.Applying.{applied_then, applied_more, rising_applied}
+use Rattle.node.proofs.Applying.{applied_nothing, applied_then, applied_more, rising_applied}
 use Rattle.flush.specs.Merge.{EndsAt, HasCome, IsFilled}
 use Rattle.flush.proofs.Keyed.{AreAt}
 
@@ -219,6 +222,19 @@ module _ {U V : Type 0} (means : U → Option V → Option V) (most : ℕ) (ms :
         few = p.few;
         none = p.none;
       }
+
+  -- messages of a walk
+  pub filled_walk : (es : List (List ℕ × List (KeyOp U V))) (n : ℕ) (old new : List (List ℕ × V)) → IsWalk es ms → IsFilled means most (point_msgs es) n old new → IsFilled means most ms n old new
+  filled_walk es n old new w p = record {
+    within = omega (arith, p.within, ap length w.is, length-append (point_msgs es) w.later);
+    applied = subst (λ (xs : List (Msg U V)). Applied means xs old new) (sym (ap (take n) w.is ∙ take-append-le n (point_msgs es) w.later p.within)) p.applied;
+    few = p.few;
+    none = p.none;
+  }
+
+  -- no message
+  pub filled_none : (es : List (List ℕ × V)) → IsFilled means most ms 0 es es
+  filled_none es = record { within = omega arith; applied = applied_nothing means es; few = λ h. h; none = λ z. refl }
 
   -- one message more
   pub filled_more : (i : ℕ) (m : Msg U V) (old mid new : List (List ℕ × V)) → i < length ms → m ≡ get_or ms i m → IsFilled means most ms i old mid → Applied means (m ∷ []) mid new → (length mid ≤ most → length new ≤ most) → IsFilled means most ms (i + 1) old new

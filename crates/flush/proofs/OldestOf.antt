@@ -1,6 +1,6 @@
 -- The oldest message of a list, as the code asks for it, and the oldest few.
-use Rattle.std.proofs.Common.{◌≡◌, ℕ, zero, suc, ◌<◌, ◌≤◌, List, [], ◌∷◌, ◌++◌, length, length-append, length-take, take, refl, ap, sym, ◌∙◌, subst, Option, Some, None, arith, Bool, false, true, Result, ⊎_elim}
-use Rattle.std.proofs.lemmas.List.{take-append-le, take-take}
+use Rattle.std.proofs.Common.{◌≡◌, ℕ, zero, suc, ◌<◌, ◌≤◌, List, [], ◌∷◌, length, length-take, take, refl, ap, sym, ◌∙◌, subst, Option, Some, None, arith, Bool, false, true, Result, ⊎_elim}
+use Rattle.std.proofs.lemmas.List.{take-take}
 use Rattle.std.proofs.lemmas.Option.{same_Some}
 use Rattle.std.specs.Prelude.{Ok, Err, is_ok, is_err}
 use Rattle.pathkey.specs.Order.{same}
@@ -8,15 +8,12 @@ use Rattle.message.specs.declared.msg.Msg.{Msg}
 use Rattle.message.specs.declared.msg.Msg.TheVariants.{Put, Del, DelRange, Edit}
 use Rattle.message.specs.Effects.{touches, made_of}
 use Rattle.message.specs.Oldest.{given_at, put_at}
-use Rattle.point_ops.specs.Changes.{KeyOp}
-use Rattle.point_ops.specs.PointOps.{point_msgs}
-use Rattle.pending.specs.OldestWalk.{IsWalk}
 use Rattle.node.specs.declared.step.StepReply.{StepReply}
 use Rattle.node.specs.declared.step.StepReply.TheVariants.{Did, NotThere, NoRoom, NoMemory}
 use Rattle.node.specs.declared.shape.Shape.{Shape}
 use Rattle.node.specs.Pure.{PNode, PSlots, leaf, inner}
 use Rattle.flush.specs.Sunk.{Sunk, ConsumedInto}
-use Rattle.flush.specs.Leaf.{AfterOldest, MayGo, Filled, Absorbed}
+use Rattle.flush.specs.Leaf.{AfterOldest, MayGo}
 
 -- a list that is not empty has a first element
 pub first_of : {X : Type 0} (xs : List X) → 0 < length xs → (x : X) × (ys : List X) × (xs ≡ x ∷ ys)
@@ -80,29 +77,6 @@ module _ {U V : Type 0} where
     few_sunk (m ∷ ms) (suc n) NoRoom (leaf es) d some q = q
     few_sunk (m ∷ ms) (suc n) NoRoom (inner cs) d some q = q
     few_sunk ms n NoMemory c d some q = q
-
-    -- likewise for a leaf
-    pub few_filled : (ms : List (Msg U V)) (n : ℕ) (r : StepReply) (c d : PNode U V) → (0 < length ms → 0 < n) → Filled means most r (take n ms) c d → Filled means most r ms c d
-    few_filled ms n (Did k) c d some q = (q.0, few_long ms n k q.1, subst (λ xs. Absorbed means most xs c d) (take_few ms k n q.1) q.2)
-    few_filled [] zero NotThere c d some q = q
-    few_filled [] (suc n) NotThere c d some q = q
-    few_filled (m ∷ ms) zero NotThere c d some q = absurd (let h : 0 < 0 = some (omega arith) in omega (arith, h))
-    few_filled (m ∷ ms) (suc n) NotThere (leaf es) d some q = q
-    few_filled (m ∷ ms) (suc n) NotThere (inner cs) d some q = q
-    few_filled ms n NoRoom c d some q = q
-    few_filled ms n NoMemory c d some q = q
-
-    -- and what is done with the messages of a walk
-    before_others : (ws later : List (Msg U V)) (r : StepReply) (c d : PNode U V) → 0 < length ws → Filled means most r ws c d → Filled means most r (ws ++ later) c d
-    before_others ws later (Did k) c d some q = (q.0, omega (arith, q.1, length-append ws later), subst (λ xs. Absorbed means most xs c d) (sym (take-append-le k ws later q.1)) q.2)
-    before_others [] later NotThere c d some q = absurd (omega arith)
-    before_others (w ∷ ws) later NotThere (leaf es) d some q = q
-    before_others (w ∷ ws) later NotThere (inner cs) d some q = q
-    before_others ws later NoRoom c d some q = q
-    before_others ws later NoMemory c d some q = q
-
-    pub walk_filled : (es : List (List ℕ × List (KeyOp U V))) (ms : List (Msg U V)) (r : StepReply) (c d : PNode U V) → IsWalk es ms → 0 < length (point_msgs es) → Filled means most r (point_msgs es) c d → Filled means most r ms c d
-    walk_filled es ms r c d w some q = subst (λ xs. Filled means most r xs c d) (sym w.is) (before_others (point_msgs es) w.later r c d some q)
 
 -- what was found was not missed
 pub not_err : (r : Result ℕ ℕ) → is_ok r ≡ true → is_err r ≡ false

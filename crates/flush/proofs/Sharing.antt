@@ -8,13 +8,11 @@ use Rattle.std.specs.Map.{keys_of}
 use Rattle.std.specs.Option.{option_map}
 use Rattle.std.specs.Ordering.{is_le}
 use Rattle.std.proofs.Math.ListN.{set}
-use Rattle.std.proofs.Math.Seq.{take-append_seam, drop-append_seam}
+use Rattle.std.proofs.Math.Seq.{take-append_seam}
 use Rattle.std.proofs.lemmas.Bool.{false≢true}
 use Rattle.std.proofs.lemmas.Map.Keys.{sorted_head}
 use Rattle.std.proofs.lemmas.Option.{same_Some}
-use Rattle.pathkey.specs.Keys.{is_below}
 use Rattle.pathkey.specs.Order.{by_bytes}
-use Rattle.pathkey.proofs.KeyOrder.{reaches-from_before, le_le}
 use Rattle.cow_map.specs.Places.{Rises}
 use Rattle.message.specs.declared.msg.Msg.{Msg}
 use Rattle.message.specs.Effects.{point_key, Takes}
@@ -26,16 +24,17 @@ use Rattle.pending.specs.OldestWalk.{first_len}
 use Rattle.point_ops.proofs.Parting.{msgs_len}
 use Rattle.pending.proofs.Runs.{run_alike, run_first}
 use Rattle.node.specs.Appended.{batches_by_slot, HaveTaken}
-use Rattle.node.specs.Lawful.{next_lo}
 use Rattle.node.specs.Meaning.{begins_by, slot_number, holder}
 use Rattle.node.specs.declared.node.Slot.{Slot}
 use Rattle.node.specs.See.{seen_slots}
 use Rattle.node.specs.Pure.{PSlots, none, more}
 use Rattle.node.specs.Searchable.{AreRising}
 use Rattle.node.specs.Site.{slots_from}
+use Rattle.node.proofs.Placing.{begins_later, reached_before}
 use Rattle.node.proofs.Splice.{slots_from-past}
 use Rattle.node.proofs.StepPlaces.{slots_from-get}
 use Rattle.flush.specs.Sunk.{BeginsByFirst, Moved}
+use Rattle.flush.proofs.Keyed.{next_msgs}
 use Rattle.flush.proofs.Moves.{moved_run}
 
 module _ {U V : Type 0} where
@@ -45,15 +44,10 @@ module _ {U V : Type 0} where
   from_first none = refl
   from_first (more lo ms n ss) = refl
 
-  -- a slot before one that begins at or before a key does too
-  begins_before : (lo k : List ℕ) (ss : PSlots U V) → is_below lo (next_lo None ss) ≡ true → begins_by ss k ≡ true → reaches lo k ≡ true
-  begins_before lo k none b h = absurd (false≢true h)
-  begins_before lo k (more l ms n ss) b h = le_le lo l k (reaches-from_before lo l b) h
-
   begins_first : (i : ℕ) (ss : PSlots U V) (k : List ℕ) → AreRising ss → begins_by (slots_from i ss) k ≡ true → begins_by ss k ≡ true
   begins_first i none k r h = h
   begins_first zero (more lo ms n ss) k r h = h
-  begins_first (suc i) (more lo ms n ss) k r h = begins_before lo k ss r.0 (begins_first i ss k r.1 h)
+  begins_first (suc i) (more lo ms n ss) k r h = reached_before lo k ss r.0 (begins_first i ss k r.1 h)
 
   number_from : (i : ℕ) (ss : PSlots U V) (k : List ℕ) → AreRising ss → begins_by (slots_from i ss) k ≡ true → begins_by (slots_from (suc i) ss) k ≡ false → slot_number ss k ≡ i
   number_from i none k r h stop = absurd (false≢true h)
@@ -107,13 +101,8 @@ module _ {U V : Type 0} where
         | false ↦ λ e s. absurd (cc)
       ]) refl h
 
-  -- slots that begin at or before a key begin at or before a later one
-  begins_later : (ss : PSlots U V) (k l : List ℕ) → reaches k l ≡ true → begins_by ss k ≡ true → begins_by ss l ≡ true
-  begins_later none k l b h = absurd (false≢true h)
-  begins_later (more lo ms n ss) k l b h = le_le lo k l h b
-
   module _ {X : Type 0} where
-    -- for the first of the keys of a walk
+    -- slots that begin at or before the first of the keys of a walk
     pub begins_walk : (w : List (List ℕ × X)) (ss : PSlots U V) (k : List ℕ) → Some k ≡ option_map (λ e. e.0) (slice_get w 0) → begins_by ss k ≡ true → BeginsByFirst w ss
     begins_walk [] ss k e h = tt
     begins_walk (f ∷ w) ss k e h = subst (λ (q : List ℕ). begins_by ss q ≡ true) (same_Some k f.0 e) h
@@ -145,9 +134,6 @@ module _ {U V : Type 0} (means : U → Option V → Option V) where
     run_taken : take (length cs) (run_msgs k cs ++ point_msgs es) ≡ run_msgs k cs
     run_taken = ap (λ n. take n (run_msgs k cs ++ point_msgs es)) (sym (msgs_len k cs)) ∙ take-append_seam (run_msgs k cs) (point_msgs es)
 
-    run_left : drop (length cs) (run_msgs k cs ++ point_msgs es) ≡ point_msgs es
-    run_left = ap (λ n. drop n (run_msgs k cs ++ point_msgs es)) (sym (msgs_len k cs)) ∙ drop-append_seam (run_msgs k cs) (point_msgs es)
-
     run_alone : 0 < length cs → All (λ m. point_key m ≡ first_point (run_msgs k cs ++ point_msgs es)) (take (length cs) (run_msgs k cs ++ point_msgs es))
     run_alone some =
         subst (λ (q : Option (List ℕ)). All (λ m. point_key m ≡ q) (take (length cs) (run_msgs k cs ++ point_msgs es))) (sym (run_first k cs (point_msgs es) some)) (subst (λ ms. All (λ m. point_key m ≡ Some k) ms) (sym run_taken) (run_alike k cs))
@@ -160,7 +146,7 @@ module _ {U V : Type 0} (means : U → Option V → Option V) where
       let key : Some k ≡ first_point ms = e ∙ sym (run_first f.0 f.1 (point_msgs w) (omega (arith, some, len))) in
       let r : Result ℕ ℕ = Ok n in
       moved_run means k xs i d p room ms (point_msgs w) r rising held b key takes
-      (sym (ap (λ j. drop j ms) len ∙ run_left f.0 f.1 w))
+      (sym (ap (λ j. drop j ms) len ∙ next_msgs (f ∷ w)))
       (few, omega (arith, len, length-append (run_msgs f.0 f.1) (point_msgs w), msgs_len f.0 f.1))
       (subst (λ j. All (λ m. point_key m ≡ first_point ms) (take j ms)) (sym len) (run_alone f.0 f.1 w (omega (arith, some, len))))
       (λ z. absurd (omega (arith, z, some)))

@@ -40,7 +40,7 @@ module _ {U V : Type 0} (means : U → Option V → Option V) where
   HasPlace most (m ∷ ms) (inner cs) = ⊥
 
   -- what the reply of a flush in place says of a slot's messages and its leaf, before and after; it is asked only where
-  -- there is room for the oldest message, so that no room is no answer, and want of memory none for lack of room
+  -- there is room for the oldest message, so that `NoRoom` is never answered
   abbrev pub Filled : ℕ → StepReply → List (Msg U V) → PNode U V → PNode U V → Type 0
   Filled most (Did n) ms c d = (1 ≤ n) × (n ≤ length ms) × Absorbed most (take n ms) c d
   Filled most NotThere ms c d = (d ≡ c) × (can_flush_leaf (more [] ms c none) ≡ false)

@@ -1,20 +1,19 @@
 //! A flush into an inner node.
 //!
 //! A walk over the oldest messages of the list shares those of each key, at once, with the slot that holds the key, which is sought
-//! from the last one on; then they are dropped from the list together. Messages that cannot be shared are moved one key at a time,
+//! forward from the slot of the key before; then they are dropped from the list together. Messages that cannot be shared are moved one key at a time,
 //! and range-deletes at the front of a list are copied, since their pieces need keys of their own.
 //!
 //! Invariant: messages leave the slot in their order, the oldest first, and only once the child has them, where they are newer
 //! than what is pending. So the value at every key stays, also if an allocation fails half-way.
-ghost use Rattle.std.specs.Prelude.{◌≡◌, ℕ, true, false, ◌+◌, ◌≤◌, ◌<◌, ◌∷◌, [], length, take, drop, map, Some, None, IfNone, IfOk, IfSome, OnOk, OnErr};
+ghost use Rattle.std.specs.Prelude.{◌≡◌, ℕ, true, false, ◌+◌, ◌≤◌, ◌<◌, length, take, drop, min, max, Some, None, IfNone, IfOk, IfSome, OnErr};
 ghost use Rattle.point_ops.specs.PointOps.{point_msgs};
-ghost use Rattle.node.specs.Appended.{batches_by_slot, HaveTaken};
 ghost use Rattle.node.specs.Lawful.{pending as pending_of};
 ghost use Rattle.node.specs.Meaning.{begins_by, holder};
 ghost use Rattle.node.specs.Places.{way};
 ghost use Rattle.node.specs.Searchable.{AreRising, IsSearchable};
 ghost use Rattle.node.specs.StepRows.{can_flush_inner, piece_count};
-ghost use Rattle.node.specs.See.{see_slot, seen_slots};
+ghost use Rattle.node.specs.See.{seen_slots};
 ghost use Rattle.node.specs.Site.{slots_from};
 ghost use Rattle.node.specs.Steps.{Answers};
 ghost use Rattle.node.specs.declared.step.StepKind.TheVariants.{FlushInner};
@@ -38,6 +37,7 @@ pub fn count_fitting<U: Update>(slots: &[Slot<U>], msgs: &[Msg<U>], room: usize)
     ensures small { result < 65536 }
     ensures fits { 0 < result → pending_of (seen_slots slots.now) + piece_count (take result msgs.now) (seen_slots slots.now) ≤ room }
     ensures full { result ≡ 0 → 0 < length msgs.now → room < pending_of (seen_slots slots.now) + piece_count (take 1 msgs.now) (seen_slots slots.now) }
+    ensures most { result < length msgs.now → result < 65535 → room < pending_of (seen_slots slots.now) + piece_count (take (result + 1) msgs.now) (seen_slots slots.now) }
 {
     let waiting = pending_len(slots);
     if waiting > room as u128 {
@@ -56,21 +56,6 @@ pub fn count_fitting<U: Update>(slots: &[Slot<U>], msgs: &[Msg<U>], room: usize)
         count += 1;
     }
     count
-}
-
-/// Appends copies of messages to slots, if they and what is pending there are at most `room` pieces.
-pub fn append_within<U: Update>(
-    alloc: Global,
-    below: &mut [Slot<U>],
-    msgs: &[Msg<U>],
-    room: usize,
-) -> Result<(), NoMemory>
-    requires { pending_of (seen_slots below.old) + piece_count msgs.now (seen_slots below.old) ≤ room }
-    ensures taken { OnOk result (HaveTaken U.means (seen_slots below.old) (batches_by_slot None msgs.now (seen_slots below.old)) (seen_slots below.new)) }
-    ensures within { OnOk result (pending_of (seen_slots below.new) ≤ room) }
-    ensures err { OnErr result (map see_slot below.new ≡ map see_slot below.old) }
-{
-    append_copies(alloc, below, msgs)
 }
 
 /// Appends copies of the messages to the slots of the child, as many as it has room for: a node has room for `room` pieces.
@@ -101,7 +86,7 @@ fn push_to_child<U: Update>(
         return StepReply::NoRoom;
     }
     let few = &msgs[..count];
-    let taken = append_within(alloc, below.as_mut_slice(), few, room as usize);
+    let taken = append_copies(alloc, below.as_mut_slice(), few);
     // Also if an allocation failed, since `body_mut` has cleared the weight.
     own.update_weight();
     let Ok(()) = taken else {
@@ -114,6 +99,7 @@ fn push_to_child<U: Update>(
 pub fn few_oldest<U: Update>(list: &Pending<U>, most: u16) -> usize
     ensures within { result ≤ length list.now.0 }
     ensures some { 0 < length list.now.0 → 0 < result }
+    ensures exact { result ≡ min (length list.now.0) (max most 1) }
 {
     list.len().min((most as usize).max(1))
 }
@@ -310,7 +296,7 @@ fn push_points<U: Update>(
 }
 
 /// Moves the oldest messages of a slot to its child, as many as the child has room for: copies of the first few, and then
-/// messages for one key.
+/// those that are each for a single key.
 fn push_front<U: Update>(alloc: Global, room: u16, slot: &mut Slot<U>) -> StepReply
     requires { IsSearchable slot.old.child.value }
     ensures lo { slot.new.lo ≡ slot.old.lo }

@@ -11,14 +11,13 @@
 //!
 //! Invariant: the slot loses exactly the messages that were applied, which are its oldest. So the value at every key stays, also
 //! if an allocation fails half-way.
-ghost use Rattle.std.specs.Prelude.{◌≡◌, ◌≤◌, ◌<◌, ◌∷◌, [], None, true, false, length, take, drop, ◌⊎◌, ⊤, IsTrue, IfOk, IfSome, OnErr, MatchOption};
+ghost use Rattle.std.specs.Prelude.{◌≡◌, ◌≤◌, ◌<◌, ◌∷◌, [], None, true, false, length, drop, ⊤, IsTrue, IfOk, IfSome, OnErr, MatchOption};
 ghost use Rattle.std.specs.Option.{option_copied};
-ghost use Rattle.message.specs.Oldest.{given_at, put_at};
+ghost use Rattle.message.specs.Oldest.{put_at};
 ghost use Rattle.message.specs.declared.msg.Msg.{Msg};
 ghost use Rattle.point_ops.specs.PointOps.{point_msgs};
 ghost use Rattle.pending.specs.OldestWalk.{IsWalk};
 ghost use Rattle.node.specs.Lawful.{Rises};
-ghost use Rattle.node.specs.Leaves.{Applied};
 ghost use Rattle.node.specs.Places.{way};
 ghost use Rattle.node.specs.Pure.{inner, leaf, none, more};
 ghost use Rattle.node.specs.Searchable.{IsSearchable};
@@ -29,7 +28,7 @@ ghost use Rattle.node.specs.Steps.{Answers, Replies};
 ghost use Rattle.node.specs.declared.step.StepKind.TheVariants.{FlushLeaf};
 ghost use Rattle.flush.specs.Merge.{IsFilled};
 ghost use Rattle.flush.specs.Sunk.{left};
-ghost use Rattle.flush.specs.Leaf.{AddsNone, HasPlace, Filled, AfterOldest, AfterOldestAt, MayGoAt, MayCutAt, KeptOldest, IsHalved};
+ghost use Rattle.flush.specs.Leaf.{HasPlace, Filled, AfterOldest, AfterOldestAt, MayGoAt, MayCutAt, KeptOldest, IsHalved};
 
 use crate::apply_pass::apply_along;
 use crate::inner::few_oldest;
@@ -44,7 +43,8 @@ use pending::{MsgRef, OldestWalk, Pending};
 use std::alloc::Global;
 use std::sync::Arc;
 
-/// The largest number of a slot's messages that a flush into a leaf reads: as many as a node may hold.
+/// After how many of a slot's messages a flush into a leaf stops, once it has finished the key that it is at: as many as a node
+/// may hold.
 const MAX_EXAMINED: u16 = 1024;
 
 /// Whether a leaf of at least `most` entries has none for the key of a put; `None` is another message.
@@ -82,26 +82,6 @@ fn apply_each<U: Update>(
     count
 }
 
-/// Applies messages to entries, the oldest first, up to one for which there may be no room or an allocation fails, and
-/// counts them.
-fn apply_fitting<U: Update>(
-    alloc: Global,
-    entries: &mut Vec<(Key, U::Value)>,
-    msgs: &[Msg<U>],
-    most: usize,
-) -> usize
-    requires { Rises [] None entries.old.items }
-    ensures within { result ≤ length msgs.now }
-    ensures small { result < 4294967296 }
-    ensures applied { Applied U.means (take result msgs.now) entries.old.items entries.new.items }
-    ensures few { length entries.old.items ≤ most → length entries.new.items ≤ most }
-    ensures none { result ≡ 0 → entries.new.items ≡ entries.old.items }
-{
-    // No flush brings so many messages: that bound makes the count a `u32`.
-    let few = msgs.len().min(4294967295);
-    apply_each(alloc, entries, &msgs[..few], most)
-}
-
 /// Whether the slot's leaf has room for the oldest message as it is.
 fn takes_oldest<U: Update>(slot: &Slot<U>, most: u16) -> bool
     requires { IsSearchable slot.now.child.value }
@@ -120,62 +100,6 @@ fn takes_oldest<U: Update>(slot: &Slot<U>, most: u16) -> bool
     }
 }
 
-/// Applies as many of the messages to the leaf as it has room for, in place.
-fn apply_some<U: Update>(
-    alloc: Global,
-    most: u16,
-    msgs: &[Msg<U>],
-    child: &mut Arc<Node<U>>,
-) -> StepReply
-    requires { IsSearchable child.old.value }
-    ensures { Filled U.means most result msgs.now child.old.value child.new.value }
-{
-    if msgs.is_empty() {
-        // Unreachable, as is an inner node: the slot's leaf has room for its oldest message.
-        return StepReply::NotThere;
-    }
-    let Ok(own) = Arc::make_mut(child) else {
-        return StepReply::NoMemory;
-    };
-    let Body::Leaf(entries) = own.body_mut() else {
-        return StepReply::NotThere;
-    };
-    let count = apply_fitting(alloc, entries, msgs, most as usize);
-    own.update_weight();
-    if count == 0 {
-        // There is room for the first message, so an allocation failed.
-        return StepReply::NoMemory;
-    }
-    StepReply::Did(count as u32)
-}
-
-/// Applies as many of a walk's messages to the leaf as it has room for, in place, key by key until it has applied `few`.
-fn apply_walk<U: Update>(
-    alloc: Global,
-    most: u16,
-    walk: OldestWalk<'_, U>,
-    few: u16,
-    child: &mut Arc<Node<U>>,
-) -> StepReply
-    requires { IsSearchable child.old.value }
-    ensures { Filled U.means most result (point_msgs walk.entry) child.old.value child.new.value }
-{
-    let Ok(own) = Arc::make_mut(child) else {
-        return StepReply::NoMemory;
-    };
-    let Body::Leaf(entries) = own.body_mut() else {
-        // Unreachable: the slot's leaf has room for its oldest message.
-        return StepReply::NotThere;
-    };
-    let count = apply_along(alloc, entries, walk, few, most as usize);
-    own.update_weight();
-    if count == 0 {
-        // There is room for the first message, so an allocation failed.
-        return StepReply::NoMemory;
-    }
-    StepReply::Did(count as u32)
-}
-
 /// A walk over the oldest messages of a list, if it can be walked and the walk has a message.
 fn walk_some<U: Update>(list: &Pending<U>) -> Option<OldestWalk<'_, U>>
     ensures walk { IfSome result (λ w. IsWalk w list.now.0) }
@@ -188,6 +112,30 @@ fn walk_some<U: Update>(list: &Pending<U>) -> Option<OldestWalk<'_, U>>
     Some(walk)
 }
 
+/// Applies as many of a list's oldest messages to entries as there is room for, up to one for which an allocation fails, and counts
+/// them: along a walk over the list, or copies of them if it cannot be walked.
+fn apply_list<U: Update>(
+    alloc: Global,
+    entries: &mut Vec<(Key, U::Value)>,
+    list: &Pending<U>,
+    most: u16,
+) -> usize
+    requires { Rises [] None entries.old.items }
+    ensures filled { IsFilled U.means most list.now.0 result entries.old.items entries.new.items }
+    ensures small { result < 4294967296 }
+{
+    let limit = most.saturating_mul(2).min(MAX_EXAMINED);
+    if let Some(walk) = walk_some(list) {
+        let few = list.len().min(limit as usize) as u16;
+        return apply_along(alloc, entries, walk, few, most as usize);
+    }
+    let few = few_oldest(list, limit);
+    let Ok(msgs) = list.copy_front(alloc, few) else {
+        return 0;
+    };
+    apply_each(alloc, entries, msgs.as_slice(), most as usize)
+}
+
 /// Applies as many of a list's oldest messages to the leaf as it has room for, in place.
 fn apply_front<U: Update>(
     alloc: Global,
@@ -198,16 +146,23 @@ fn apply_front<U: Update>(
     requires { IsSearchable child.old.value }
     ensures { Filled U.means most result list.now.0 child.old.value child.new.value }
 {
-    let limit = most.saturating_mul(2).min(MAX_EXAMINED);
-    if let Some(walk) = walk_some(list) {
-        let few = list.len().min(limit as usize) as u16;
-        return apply_walk(alloc, most, walk, few, child);
+    if list.len() == 0 {
+        // Unreachable, as is an inner node: the slot's leaf has room for its oldest message.
+        return StepReply::NotThere;
     }
-    let few = few_oldest(list, limit);
-    let Ok(msgs) = list.copy_front(alloc, few) else {
+    let Ok(own) = Arc::make_mut(child) else {
         return StepReply::NoMemory;
     };
-    apply_some(alloc, most, msgs.as_slice(), child)
+    let Body::Leaf(entries) = own.body_mut() else {
+        return StepReply::NotThere;
+    };
+    let count = apply_list(alloc, entries, list, most);
+    own.update_weight();
+    if count == 0 {
+        // There is room for the first message, so an allocation failed.
+        return StepReply::NoMemory;
+    }
+    StepReply::Did(count as u32)
 }
 
 /// Applies as many of a slot's oldest messages to its leaf as the leaf has room for, in place, if there is room for the
@@ -345,7 +300,7 @@ fn after_oldest<U: Update>(
 }
 
 /// Replaces the slot's leaf by entries to which its `count` oldest messages have been applied.
-fn keep<U: Update>(
+fn replace_leaf<U: Update>(
     alloc: Global,
     slot: &mut Slot<U>,
     count: u8,
@@ -445,7 +400,7 @@ fn apply_oldest<U: Update>(
     };
     if entries.len() <= shape.leaf as usize {
         // The messages gave the leaf no entry too many after all.
-        return keep(alloc, &mut slots[i], count, entries);
+        return replace_leaf(alloc, &mut slots[i], count, entries);
     }
     split_leaf(alloc, shape, root, slots, i, count, entries)
 }

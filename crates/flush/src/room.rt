@@ -19,7 +19,8 @@ use pathkey::Key;
 use pending::MsgRef;
 use std::alloc::Global;
 
-/// Whether a leaf of at most `most` entries stays one under a message that may give a value to this key alone, or to none.
+/// If true, a leaf of at most `most` entries has no more after a message that may give a value to this key alone or, if there is no
+/// key, to none.
 pub(crate) fn has_room<U: Update>(
     entries: &[(Key, U::Value)],
     given: Option<&Key>,

@@ -2,12 +2,12 @@
 use Rattle.std.proofs.Common.{◌≡◌, ℕ, zero, suc, ◌+◌, ◌-◌, ◌<◌, ◌≤◌, true, false, List, [], ◌∷◌, ◌++◌, length, get_or, take, drop, ap, sym, ◌∙◌, subst, Option, None, arith, length-take, length-drop, take-append-drop}
 use Rattle.std.proofs.lemmas.List.{get_or_default}
 use Rattle.pathkey.specs.Keys.{is_below}
-use Rattle.pathkey.proofs.KeyOrder.{le_lt, reaches-refl, not_before_from_reaches}
+use Rattle.pathkey.proofs.KeyOrder.{le_lt, not_before_from_reaches}
 use Rattle.message.specs.Ranges.{reaches, before}
 use Rattle.node.specs.Lawful.{Rises}
 use Rattle.node.specs.Meaning.{lookup}
 use Rattle.node.specs.Leaves.{IsDivided}
-use Rattle.node.proofs.EntryFacts.{first_below, first_reaches, rises-before, rises-others, lookup-front, lookup-back}
+use Rattle.node.proofs.EntryFacts.{first_below, rises-before, rises-others, lookup-front, lookup-back}
 use Rattle.node.proofs.EntryPlaces.{after_entry, entries_climb}
 
 module _ {V : Type 0} where

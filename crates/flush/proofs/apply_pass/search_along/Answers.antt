@@ -11,18 +11,18 @@ returns-then-more-len-clause-filled g c =
     let means = g.U.Update.means in
     let most = c.args.most in
     let mid = c.loop-key.entries.items in
-    let new = c.apply_run-more.new.entries.items in
-    let next = subst (λ ms. IsFilled means most ms c.apply_run-more.result mid new) c.loop-key.invariant.rest c.apply_run-more.ensures.filled in
-    filled_then means most (point_msgs c.args.walk) c.loop-key.count c.apply_run-more.result c.args.entries.now.items mid new c.loop-key.invariant.filled next
+    let new = c.apply_key-more.new.entries.items in
+    let next = subst (λ ms. IsFilled means most ms c.apply_key-more.result mid new) c.loop-key.invariant.rest c.apply_key-more.ensures.filled in
+    filled_then means most (point_msgs c.args.walk) c.loop-key.count c.apply_key-more.result c.args.entries.now.items mid new c.loop-key.invariant.filled next
 
 pub loop-key-preserved : goal.loop-key-preserved
 loop-key-preserved g c =
     let means = g.U.Update.means in
     let most = c.args.most in
-    let more = c.apply_run-more.result in
+    let more = c.apply_key-more.result in
     let mid = c.loop-key.entries.items in
-    let new = c.apply_run-more.new.entries.items in
-    let did = c.apply_run-more.ensures in
+    let new = c.apply_key-more.new.entries.items in
+    let did = c.apply_key-more.ensures in
     let next = subst (λ ms. IsFilled means most ms more mid new) c.loop-key.invariant.rest did.filled in
     record {
       filled = filled_then means most (point_msgs c.args.walk) c.loop-key.count more c.args.entries.now.items mid new c.loop-key.invariant.filled next;

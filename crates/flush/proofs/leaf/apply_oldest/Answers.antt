@@ -16,8 +16,8 @@ after_oldest-requires-clause-enough g c = may_wait g.U.Update.means c.args.shape
 pub returns-in_default-after : goal.returns-in_default-after
 returns-in_default-after g c = (refl, λ hi. not_there g.U.Update.means c.args.shape c.args.root c.args.i c.args.slots.now.items c.index.result.now c.requires.bound c.index.ensures (rw c.in_default-after.is at c.in-Ok.ensures.found))
 
-pub keep-requires : goal.keep-requires
-keep-requires g c =
+pub replace_leaf-requires : goal.replace_leaf-requires
+replace_leaf-requires g c =
     let xs = c.args.slots.now.items in
     let s = c.index_mut.result.now in
     let one = c.index.ensures ∙ get_or_default xs c.args.i c.index.result.now s c.requires.bound ∙ sym c.index_mut.ensures.value in
@@ -33,4 +33,4 @@ returns-then-len-shape g c =
     let found = rw c.in-Some.is at c.in-Ok.ensures.found in
     let after = subst (λ z. AfterOldest g.U.Update.means c.args.count z.pending.0 z.child.value c.in-Some.entries.items) one found in
     let u = subst (λ s. IsSearchable s.child.value) (sym c.index_mut.ensures.value) (searchable_child xs c.args.i s c.requires.bound c.requires.searchable.1) in
-    kept g.U.Update.means c.args.shape c.args.root c.args.i xs s c.requires.bound c.index_mut.ensures.value c.args.count c.keep.new.slot c.keep.result c.in-Some.entries.items c.keep.ensures u (c.requires.may s c.index_mut.ensures.value) after (rw c.in-Some.is at c.in-Ok.ensures.rising) (omega arith)
+    kept g.U.Update.means c.args.shape c.args.root c.args.i xs s c.requires.bound c.index_mut.ensures.value c.args.count c.replace_leaf.new.slot c.replace_leaf.result c.in-Some.entries.items c.replace_leaf.ensures u (c.requires.may s c.index_mut.ensures.value) after (rw c.in-Some.is at c.in-Ok.ensures.rising) (omega arith)

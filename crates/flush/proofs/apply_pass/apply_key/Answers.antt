@@ -6,7 +6,7 @@ use Rattle.pending.specs.OldestWalk.{first_len}
 use Rattle.node.proofs.Applying.{rising_applied}
 use Rattle.flush.proofs.Keyed.{first_point, first_pointed}
 use Rattle.flush.proofs.Merging.{filled_more}
-use Rattle.flush.proofs.apply_pass.apply_run.Goals as goal
+use Rattle.flush.proofs.apply_pass.apply_key.Goals as goal
 
 pub apply_at-requires-clause-place : goal.apply_at-requires-clause-place
 apply_at-requires-clause-place g c = λ k e.

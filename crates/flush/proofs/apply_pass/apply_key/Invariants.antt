@@ -3,7 +3,7 @@ use Rattle.point_ops.specs.PointOps.{point_msgs}
 use Rattle.node.specs.Lawful.{first_key, Rises}
 use Rattle.node.specs.Leaves.{IsPlace}
 use Rattle.flush.specs.Merge.{IsFilled}
-use Rattle.flush.proofs.apply_pass.apply_run.Given as goal
+use Rattle.flush.proofs.apply_pass.apply_key.Given as goal
 
 abbrev pub invariant-loop-count : goal.invariant-loop-count
 invariant-loop-count g l = record {
