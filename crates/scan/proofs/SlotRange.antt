@@ -1,7 +1,7 @@
 -- The value within the range of one slot.
 use Rattle.std.proofs.Common.{◌≡◌, ℕ, ◌+◌, ◌<◌, Bool, true, false, List, length, get_or, refl, ap, sym, ◌∙◌, subst, Option, None, cond, add-one}
 use Rattle.pathkey.specs.Keys.{is_below}
-use Rattle.pathkey.proofs.KeyOrder.{le_le, before_from_not_reaches}
+use Rattle.pathkey.proofs.KeyOrder.{before_from_not_reaches}
 use Rattle.message.specs.declared.msg.Msg.{Msg}
 use Rattle.message.specs.Ranges.{reaches}
 use Rattle.node.specs.declared.node.Slot.{Slot}
@@ -10,15 +10,12 @@ use Rattle.node.specs.Pure.{PNode, PSlots, none, more}
 use Rattle.node.specs.Lawful.{next_lo}
 use Rattle.node.specs.Meaning.{begins_by, slot_number, slots_value}
 use Rattle.node.specs.Site.{end_of}
+use Rattle.node.proofs.Placing.{begins_later}
 use Rattle.node.proofs.SlotFacts.{slots_value_is}
 use Rattle.scan.specs.Stretches.{slot_value}
 use Rattle.message.proofs.NextKey.{not_reaches}
 
 module _ {U V : Type 0} where
-  begins_later : (ss : PSlots U V) (c k : List ℕ) → reaches c k ≡ true → begins_by ss c ≡ true → begins_by ss k ≡ true
-  begins_later none c k h e = e
-  begins_later (more lo ms n ss) c k h e = le_le lo c k e h
-
   begins_after : (ss : PSlots U V) (k : List ℕ) → is_below k (next_lo None ss) ≡ true → begins_by ss k ≡ false
   begins_after none k h = refl
   begins_after (more lo ms n ss) k h = not_reaches k lo h

@@ -2,7 +2,7 @@
 //!
 //! The pairs read ahead are the next ones after the last requested key, without a gap; a flag says whether they are all
 //! that remain.
-ghost use Rattle.std.specs.Prelude.{◌≡◌, ◌+◌, ◌-◌, ◌*◌, ◌^◌, ℕ, [], List, Bool, true, false, eqb, max, min, IfOk, IfNone};
+ghost use Rattle.std.specs.Prelude.{◌≡◌, ◌+◌, ◌-◌, ◌*◌, ◌^◌, ℕ, [], List, Bool, true, false, eqb, max, min, IfOk, OnErr, IfNone};
 ghost use Rattle.std.specs.Fn.{ComputesKey};
 ghost use Rattle.std.specs.List.{starts_with};
 ghost use Rattle.message.specs.Ranges.{before};
@@ -72,6 +72,7 @@ impl<U: Update> Readahead<U> {
         ensures walks { self.new.walks ≡ raised (is_walked range.now.lo self.old.all self.old.pairs.items) 1 self.old.walks }
         ensures asked { self.new.asked ≡ raised (is_walked range.now.lo self.old.all self.old.pairs.items) (walked_for range.now.lo self.old.pairs.items self.old.most) self.old.asked }
         ensures most { self.new.most ≡ size_after range.now.lo self.old.all self.old.pairs.items self.old.most }
+        ensures err { OnErr result ((self.new.all ≡ self.old.all) × (self.new.pairs.items ≡ [])) }
     {
         if let Some(pair) = self.take_from(&range.lo) {
             return Ok(Some(pair));
@@ -94,6 +95,7 @@ impl<U: Update> Readahead<U> {
         ensures walks { self.new.walks ≡ min (self.old.walks + 1) (2 ^ 64 - 1) }
         ensures asked { self.new.asked ≡ min (self.old.asked + max self.old.most 1) (2 ^ 64 - 1) }
         ensures most { self.new.most ≡ min (2 * max self.old.most 1) 256 }
+        ensures err { OnErr result ((self.new.all ≡ self.old.all) × (self.new.pairs.items ≡ self.old.pairs.items)) }
     {
         // Never 0, but no type guarantees that.
         let most = self.most.max(1);
