@@ -1,4 +1,5 @@
-//! Compaction: the fullest slot's flush or, if it has no room, a step that makes room for it.
+//! Compaction: the fullest slot's flush, unless a step that reshapes the path to it comes first or, if it has no room, one that makes
+//! room for it.
 //!
 //! It is written once, for a tree by itself and for the live trees of a volume, whose steps also report which marks they
 //! leave.
@@ -48,7 +49,8 @@ pub trait CompactTarget<T> {
     /// A step to try if this one has no room; `None` if none is known.
     fn make_room(self, on: &T, step: TreeStep) -> Option<TreeStep>;
 
-    /// The step that splits a flush's node before the flush is tried; `None` if the flush is to be tried at once.
+    /// The step that reshapes the path to a flush before the flush is tried: a lower root, a merge, or a split of the flush's node;
+    /// `None` if the flush is to be tried at once.
     fn preemptive_split(self, on: &T, flush: TreeStep) -> Option<TreeStep>;
 
     /// Tries the step.
@@ -91,68 +93,68 @@ impl<U: Update> CompactTarget<Tree<U>> for SingleTree {
 /// Does the step or, if it has no room, a step that makes room for it; returns the step that was tried last.
 fn do_with_room<T, L: CompactTarget<T> + Copy>(
     alloc: Global,
-    lane: L,
+    target: L,
     on: &mut T,
     step: TreeStep,
     tries: u8,
 ) -> TriedStep
-    ensures answers { L.answers lane result.step result.reply on.old on.new }
+    ensures answers { L.answers target result.step result.reply on.old on.new }
     ensures refused { UnlessDid result.reply (on.new ≡ on.old) }
 {
-    let reply = lane.try_step(alloc, on, step);
+    let reply = target.try_step(alloc, on, step);
     if reply != StepReply::NoRoom || tries == 0 {
         return TriedStep { step, reply };
     }
-    let Some(other) = lane.make_room(on, step) else {
+    let Some(other) = target.make_room(on, step) else {
         return TriedStep { step, reply };
     };
-    do_with_room(alloc, lane, on, other, tries - 1)
+    do_with_room(alloc, target, on, other, tries - 1)
 }
 
-/// Splits the flush's node, or does what makes room for that, if this is better than to try the flush; `None` if it is not
-/// or none of these steps is done, and nothing has changed.
+/// Does what `preemptive_split` names, or what makes room for that; `None` if it names none or none of these steps is done, and
+/// nothing has changed.
 fn prepare<T, L: CompactTarget<T> + Copy>(
     alloc: Global,
-    lane: L,
+    target: L,
     on: &mut T,
     flush: TreeStep,
 ) -> Option<TriedStep>
     ensures unchanged { IfNone result (on.new ≡ on.old) }
-    ensures answers { IfSome result (λ turn. L.answers lane turn.step turn.reply on.old on.new) }
+    ensures answers { IfSome result (λ tried. L.answers target tried.step tried.reply on.old on.new) }
 {
-    let first = lane.preemptive_split(on, flush)?;
-    let turn = do_with_room(alloc, lane, on, first, MAX_ATTEMPTS);
-    match turn.reply {
-        StepReply::Did(_) => Some(turn),
+    let first = target.preemptive_split(on, flush)?;
+    let tried = do_with_room(alloc, target, on, first, MAX_ATTEMPTS);
+    match tried.reply {
+        StepReply::Did(_) => Some(tried),
         _ => None,
     }
 }
 
 /// Flushes the fullest slot of the tree or, if its flush has no room, does what makes room for it; `None` if nothing is
-/// pending. If a full leaf could not be split, since its node has all slots that it may have, the node is split first.
+/// pending. First it lowers the root, merges nearly empty neighbours on the path, or splits a full node (`preemptive_split`).
 ///
 /// The reply is `NoRoom` only if no step that makes room was found, or if [`MAX_ATTEMPTS`] of them had none either.
 pub fn compact_in<T, L: CompactTarget<T> + Copy>(
     alloc: Global,
-    lane: L,
+    target: L,
     on: &mut T,
 ) -> Option<TriedStep>
-    ensures nothing { (result ≡ None) ↔ (L.waiting lane on.old ≡ 0) }
+    ensures nothing { (result ≡ None) ↔ (L.waiting target on.old ≡ 0) }
     ensures unchanged { IfNone result (on.new ≡ on.old) }
-    ensures answers { IfSome result (λ turn. L.answers lane turn.step turn.reply on.old on.new) }
+    ensures answers { IfSome result (λ tried. L.answers target tried.step tried.reply on.old on.new) }
 {
-    let step = lane.heaviest(on)?;
-    if let Some(turn) = prepare(alloc, lane, on, step) {
-        return Some(turn);
+    let step = target.heaviest(on)?;
+    if let Some(tried) = prepare(alloc, target, on, step) {
+        return Some(tried);
     }
-    Some(do_with_room(alloc, lane, on, step, MAX_ATTEMPTS))
+    Some(do_with_room(alloc, target, on, step, MAX_ATTEMPTS))
 }
 
 /// What `compact_in` does, for a tree by itself.
 pub fn compact_step<U: Update>(alloc: Global, tree: &mut Tree<U>) -> Option<TriedStep>
     ensures nothing { (result ≡ None) ↔ (total Pending tree.old.root ≡ 0) }
     ensures unchanged { IfNone result (tree.new ≡ tree.old) }
-    ensures answers { IfSome result (λ turn. StepAnswers U.means turn.step.kind (way turn.step.at) turn.step.slot turn.reply tree.old tree.new) }
+    ensures answers { IfSome result (λ tried. StepAnswers U.means tried.step.kind (way tried.step.at) tried.step.slot tried.reply tree.old tree.new) }
 {
     compact_in(alloc, SingleTree, tree)
 }

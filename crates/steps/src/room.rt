@@ -199,7 +199,7 @@ fn shrink<U: Update>(tree: &Tree<U>, flush: TreeStep) -> Option<TreeStep> {
 ///
 /// A full leaf is split for what a flush brings, but not below such a node: there a flush takes no more than the messages
 /// that add no entry. If more of these arrive again and again, those after them would never move.
-fn part_full<U: Update>(tree: &Tree<U>, flush: TreeStep) -> Option<TreeStep> {
+fn split_if_full<U: Update>(tree: &Tree<U>, flush: TreeStep) -> Option<TreeStep> {
     let slots = slots_at(tree.root(), flush.at.numbers())?;
     let slot = slots.get(flush.slot as usize)?;
     let Body::Leaf(entries) = slot.child.body() else {
@@ -219,7 +219,7 @@ fn part_full<U: Update>(tree: &Tree<U>, flush: TreeStep) -> Option<TreeStep> {
 pub fn preemptive_split<U: Update>(tree: &Tree<U>, flush: TreeStep) -> Option<TreeStep> {
     match shrink(tree, flush) {
         Some(step) => Some(step),
-        None => part_full(tree, flush),
+        None => split_if_full(tree, flush),
     }
 }
 
@@ -284,7 +284,7 @@ fn unload<U: Update>(tree: &Tree<U>, slots: &[Slot<U>], split: TreeStep) -> Opti
 }
 
 /// What makes room if a node has too many messages for one of its leaves to be split: a flush of its fullest slot.
-fn flush_or_part<U: Update>(slots: &[Slot<U>], flush: TreeStep) -> Option<TreeStep> {
+fn flush_or_split<U: Update>(slots: &[Slot<U>], flush: TreeStep) -> Option<TreeStep> {
     let other = flush_of(slots, flush.at, fullest(slots)?)?;
     if other.slot != flush.slot {
         return Some(other);
@@ -301,7 +301,7 @@ fn widen_parent<U: Update>(tree: &Tree<U>, step: TreeStep) -> Option<TreeStep> {
     }
     match step.kind {
         StepKind::SplitInner => unload(tree, slots, step),
-        _ => flush_or_part(slots, step),
+        _ => flush_or_split(slots, step),
     }
 }
 
