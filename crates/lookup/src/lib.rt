@@ -1,7 +1,6 @@
 //! The value at a key, with the messages pending on the path to its leaf applied.
 //!
-//! Invariant of the descent: the value at the key is what the messages of the nodes passed so far make of the value below. Messages
-//! nearer to the root are newer.
+//! Invariant of the loop: the node reached means at the key what the first one means, since no slot passed had messages (`IsOnWay`).
 #![tactic(auto)]
 
 ghost use Rattle.std.specs.Prelude.{◌≡◌, IfOk, [], None};
