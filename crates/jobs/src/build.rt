@@ -8,8 +8,8 @@ ghost use Rattle.flush.specs.Sunk.{ConsumedInto};
 
 use crate::flush_below::flush_below;
 use crate::job::{Done, Job};
-use flush::inner::append_within;
 use message::{Msg, Update};
+use node::append::append_copies;
 use node::{Body, Node, Place};
 use pathkey::NoMemory;
 use std::alloc::Global;
@@ -34,7 +34,7 @@ fn grown<U: Update>(
         // Unreachable: the messages fit below an inner node.
         return Ok(copy);
     };
-    append_within(alloc, slots.as_mut_slice(), msgs, most as usize)?;
+    append_copies(alloc, slots.as_mut_slice(), msgs)?;
     own.update_weight();
     Ok(copy)
 }

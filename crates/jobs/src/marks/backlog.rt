@@ -19,7 +19,7 @@ pub struct Backlog {
     pub slot: u8,
     /// How many messages the job would move at most: those that are pending there, as many as the slot's child has room for.
     pub messages: usize,
-    /// How many messages a node of the tree may hold.
+    /// How many pending pieces a node below the root may hold.
     pub room: u16,
 }
 
