@@ -1,8 +1,8 @@
 //! A flush into an inner node.
 //!
 //! A walk over the oldest messages of the list shares those of each key, at once, with the slot that holds the key, which is sought
-//! forward from the slot of the key before; then they are dropped from the list together. Messages that cannot be shared are moved one key at a time,
-//! and range-deletes at the front of a list are copied, since their pieces need keys of their own.
+//! forward from the slot of the key before; then they are dropped from the list together. Messages that cannot be shared are moved
+//! one key at a time, and range-deletes at the front of a list are copied, since their pieces need keys of their own.
 //!
 //! Invariant: messages leave the slot in their order, the oldest first, and only once the child has them, where they are newer
 //! than what is pending. So the value at every key stays, also if an allocation fails half-way.

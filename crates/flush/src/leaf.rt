@@ -39,7 +39,7 @@ use node::cut::split_slot;
 use node::leaf::{applied, position, split_half};
 use node::{Body, Node, Place, Shape, Slot, SlotStep, StepReply, Tree};
 use pathkey::{Key, NoMemory};
-use pending::{MsgRef, OldestWalk, Pending};
+use pending::{OldestWalk, Pending};
 use std::alloc::Global;
 use std::sync::Arc;
 
@@ -198,7 +198,12 @@ fn up_to_overfull<U: Update>(entries: &[(Key, U::Value)], msgs: &[Msg<U>], most:
 
 /// How many messages of a walk there are up to and including the first for which a full leaf has no room; 0 if it has room for
 /// the `few` oldest.
-fn up_to_new<U: Update>(entries: &[(Key, U::Value)], walk: OldestWalk<'_, U>, few: u8) -> usize
+fn up_to_new<U: Update>(
+    entries: &[(Key, U::Value)],
+    walk: OldestWalk<'_, U>,
+    few: u8,
+    most: usize,
+) -> usize
     requires { Rises [] None entries.now }
     ensures within { result ≤ length (point_msgs walk.entry) }
     ensures few { result ≤ few }
@@ -206,27 +211,18 @@ fn up_to_new<U: Update>(entries: &[(Key, U::Value)], walk: OldestWalk<'_, U>, fe
     let few = few as usize;
     let mut walk = walk;
     let mut count = 0;
-    while let Some((key, len)) = walk.peek() {
+    while let Some((_, len)) = walk.peek() {
         if count >= few {
             return 0;
         }
         // Only the first operation of a key is read: if there are several, all are updates.
-        if may_create(walk.msg(0)) && position(entries, key).is_err() {
+        if !has_room::<U>(entries, walk.msg(0).created_key(), most) {
             return count + 1;
         }
         count += len.min(few);
         walk.pass();
     }
     0
-}
-
-/// Whether a message may give a value to a key without one. No claim depends on it.
-#[inline(always)]
-fn may_create<U: Update>(msg: MsgRef<'_, U>) -> bool {
-    match msg {
-        MsgRef::Put(_, _) | MsgRef::Edit(_, _) => true,
-        MsgRef::Del(_) | MsgRef::DelRange(_, _) => false,
-    }
 }
 
 /// How many of a slot's oldest messages there are up to and including the first for which its full leaf has no room; 0 if
@@ -245,7 +241,7 @@ fn oldest_to_cut<U: Update>(alloc: Global, slot: &Slot<U>, most: u16) -> u8
     }
     let few = slot.pending.len().min(most as usize).min(255);
     if let Some(walk) = walk_some(&slot.pending) {
-        return up_to_new::<U>(entries.as_slice(), walk, few as u8) as u8;
+        return up_to_new::<U>(entries.as_slice(), walk, few as u8, most as usize) as u8;
     }
     let Ok(msgs) = slot.pending.copy_front(alloc, few) else {
         // A failed allocation delays the split: only what there is room for is tried.
