@@ -27,7 +27,7 @@ use Rattle.meta_index.specs.Means.{metadata, IsMeantBy}
 
 -- ---- keys
 
-subtree_low : (p : Path) → (subtree p).lo ≡ enc p
+pub subtree_low : (p : Path) → (subtree p).lo ≡ enc p
 subtree_low [] = refl
 subtree_low (n ∷ p) = refl
 

@@ -10,7 +10,7 @@ ghost use Rattle.meta_index.specs.Below.{HasPair};
 ghost use Rattle.meta_index.specs.Means.{IsMeantBy, found_meta, metadata, moment_in, moment_reported, lookup_answer};
 ghost use Rattle.node.specs.Shapes.{is_shape};
 ghost use Rattle.pathkey.specs.Keys.{enc, next_key, subtree};
-ghost use Rattle.pathkey.specs.Names.{Name};
+ghost use Rattle.pathkey.specs.Names.{IsPath, Name};
 ghost use Rattle.reference.specs.Calls.{is_found, is_full, names_of, parent, parent_fault};
 ghost use Rattle.reference.specs.Reads.{look};
 ghost use Rattle.reference.specs.Pairs.{pairs_of};
@@ -58,6 +58,14 @@ impl MetaIndex {
         Ok(MetaIndex { tree })
     }
 
+    /// The metadata of the entry at the path, by one lookup; `None` if there is none. It fails only if an allocation fails.
+    pub fn entry(&self, alloc: Global, path: &Path) -> Result<Option<Meta>, NoMemory>
+        ensures value { IfOk result (λ meta. meta ≡ metadata self.now (enc path.now)) }
+        ensures valid { IfOk result (λ _. IsPath path.now) }
+    {
+        get(alloc, &self.tree, path.key())
+    }
+
     /// The entry at the path, or why there is none. It fails only if an allocation fails.
     ///
     /// It returns what the metadata under the keys of the path and of its ancestors say, also if the index abstracts to no
@@ -66,7 +74,7 @@ impl MetaIndex {
         ensures reported { IfOk result (λ at. (t : DirectoryTree) → IsMeantBy t self.now → at ≡ lookup_answer (entry_at t path.now)) }
         ensures value { IfOk result (λ at. found_meta at ≡ metadata self.now (enc path.now)) }
     {
-        match get(alloc, &self.tree, path.key())? {
+        match self.entry(alloc, path)? {
             Some(meta) => Ok(At::Found(meta)),
             None => self.find_obstacle(alloc, path),
         }
@@ -76,7 +84,7 @@ impl MetaIndex {
     pub fn has(&self, alloc: Global, path: &Path) -> Result<bool, NoMemory>
         ensures { IfOk result (λ there. (t : DirectoryTree) → IsMeantBy t self.now → there ≡ is_found (entry_at t path.now)) }
     {
-        let meta = get(alloc, &self.tree, path.key())?;
+        let meta = self.entry(alloc, path)?;
         Ok(meta.is_some())
     }
 
@@ -87,7 +95,7 @@ impl MetaIndex {
     {
         let mut ancestor = path.parent(alloc)?;
         'climb: while let Some(above) = ancestor {
-            if let Some(meta) = get(alloc, &self.tree, above.key())? {
+            if let Some(meta) = self.entry(alloc, &above)? {
                 return Ok(At::below(meta));
             }
             ancestor = above.parent(alloc)?;
@@ -238,32 +246,17 @@ impl MetaIndex {
         ensures listed { IfOk result (λ v. (t : DirectoryTree) → IsMeantBy t self.now → pairs_of v.items ≡ names_of (entry_at t path.now)) }
         ensures counted { IfOk result (λ v. (0 < searches.new) × (searches.new ≤ length v.items + 1) × (length v.items ≤ 256 * searches.new)) }
     {
-        let mut pairs = 0;
-        self.children_measured(alloc, path, searches, &mut pairs)
-    }
-
-    /// The entries of the directory at the path, as `children` lists them. It stores in `walks` how often it walked the tree, as
-    /// `children_counted` does, and in `pairs` how many pairs these walks requested in total: at most two for each entry, and 32
-    /// more, whatever is below the entries.
-    pub fn children_measured(
-        &self,
-        alloc: Global,
-        path: &Path,
-        walks: &mut u64,
-        pairs: &mut u64,
-    ) -> Result<Vec<(Kind, Vec<u8>)>, NoMemory>
-        ensures listed { IfOk result (λ v. (t : DirectoryTree) → IsMeantBy t self.now → pairs_of v.items ≡ names_of (entry_at t path.now)) }
-        ensures walked { IfOk result (λ v. (0 < walks.new) × (walks.new ≤ length v.items + 1)) }
-        ensures asked { IfOk result (λ v. (length v.items ≤ pairs.new) × (pairs.new ≤ 2 * length v.items + 32)) }
-        ensures each { OnOk result (pairs.new ≤ 256 * walks.new) }
-    {
         let mut entries = Vec::new(alloc);
-        self.list(alloc, path, &mut entries, walks, pairs)?;
+        let mut pairs = 0;
+        self.list(alloc, path, &mut entries, searches, &mut pairs)?;
         Ok(entries)
     }
 
-    /// Passes the entries of the directory at the path to the sink, in byte order of names. It stores in `walks` and `pairs` what
-    /// `children_measured` stores there. If an allocation fails, the sink may have some of the entries.
+    /// Passes the entries of the directory at the path to the sink, in byte order of names; none if no directory is there. If an
+    /// allocation fails, the sink may have some of them.
+    ///
+    /// It stores in `walks` how often it walked the tree: at most once for each entry, and once more. It stores in `pairs` how many
+    /// pairs these walks requested in total: at most two for each entry, and 32 more, whatever is below the entries.
     pub fn list<S: EntrySink>(
         &self,
         alloc: Global,

@@ -1,7 +1,5 @@
-use Rattle.std.proofs.Common.{List, ℕ, ap, subst, sym, ◌∙◌, Option}
-use Rattle.node.specs.Meaning.{value}
+use Rattle.std.proofs.Common.{subst, sym, ◌∙◌, Option}
 use Rattle.pathkey.specs.Names.{Path}
-use Rattle.meta_index.specs.Updates.{means}
 use Rattle.meta_index.specs.Means.{Decides}
 use Rattle.meta_index.proofs.Climbing.{decided, height_falls, parent_decides, parent_decides_for}
 use Rattle.meta_index.proofs.index.MetaIndex.find_obstacle.Goals as goal
@@ -15,13 +13,13 @@ climb-smaller c =
 
 pub climb-preserved : goal.climb-preserved
 climb-preserved c =
-    let none = sym c.in_default-2.is ∙ c.in_ok-meta.ensures ∙ ap (λ (k : List ℕ). value means c.args.self.now.tree.root k) c.key.ensures.value in
+    let none = sym c.in_default-2.is ∙ c.in_ok-meta.ensures.value in
     let here = subst (λ (a : Option Path). Decides c.args.self.now c.args.path.now a) c.in-Some.is c.climb.invariant in
     subst (λ (a : Option Path). Decides c.args.self.now c.args.path.now a) (sym c.in_ok-ancestor-2.ensures)
-    (parent_decides_for c.args.self.now c.args.path.now c.in-Some.above c.key.ensures.valid none here)
+    (parent_decides_for c.args.self.now c.args.path.now c.in-Some.above c.in_ok-meta.ensures.valid none here)
 
 pub returns-in-Some-2-clause-reported : goal.returns-in-Some-2-clause-reported
 returns-in-Some-2-clause-reported c =
-    let some = sym c.in-Some-2.is ∙ c.in_ok-meta.ensures ∙ ap (λ (k : List ℕ). value means c.args.self.now.tree.root k) c.key.ensures.value in
+    let some = sym c.in-Some-2.is ∙ c.in_ok-meta.ensures.value in
     let here = subst (λ (a : Option Path). Decides c.args.self.now c.args.path.now a) c.in-Some.is c.climb.invariant in
-    decided c.args.self.now c.args.path.now c.in-Some.above c.in-Some-2.meta c.below.result c.key.ensures.valid some here c.below.ensures.reported
+    decided c.args.self.now c.args.path.now c.in-Some.above c.in-Some-2.meta c.below.result c.in_ok-meta.ensures.valid some here c.below.ensures.reported
