@@ -14,12 +14,8 @@ use Rattle.pathkey.proofs.OrderFacts.{apart, same_true}
 use Rattle.scan.specs.Pairs.{HasAll, HasNone}
 use Rattle.scan.proofs.Parts.{IsPart, part_start, part_more, scan_full}
 use Rattle.std.proofs.lemmas.List.{append-nil}
+use Rattle.meta_index.proofs.BelowPath.{subtree_low}
 use Rattle.call_compiler.specs.Moves.{AreFirstBelow, Clears}
-
--- the range of what is at or below a path begins at its key
-low_end : (p : Path) → (subtree p).lo ≡ enc p
-low_end [] = refl
-low_end (n ∷ p) = refl
 
 -- a path's key is at or below it
 pub own_key : (p : Path) → is_in (subtree p) (enc p) ≡ true
@@ -70,6 +66,6 @@ own_first f o v here =
     let none : HasNone f lo (Some (enc o)) = λ k w. absurd (
     let q = both (reaches lo k) (before k (enc o)) w in
     let n : before k lo ≡ false = not_before_from_reaches lo k q.0 in
-    let b : before k lo ≡ true = ap (before k) (low_end o) ∙ q.1 in
+    let b : before k lo ≡ true = ap (before k) (subtree_low o) ∙ q.1 in
     cc) in
     scan_full f lo hi (next_key (enc o)) ((enc o, v) ∷ []) (part_more f lo hi lo [] start (enc o, v) (next_key (enc o)) ((enc o, v) ∷ []) (own_key o, here, none) refl refl) 1 refl

@@ -3,7 +3,7 @@ use Rattle.std.proofs.Common.{◌≡◌, ℕ, ◌+◌, ◌≤◌, List, [], ◌�
 use Rattle.std.specs.Prelude.{Contains, nat_lt}
 use Rattle.std.specs.List.{list_any}
 use Rattle.std.proofs.lemmas.Bool.{le-ltb}
-use Rattle.std.proofs.lemmas.List.{append-nil, length-map, drop_at}
+use Rattle.std.proofs.lemmas.List.{append-nil, length-map, drop_at, nil_from_length}
 use Rattle.std.proofs.lemmas.Option.{same_Some}
 use Rattle.block_index.specs.declared.index.BlockIndex.{BlockIndex}
 use Rattle.block_index.specs.declared.update.BlockUpdate.{BlockUpdate}
@@ -99,10 +99,6 @@ module _ (m : MetaIndex) (o n : Path) (found : reported.At) (first puts : List (
 
 -- ---- blocks
 
-no_longer : {X : Type 0} (xs : List X) → length xs ≤ 0 → xs ≡ []
-no_longer [] h = refl
-no_longer (x ∷ xs) h = absurd (omega (arith, h))
-
 module _ (d : BlockIndex) (o n : Path) (to : reported.At) (first puts : List (Msg BlockUpdate (List ℕ))) (few : length first ≤ 1) (replaces : (t : Tree) → IsTree t → to ≡ lookup_answer (entry_at t n) → first ≡ replaced (entry_at t n) n) (p : Puts (blocks d) o n first puts) where
   -- puts of all blocks, and then a range-delete
   pub some_move : (msgs : List (Msg BlockUpdate (List ℕ))) → msgs ≡ puts ++ DelRange (subtree o) ∷ [] → MovesBlocks d o n to msgs
@@ -124,7 +120,7 @@ module _ (d : BlockIndex) (o n : Path) (to : reported.At) (first puts : List (Ms
   -- where there is no block, no message is needed
   pub none_move : length puts ≤ length first → MovesBlocks d o n to puts
   none_move short =
-      let none : p.0 ≡ [] = no_longer p.0 (omega (arith, short, ap (length {A = Msg BlockUpdate (List ℕ)}) p.2, length-append first (map (put_under o n) p.0), length-map p.0 (put_under {U = BlockUpdate} {V = List ℕ} o n))) in
+      let none : p.0 ≡ [] = nil_from_length p.0 (omega (arith, short, ap (length {A = Msg BlockUpdate (List ℕ)}) p.2, length-append first (map (put_under o n) p.0), length-map p.0 (put_under {U = BlockUpdate} {V = List ℕ} o n))) in
       record {
         first = first;
         few = few;

@@ -6,7 +6,6 @@ use Rattle.meta_index.specs.Means.{metadata}
 use Rattle.pathkey.specs.Keys.{Key, block_key}
 use Rattle.pathkey.specs.Names.{Path}
 use Rattle.pathkey.specs.declared.errno.Errno.{Errno}
-use Rattle.pathkey.specs.declared.range.KeyRange.{KeyRange}
 use Rattle.reference.specs.Calls.{does}
 use Rattle.reference.specs.Indexes.{Blocks, BlocksChange, BlocksMean, Hold, IndexesMean}
 use Rattle.reference.specs.Reads.{Bytes, look}
@@ -64,10 +63,6 @@ pub record Shares (d : Blocks) (p : Path) (s : ℕ) (q : Path) (t n : ℕ) (ms :
 -- the same if the blocks are those of a tree
 abbrev pub SharesWhereMeant : Blocks → Path → ℕ → Path → ℕ → ℕ → BlockMessages → Type 0
 SharesWhereMeant d p s q t n ms = (u : Tree) → BlocksMean u d → Shares d p s q t n ms
-
--- the keys of the blocks of p from number f up to l
-abbrev pub blocks_between : Path → ℕ → ℕ → KeyRange
-blocks_between p f l = record { lo = block_key p f; hi = Some (block_key p l) }
 
 -- how many whole blocks a copy of n bytes at off to target shares: none unless both begin at a block's start
 abbrev pub whole_of : ℕ → ℕ → ℕ → ℕ

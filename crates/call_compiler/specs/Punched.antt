@@ -7,6 +7,7 @@ use Rattle.meta_index.specs.Means.{metadata}
 use Rattle.pathkey.specs.Keys.{block_key}
 use Rattle.pathkey.specs.Names.{Path}
 use Rattle.pathkey.specs.declared.errno.Errno.{Errno}
+use Rattle.pathkey.specs.declared.range.KeyRange.{KeyRange}
 use Rattle.reference.specs.Calls.{bytes_of, does}
 use Rattle.reference.specs.Indexes.{Blocks, IndexesMean, most_blocks}
 use Rattle.reference.specs.Tree.{Tree, At, entry_at}
@@ -52,11 +53,15 @@ AppliesZeros d p a b ms =
     ((ms ≡ []) × ((b ≤ a) ⊎ (d (block_key p (a / 4096)) ≡ None)))
     ⊎ ((a < b) × (ms ≡ patch_of p a (replicate (b - a) 0) (a / 4096) ∷ []))
 
+-- the keys of the blocks of p from number f up to l
+abbrev pub blocks_between : Path → ℕ → ℕ → KeyRange
+blocks_between p f l = record { lo = block_key p f; hi = Some (block_key p l) }
+
 -- those that delete the blocks of p from number f up to l
 abbrev pub TakesOut : Path → ℕ → ℕ → BlockMessages → Type 0
 TakesOut p f l ms =
     ((l ≤ f) × (ms ≡ []))
-    ⊎ ((f < l) × (ms ≡ DelRange (record { lo = block_key p f; hi = Some (block_key p l) }) ∷ []))
+    ⊎ ((f < l) × (ms ≡ DelRange (blocks_between p f l) ∷ []))
 
 -- the first block that begins at or after off
 abbrev pub block_behind : ℕ → ℕ

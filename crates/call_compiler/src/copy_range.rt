@@ -3,19 +3,19 @@ ghost use Rattle.std.specs.Prelude.{◌≡◌, ◌≢◌, ◌⊎◌, ◌<◌, �
 ghost use Rattle.call_compiler.specs.Punched.{TakesOut};
 ghost use Rattle.block_index.specs.Means.{blocks};
 ghost use Rattle.call_compiler.specs.Compiled.{messages};
-ghost use Rattle.call_compiler.specs.Copied.{HoldsOfBytes, IsCopied, Overwrites, SharesWhereMeant, blocks_between, whole_of};
+ghost use Rattle.call_compiler.specs.Copied.{HoldsOfBytes, IsCopied, Overwrites, SharesWhereMeant, whole_of};
 ghost use Rattle.pathkey.specs.Keys.{block_key as key_of_block};
 ghost use Rattle.reference.specs.Indexes.{Blocks, most_blocks};
 
 use crate::batch::{Batch, refused, without_messages};
 use crate::files::find_file;
 use crate::indexes::Indexes;
-use crate::punch::{push_range, reached};
+use crate::punch::{blocks_between, push_range, reached};
 use crate::write::growth;
 use block_index::{BLOCK, BlockIndex, BlockUpdate};
 use bytes::Bytes;
 use message::Msg;
-use pathkey::{Errno, Key, KeyRange, NoMemory, Path, block_key};
+use pathkey::{Errno, Key, NoMemory, Path, block_key};
 use reference::{Reply, fits_file};
 use scan::readahead::Readahead;
 use std::alloc::Global;
@@ -187,16 +187,6 @@ fn is_between(number: u32, from: u32, end: u32) -> bool
     ensures no { result ≡ false → (number < from) ⊎ (end ≤ number) }
 {
     from <= number && number < end
-}
-
-/// The keys of the blocks of a path from number `first` up to but excluding `end`.
-fn blocks_between(alloc: Global, path: &Path, first: u32, end: u32) -> Result<KeyRange, NoMemory>
-    requires file { path.now ≢ [] }
-    ensures { IfOk result (λ r. r ≡ blocks_between path.now first end) }
-{
-    let lo = block_key(alloc, path, first)?;
-    let hi = Some(block_key(alloc, path, end)?);
-    Ok(KeyRange { lo, hi })
 }
 
 /// The number of the block that has the key.

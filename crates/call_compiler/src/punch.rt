@@ -4,7 +4,7 @@ ghost use Rattle.std.specs.Prelude.{◌≡◌, ◌≢◌, ◌<◌, ◌≤◌, �
 ghost use Rattle.block_index.specs.Changed.{Messages as BlockMessages};
 ghost use Rattle.block_index.specs.Means.{blocks};
 ghost use Rattle.call_compiler.specs.Compiled.{messages};
-ghost use Rattle.call_compiler.specs.Punched.{IsHole, IsPunched, AppliesZeros, TakesOut, reached_of};
+ghost use Rattle.call_compiler.specs.Punched.{IsHole, IsPunched, AppliesZeros, TakesOut, blocks_between, reached_of};
 
 use crate::batch::{Batch, refused, without_messages};
 use crate::files::{FoundFile, find_file};
@@ -132,8 +132,21 @@ pub(crate) fn push_range(
     if first >= end {
         return Ok(());
     }
+    msgs.push(Msg::DelRange(blocks_between(alloc, path, first, end)?))?;
+    Ok(())
+}
+
+/// The keys of the blocks of a path from number `first` up to but excluding `end`.
+pub(crate) fn blocks_between(
+    alloc: Global,
+    path: &Path,
+    first: u32,
+    end: u32,
+) -> Result<KeyRange, NoMemory>
+    requires file { path.now ≢ [] }
+    ensures { IfOk result (λ r. r ≡ blocks_between path.now first end) }
+{
     let lo = block_key(alloc, path, first)?;
     let hi = Some(block_key(alloc, path, end)?);
-    msgs.push(Msg::DelRange(KeyRange { lo, hi }))?;
-    Ok(())
+    Ok(KeyRange { lo, hi })
 }
