@@ -19,6 +19,7 @@ use Rattle.edits.specs.declared.apply.EditFault.{EditFault}
 use Rattle.edits.specs.declared.apply.EditFault.TheVariants.{Memory, Bad, Unfit}
 use Rattle.edits.specs.declared.edit.Edit.{Edit}
 use Rattle.edits.proofs.BadFacts.{all_edits, bad_behind, bad_line, bad_stop, behind_end, many_bytes, one_more}
+use Rattle.edits.proofs.Removals.{edited_append}
 
 -- ---- edits that were done
 
@@ -32,10 +33,6 @@ stays_through a b c h k = record {
   kept = kept_through (live_of a) (live_of b) (live_of c) h.marks k.marks h.kept k.kept;
 }
 
-edited_through : (es fs : List Edit) (t u v : Tree) → AreEdited es t u → AreEdited fs u v → AreEdited (es ++ fs) t v
-edited_through [] fs t u v h k = subst (λ (x : Tree). AreEdited fs x v) h k
-edited_through (e ∷ es) fs t u v h k = (h.0, h.1, edited_through es fs h.0 u v h.2 k)
-
 done_none : (v : PVolume) → DoesEdits [] v v
 done_none v = record { stays = stays_same v; means = λ w m. (w.live, refl, m) }
 
@@ -45,7 +42,7 @@ done_more es fs a b c h k = record {
   means = λ w m.
       let first = h.means w m in
       let second = k.means (record w { live = first.0 }) first.2 in
-      (second.0, edited_through es fs w.live first.0 second.0 first.1 second.1, second.2);
+      (second.0, edited_append es fs w.live first.0 second.0 first.1 second.1, second.2);
 }
 
 -- ---- lines that were done

@@ -1,9 +1,9 @@
 -- Edits that fit make a tree.
-use Rattle.std.proofs.Common.{◌≡◌, ◌≢◌, ℕ, ◌*◌, ◌^◌, ◌<◌, ◌≤◌, List, [], ◌∷◌, ◌++◌, length, replicate, refl, sym, ap, subst, ◌∙◌, arith, false, Option, Some, None}
+use Rattle.std.proofs.Common.{◌≡◌, ◌≢◌, ℕ, ◌*◌, ◌^◌, ◌<◌, ◌≤◌, List, [], ◌∷◌, ◌++◌, length, replicate, refl, sym, ap, subst, ◌∙◌, arith, Option, Some, None}
 use Rattle.std.specs.Prelude.{fold}
 use Rattle.std.proofs.lemmas.List.{length-replicate}
 use Rattle.pathkey.specs.Names.{IsPath, Name, parent}
-use Rattle.reference.specs.Calls.{is_directory, is_found, parent_fault, path_fault}
+use Rattle.reference.specs.Calls.{is_directory, parent_fault, path_fault}
 use Rattle.reference.specs.Indexes.{meta_of}
 use Rattle.reference.specs.Plant.{modified_of}
 use Rattle.reference.specs.Reads.{Bytes, Directory, Seen, Sight, look, redated, sight, sighted}
@@ -21,6 +21,7 @@ use Rattle.edits.specs.Edits.{Fits, FitsBlock, IsEdited, altered, block_at, seen
 use Rattle.edits.specs.declared.edit.Change.{Change}
 use Rattle.edits.specs.declared.edit.Change.TheVariants.{Remove, Add, Alter, Block}
 use Rattle.edits.proofs.BlockFacts.{length-block}
+use Rattle.edits.proofs.Removing.{unfound_from}
 
 -- an edit from what it changes at its path alone
 pub edited_at : (p : Path) (c : Change) (t u : Tree) (s : Option Sight) → IsTree u → Fits c (sight t p) → IsPoint t u p s → s ≡ seen_after c (sight t p) → IsEdited (record { path = p; change = c }) t u
@@ -38,12 +39,6 @@ seen_there t p s e = at (entry_at t p) e
     at (Found x) h = refl
     at Missing h = absurd (cc)
     at Blocked h = absurd (cc)
-
-not_found : (a : At) → sighted a ≡ None → is_found a ≡ false
-not_found (Found (Dir date es)) h = absurd (cc)
-not_found (Found (File date b)) h = absurd (cc)
-not_found Missing h = refl
-not_found Blocked h = refl
 
 -- nothing is seen below a path with no entry below it
 bare_from : (t : Tree) (p : Path) → ((n : Name) → sight t (p ++ n ∷ []) ≡ None) → Bare (entry_at t p)
@@ -79,11 +74,11 @@ pub put_new : (t : Tree) (p : Path) (m : Meta) → IsTree t → IsPath p → p �
 put_new t p (DirMeta at) is path ne none above may =
     let parent_is : parent_fault t p ≡ None = directory_parent t p above in
     let u : Tree = edited t p (Some (Dir at nothing)) in
-    (u, edited_at p (Add (DirMeta at)) t u (Some (Seen Directory at)) (put_directory t p at is path may.early ne parent_is) none (point_from_edit t u p (Some (Dir at nothing)) ne parent_is (bare_none (entry_at t p) (not_found (entry_at t p) none)) (bare_empty at) refl) refl)
+    (u, edited_at p (Add (DirMeta at)) t u (Some (Seen Directory at)) (put_directory t p at is path may.early ne parent_is) none (point_from_edit t u p (Some (Dir at nothing)) ne parent_is (bare_none (entry_at t p) (unfound_from (entry_at t p) none)) (bare_empty at) refl) refl)
 put_new t p (FileMeta n at) is path ne none above may =
     let parent_is : parent_fault t p ≡ None = directory_parent t p above in
     let u : Tree = edited t p (Some (File at (replicate n 0))) in
-    (u, edited_at p (Add (FileMeta n at)) t u (Some (Seen (Bytes (replicate n 0)) at)) (put_file t p at (replicate n 0) is path may.early (all_zeros n (may.short n at refl)) ne parent_is) none (point_from_edit t u p (Some (File at (replicate n 0))) ne parent_is (bare_none (entry_at t p) (not_found (entry_at t p) none)) (bare_file at (replicate n 0)) refl) refl)
+    (u, edited_at p (Add (FileMeta n at)) t u (Some (Seen (Bytes (replicate n 0)) at)) (put_file t p at (replicate n 0) is path may.early (all_zeros n (may.short n at refl)) ne parent_is) none (point_from_edit t u p (Some (File at (replicate n 0))) ne parent_is (bare_none (entry_at t p) (unfound_from (entry_at t p) none)) (bare_file at (replicate n 0)) refl) refl)
 
 -- a file with other bytes
 other_bytes : (t : Tree) (p : Path) (b c : List ℕ) (date at : ℕ) → IsTree t → sight t p ≡ Some (Seen (Bytes b) date) → IsContent c → IsMoment at → (u : Tree) × IsTree u × IsPoint t u p (Some (Seen (Bytes c) at))

@@ -1,5 +1,5 @@
 -- A block of a file that gets new bytes while the file keeps its mtime.
-use Rattle.std.proofs.Common.{◌≡◌, ℕ, ◌+◌, ◌-◌, ◌*◌, ◌<◌, ◌≤◌, ◌^◌, min, [], ◌∷◌, List, length, take, drop, false, None, Option, Some, arith, length-drop, length-take, refl, sym, ap, ◌∙◌, subst}
+use Rattle.std.proofs.Common.{◌≡◌, ℕ, ◌+◌, ◌-◌, ◌*◌, ◌<◌, ◌≤◌, ◌^◌, min, [], ◌∷◌, List, length, take, drop, false, None, Option, Some, arith, refl, sym, ap, ◌∙◌, subst}
 use Rattle.std.specs.Prelude.{nat_lt}
 use Rattle.std.proofs.lemmas.Bool.{le-ltb}
 use Rattle.reference.specs.Calls.{Outcome, greatest_file, is_directory, is_empty, path_fault, changed, does}
@@ -15,10 +15,8 @@ use Rattle.reference.proofs.Standing.{file_sighted}
 use Rattle.edits.specs.Edits.{FitsBlock, block_at, rewritten}
 use Rattle.edits.specs.declared.edit.Change.TheVariants.{Block}
 use Rattle.edits.specs.declared.edit.Edit.{Edit}
+use Rattle.edits.proofs.BlockFacts.{length-block}
 use Rattle.edits.proofs.Ways.{CarriesOut, carries_done, done_from, edited_at}
-
-pub length_block : (i : ℕ) (b : List ℕ) → length (block_at i b) ≡ min 4096 (length b - 4096 * i)
-length_block i b = simp (length-take, length-drop) refl
 
 some_bytes : (w : List ℕ) → 0 < length w → is_empty w ≡ false
 some_bytes [] h = absurd (omega arith)
@@ -72,7 +70,7 @@ write_carries t p i at old new b is seen fits =
     there = file_sighted (entry_at t p) b at seen
 
     size : length w ≡ min 4096 (length b - 4096 * i)
-    size = length-sized new (length (block_at i b)) ∙ length_block i b
+    size = length-sized new (length (block_at i b)) ∙ length-block i b
 
     some : 0 < length w
     some = omega (arith, size, fits.inside)

@@ -28,7 +28,8 @@ use Rattle.edits.specs.declared.edit.Change.TheVariants.{Add, Alter, Block, Remo
 use Rattle.edits.specs.declared.edit.Edit.{Edit}
 use Rattle.edits.proofs.Adding.{plant_carries, planting}
 use Rattle.edits.proofs.Altering.{file_of, mtime_carries, truncate_carries}
-use Rattle.edits.proofs.Patching.{length_block, write_carries}
+use Rattle.edits.proofs.BlockFacts.{length-block}
+use Rattle.edits.proofs.Patching.{write_carries}
 use Rattle.edits.proofs.Removing.{rmdir_carries, unlink_carries}
 use Rattle.edits.proofs.Trying.{call_tries, mtime_tries, plant_tries, tried, unfit}
 use Rattle.edits.proofs.Ways.{CarriesOut}
@@ -123,7 +124,7 @@ module _ (p : Path) (i : ℕ) (digest : Option (List ℕ)) (bytes : List ℕ) (v
     one_length w m b date seen = let e : Some (FileMeta (length b) date) ≡ Some (FileMeta len at) = sym (ap meta_of seen) ∙ has w m in cc
 
     pub no_room : (size : ℕ) → size ≡ min 4096 (len - 4096 * i) → size < length bytes → Performs rewrites (Ok false) v v
-    no_room size is more = unfit rewrites v (λ w m fits. absurd (omega (arith, fits.3.few, length_block i fits.0, one_length w m fits.0 fits.1 fits.2, is, more)))
+    no_room size is more = unfit rewrites v (λ w m fits. absurd (omega (arith, fits.3.few, length-block i fits.0, one_length w m fits.0 fits.1 fits.2, is, more)))
 
     pub other_digest : (start : ℕ) → start ≡ 4096 * i → EachSight v p (λ s. (b : List ℕ) (date : ℕ) → s ≡ Some (Seen (Bytes b) date) → block_digest (take 4096 (drop start b)) ≢ digest) → Performs rewrites (Ok false) v v
     other_digest start is other = unfit rewrites v (λ w m fits. other w m fits.0 fits.1 fits.2 (ap (λ (x : ℕ). block_digest (take 4096 (drop x fits.0))) is ∙ fits.3.same))
@@ -139,7 +140,7 @@ module _ (p : Path) (i : ℕ) (digest : Option (List ℕ)) (bytes : List ℕ) (v
             let file = file_of (entry_at w.live p) len at (has w m) in
             let b : List ℕ = file.0 in
             let long : length b ≡ len = file.2 in
-            let room : size ≡ length (block_at i b) = whole ∙ ap (λ (x : ℕ). min 4096 (x - 4096 * i)) (sym long) ∙ sym (length_block i b) in
+            let room : size ≡ length (block_at i b) = whole ∙ ap (λ (x : ℕ). min 4096 (x - 4096 * i)) (sym long) ∙ sym (length-block i b) in
             let fits : FitsBlock i digest bytes b = record {
               inside = omega (arith, inside, long);
               few = omega (arith, few, room);

@@ -129,7 +129,7 @@ more_line a l h whole = All-cons (λ b. b ≢ 10) a l h whole
 joined : (l m : Line) → IsLine l → IsLine m → IsLine (l ++ 32 ∷ m)
 joined l m h k = All-append (λ b. b ≢ 10) l (32 ∷ m) h (more_line 32 m (omega arith) k)
 
-decimal_line : (n : ℕ) → n < 2 ^ 64 → IsLine (decimal n)
+pub decimal_line : (n : ℕ) → n < 2 ^ 64 → IsLine (decimal n)
 decimal_line n h = all_visible 10 (decimal n) (omega arith) (decimal_visible n h)
 
 hex_line : (v : List ℕ) → IsLine (hex_text v)

@@ -4,13 +4,11 @@ ghost use Rattle.edits.specs.Edits.{block_digest};
 ghost use Rattle.reference.specs.Image.{trimmed};
 ghost use Rattle.reference.specs.Tree.{sized};
 
+use block_index::BLOCK;
 use pathkey::NoMemory;
 use sha2::{Digest, Sha256};
 use std::alloc::Global;
 use textio::text::trimmed_len;
-
-/// The number of bytes of a block, if it is not the last of its file.
-pub(crate) const BLOCK: u64 = 4096;
 
 /// Where a block of a file of `len` bytes begins, and the number of its bytes; `None` if the file has no such block.
 pub(crate) fn block_span(number: u64, len: u64) -> Option<(u64, usize)>

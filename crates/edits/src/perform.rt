@@ -13,8 +13,9 @@ ghost use Rattle.reference.specs.Reads.{Bytes as FileBytes, Directory, Seen, sig
 ghost use Rattle.reference.specs.Worlds.{World};
 ghost use Rattle.volume.specs.Volumes.{Means};
 
-use crate::block::{BLOCK, block_span, has_digest, zero_filled};
+use crate::block::{block_span, has_digest, zero_filled};
 use crate::edit::{Change, Edit};
+use block_index::BLOCK;
 use lookup::get;
 use pathkey::{Errno, NoMemory, Path};
 use reference::Meta;
