@@ -17,9 +17,6 @@ use Rattle.delta.proofs.TextFacts.{commands_append, end_is_no_command, end_line,
 
 -- ---- commands that were passed
 
-pub passes_none : (text : Text) → Passes [] text text
-passes_none text = record { commands = All-nil IsCommand; cut = refl }
-
 pub passes_more : (cs : List Command) (text rest line behind : Text) (t : DeltaCommand) → Passes cs text rest → IsNext rest line t behind → Passes (cs ++ command_of t line ∷ []) text behind
 passes_more cs text rest line behind t p n = record {
   commands = All-push IsCommand cs (command_of t line) p.commands n.tells.command;

@@ -26,6 +26,7 @@ use Rattle.reference.specs.Indexes.{Hold, IndexesMean, Metadata, Blocks, BlockOf
 use Rattle.reference.specs.Reads.{Bytes, Seen, look, look_of, sight}
 use Rattle.reference.specs.Tree.{Path, Tree}
 use Rattle.reference.proofs.Edits.{look_from, look_sighted}
+use Rattle.reference.proofs.FileBlocks.{byte-held}
 use Rattle.reference.proofs.ImageBytes.{trimmed_byte}
 use Rattle.reference.proofs.LastBlock.{trimmed_same}
 use Rattle.reference.proofs.TreeEdits.{MayBeSeen, looks_may}
@@ -39,13 +40,9 @@ use Rattle.delta.specs.Changed.{AreAlikeBlocks, AreBlocksDiffering, AreChanged, 
 
 -- ---- bytes of a block
 
-pub held_byte : (o : Option (List ℕ)) (j : ℕ) → byte_of o j ≡ get_or (held o) j 0
-held_byte None j = refl
-held_byte (Some v) j = refl
-
 -- blocks that are alike have the same bytes
 pub alike_bytes : (o r : Option (List ℕ)) (j : ℕ) → trimmed (held o) ≡ trimmed (held r) → byte_of o j ≡ byte_of r j
-alike_bytes o r j e = held_byte o j ∙ sym (trimmed_byte (held o) j) ∙ ap (λ (x : List ℕ). get_or x j 0) e ∙ trimmed_byte (held r) j ∙ sym (held_byte r j)
+alike_bytes o r j e = byte-held o j ∙ sym (trimmed_byte (held o) j) ∙ ap (λ (x : List ℕ). get_or x j 0) e ∙ trimmed_byte (held r) j ∙ sym (byte-held r j)
 
 -- blocks that are alike hold at most one list of bytes of a length
 same_bytes : (f g : ℕ → Option (List ℕ)) (b c : List ℕ) → Hold f b → Hold g c → ((i : ℕ) → i < most_blocks → trimmed (held (f i)) ≡ trimmed (held (g i))) → length b ≡ length c → length b ≤ 2 ^ 40 → b ≡ c
@@ -77,7 +74,7 @@ past_block f b i j h li lj = elim (f i) as (λ o. f i ≡ o → get_or (held o) 
 
 one_file : (f g : ℕ → Option (List ℕ)) (b : List ℕ) (i : ℕ) → Hold f b → Hold g b → i < most_blocks → trimmed (held (f i)) ≡ trimmed (held (g i))
 one_file f g b i h k li = trimmed_same (held (f i)) (held (g i)) (λ j. ⊎_elim
-    (λ (lt : j < 4096). sym (held_byte (f i) j) ∙ h.byte i j li lt ∙ sym (k.byte i j li lt) ∙ held_byte (g i) j)
+    (λ (lt : j < 4096). sym (byte-held (f i) j) ∙ h.byte i j li lt ∙ sym (k.byte i j li lt) ∙ byte-held (g i) j)
     (λ (le : 4096 ≤ j). past_block f b i j h li le ∙ sym (past_block g b i j k li le))
     (cases_lt j 4096))
 
@@ -218,17 +215,6 @@ agree_either m b n d i j k one other = record {
     neither : (a b : Bool) → (a || b) ≡ false → (a ≡ false) × (b ≡ false)
     neither true b h = absurd (cc)
     neither false b h = (refl, h)
-
--- with all keys there is nothing to agree on
-pub agree_nowhere : (every : TouchedKeys) (i j : Indexes) → ((q : Key) → is_touched (touched_of every) q ≡ true) → AgreeOutside (is_in_either every every) (is_in_either every every) i j
-agree_nowhere every i j all = record { meta = λ q h. absurd (none q h); block = λ q h. absurd (none q h) }
-  where
-    both : (a : Bool) → a ≡ true → (a || a) ≡ false → ⊥
-    both true e h = cc
-    both false e h = cc
-
-    none : (q : Key) → is_in_either every every q ≡ false → ⊥
-    none q h = both (is_touched (touched_of every) q) (all q) h
 
 -- what differs within what was touched is all that differs
 pub differing_everywhere : {V : Type 0} (alike : Option V → Option V → Type 0) (f g : Key → Option V) (within : Key → Bool) (ks : List Key) → ((o : Option V) → alike o o) → ((k : Key) → within k ≡ false → g k ≡ f k)

@@ -12,12 +12,6 @@ come_reported line rest whole e = record {
   is = e ∙ ap (λ l. codes "+ " ++ l) (sym (ap (drop 2) e));
 }
 
-pub stay_reported : (line word : Text) (n : ℕ) → line ≡ codes "= " ++ word → 0 < n → n < 2 ^ 64 → word ≡ decimal n → Tells line (Stay n)
-stay_reported line word n e some small is = record { command = (some, small); is = e ∙ ap (λ l. codes "= " ++ l) is }
-
-pub go_reported : (line word : Text) (n : ℕ) → line ≡ codes "- " ++ word → 0 < n → n < 2 ^ 64 → word ≡ decimal n → Tells line (Go n)
-go_reported line word n e some small is = record { command = (some, small); is = e ∙ ap (λ l. codes "- " ++ l) is }
-
 -- a number word that writes none
 abbrev pub WritesNone : Text → Type 0
 WritesNone word = (n : ℕ) → 0 < n → n < 2 ^ 64 → word ≢ decimal n

@@ -14,6 +14,7 @@ use Rattle.reference.specs.Indexes.{BlockOf, Blocks, BlocksMean, Hold, IndexesMe
 use Rattle.reference.specs.Reads.{Bytes, Directory, look, seen}
 use Rattle.reference.specs.Tree.{At, Blocked, Dir, File, Found, Missing, Path, Tree, entry_at}
 use Rattle.reference.specs.declared.reply.Meta.{Meta}
+use Rattle.reference.proofs.FileBlocks.{byte-held}
 use Rattle.reference.proofs.LastBlock.{trimmed_same}
 use Rattle.reference.proofs.PointIndexes.{no_blocks}
 use Rattle.block_index.specs.Means.{blocks}
@@ -23,7 +24,7 @@ use Rattle.volume.specs.declared.fs_root.FsRoot.{FsRoot}
 use Rattle.edits.specs.Between.{AreBlocksBetween, AreEntriesBetween, key_of, trimmed_block}
 use Rattle.edits.specs.Edits.{block_at}
 use Rattle.delta.specs.Changed.{AreAlikeBlocks, AreBlocksDiffering, AreDiffering, AreFound, AreMetasDiffering, HaveSame, IsBlockKey}
-use Rattle.delta.proofs.ChangedFacts.{contains_mapped, held_byte, map_contains, past_block}
+use Rattle.delta.proofs.ChangedFacts.{contains_mapped, map_contains, past_block}
 use Rattle.delta.proofs.PartFacts.{nothing_read}
 use Rattle.edits.proofs.BlockFacts.{block_byte, length-block}
 
@@ -35,7 +36,7 @@ trimmed_at t d p i of v lt = cases (entry_at t p) refl
     file b is =
         let hold : Hold (λ k. d (block_key p k)) b = of.blocks p b v is in
         trimmed_same (held (d (block_key p i))) (block_at i b) (λ j. ⊎_elim
-        (λ (lj : j < 4096). sym (held_byte (d (block_key p i)) j) ∙ hold.byte i j lt lj ∙ sym (block_byte i b j lj))
+        (λ (lj : j < 4096). sym (byte-held (d (block_key p i)) j) ∙ hold.byte i j lt lj ∙ sym (block_byte i b j lj))
         (λ (le : 4096 ≤ j). past_block (λ k. d (block_key p k)) b i j hold lt le ∙ sym (get_or_past (block_at i b) j 0 (omega (arith, le, length-block i b))))
         (cases_lt j 4096))
 

@@ -2,6 +2,7 @@
 use Rattle.std.proofs.Common.{◌≡◌, ◌≢◌, ℕ, ◌+◌, ◌<◌, ◌==◌, nat_lt, List, [], ◌∷◌, ◌++◌, length, take, drop, map, refl, sym, ap, subst, ◌∙◌, append_assoc, arith, Bool, true, false, cond, Option, Some, None, option_map, length-append}
 use Rattle.std.specs.List.{All}
 use Rattle.std.proofs.lemmas.Bool.{eqb-true, eqb-false, lt-ltb, le-ltb, ne_eqb, cond-false}
+use Rattle.std.proofs.lemmas.List.{nil_from_length}
 use Rattle.std.proofs.Math.Seq.{take-append_seam, drop-append_seam}
 use Rattle.std.proofs.lemmas.List.Elements.{All-nil, All-cons, All-head, All-tail}
 use Rattle.textio.specs.Lines.{lines_of}
@@ -47,22 +48,18 @@ stay_short n x ds few = let short : nat_lt (length x) n ≡ true = lt-ltb _ _ fe
 pub go_short : (n : ℕ) (x : List Line) (ds : List Command) → length x < n → patched (Go n ∷ ds) x ≡ None
 go_short n x ds few = let short : nat_lt (length x) n ≡ true = lt-ltb _ _ few in rw short refl
 
-none_kept : (n : ℕ) (kept : List Line) → length kept ≡ n → n ≡ 0 → kept ≡ []
-none_kept n [] size none = refl
-none_kept n (l ∷ kept) size none = absurd (omega arith)
-
 pub run_stay : (n : ℕ) (kept x y : List Line) (ds : List Command) → length kept ≡ n → patched ds x ≡ Some y → patched (run Stay n ++ ds) (kept ++ x) ≡ Some (kept ++ y)
 run_stay n kept x y ds size makes = go (n == 0) refl
   where
     go : (b : Bool) → (n == 0) ≡ b → patched (cond b [] (Stay n ∷ []) ++ ds) (kept ++ x) ≡ Some (kept ++ y)
-    go true e = let none : kept ≡ [] = none_kept n kept size (eqb-true n 0 e) in rw none makes
+    go true e = let none : kept ≡ [] = nil_from_length kept (size ∙ eqb-true n 0 e) in rw none makes
     go false e = stay_made n kept x ds size ∙ ap (option_map (λ l. kept ++ l)) makes
 
 pub run_go : (n : ℕ) (gone x y : List Line) (ds : List Command) → length gone ≡ n → patched ds x ≡ Some y → patched (run Go n ++ ds) (gone ++ x) ≡ Some y
 run_go n gone x y ds size makes = go (n == 0) refl
   where
     go : (b : Bool) → (n == 0) ≡ b → patched (cond b [] (Go n ∷ []) ++ ds) (gone ++ x) ≡ Some y
-    go true e = let none : gone ≡ [] = none_kept n gone size (eqb-true n 0 e) in rw none makes
+    go true e = let none : gone ≡ [] = nil_from_length gone (size ∙ eqb-true n 0 e) in rw none makes
     go false e = go_made n gone x ds size ∙ makes
 
 pub come_made : (come x y : List Line) (ds : List Command) → patched ds x ≡ Some y → patched (map Come come ++ ds) x ≡ Some (come ++ y)

@@ -1,7 +1,7 @@
 -- Lines of a text, and the lines of commands.
-use Rattle.std.proofs.Common.{◌≡◌, ◌≢◌, ℕ, ◌+◌, ◌%◌, ◌^◌, ◌<◌, List, [], ◌∷◌, ◌++◌, get_or, codes, decimal, refl, sym, ap, subst, ◌∙◌, append_assoc, arith, rules, true}
+use Rattle.std.proofs.Common.{◌≡◌, ◌≢◌, ℕ, List, [], ◌∷◌, ◌++◌, get_or, codes, decimal, refl, sym, ap, subst, ◌∙◌, append_assoc, arith, rules, true}
 use Rattle.std.proofs.lemmas.Bool.{false≢true}
-use Rattle.std.proofs.lemmas.Fmt.{decimal_by_steps, decimal_injective}
+use Rattle.std.proofs.lemmas.Fmt.{decimal_injective}
 use Rattle.std.proofs.lemmas.List.{append_cancel_left}
 use Rattle.std.proofs.lemmas.List.Elements.{All-nil, All-cons, All-append, All-from_recursion}
 use Rattle.hex.specs.Hex.{encode_lower, decode_of, is_hex_digit}
@@ -11,6 +11,7 @@ use Rattle.textio.proofs.LineFacts.{same_line}
 use Rattle.textio.proofs.Spelled.{same_values}
 use Rattle.delta.specs.Deltas.{Line, IsLine, text_of, Command, Stay, Go, Come, IsCommand, IsDigest, IsDelta, commands_text, heading, spelled, parsed}
 use Rattle.delta.specs.Texts.{end_text}
+use Rattle.edits.proofs.TextFacts.{decimal_line}
 
 -- ---- lines
 
@@ -23,15 +24,6 @@ reported_text [] = refl
 reported_text (c ∷ cs) = ap (λ t. spelled c ++ 10 ∷ t) (reported_text cs) ∙ sym (append_assoc (spelled c) (10 ∷ commands_text cs) end_text)
 
 -- ---- spellings
-
-decimal_line : (n : ℕ) → n < 2 ^ 64 → IsLine (decimal n)
-decimal_line n small =
-    decimal_by_steps
-    (λ (k : ℕ) (ds : List ℕ). IsLine ds)
-    (λ k few. All-cons (λ b. b ≢ 10) (48 + k) [] (omega arith) (All-nil (λ b. b ≢ 10)))
-    (λ k ds many all. All-append (λ b. b ≢ 10) ds ((48 + k % 10) ∷ []) all (All-cons (λ b. b ≢ 10) (48 + k % 10) [] (omega arith) (All-nil (λ b. b ≢ 10))))
-    n
-    small
 
 behind_word : (a : ℕ) (l : Line) → a ≢ 10 → IsLine l → IsLine (a ∷ 32 ∷ l)
 behind_word a l h whole = All-cons (λ b. b ≢ 10) a (32 ∷ l) h (All-cons (λ b. b ≢ 10) 32 l (omega arith) whole)

@@ -1,4 +1,5 @@
-//! The paths at which two trees differ, found at the keys that were touched: neither tree is walked.
+//! The paths at which two trees differ, found at the keys that were touched: only touched ranges are walked, or both trees whole if
+//! it is not known what was touched (`Changes::All`).
 //!
 //! A path is in the list if its entry came, went or changed: its kind, its mtime, or the length or the bytes of a file. A directory is
 //! not there because of what is below it.

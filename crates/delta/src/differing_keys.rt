@@ -1,4 +1,5 @@
-//! The keys at which the indexes of two trees differ, found among those that were touched: neither tree is walked.
+//! The keys at which the indexes of two trees differ, found among those that were touched: only touched ranges are walked, or both
+//! trees whole if it is not known what was touched (`Changes::All`).
 ghost use Rattle.std.specs.Prelude.{◌≡◌, ℕ, List, IfOk, true};
 ghost use Rattle.call_compiler.specs.declared.indexes.Indexes.{Indexes};
 ghost use Rattle.change_log.specs.KeyLogs.{touched_of};

@@ -1,5 +1,5 @@
-//! Prints the edits that make one tree of another: a delta of format 2 (`docs/FORMATS.md`). Neither tree is walked: its lines are found at
-//! the keys that were touched.
+//! Prints the edits that make one tree of another: a delta of format 2 (`docs/FORMATS.md`). Its lines are found at the keys that were
+//! touched: only touched ranges are walked, or both trees whole if it is not known what was touched (`Changes::All`).
 //!
 //! First the entries that go are removed, the lower ones first; then entries come or change, in the order of their paths; then blocks
 //! get their bytes.
@@ -18,6 +18,7 @@ ghost use Rattle.delta.specs.Changed.{PrintsEdits};
 
 use crate::differing_keys::{DifferingKeys, differing_keys};
 use crate::rising_keys::{blocks_of, paths_of, sort_distinct};
+use block_index::BLOCK;
 use bytes::Bytes;
 use change_log::Changes;
 use edits::{Change, Edit, block_digest, put_edit};
@@ -27,9 +28,6 @@ use reference::Meta;
 use std::alloc::Global;
 use textio::text::trimmed_len;
 use volume::Frozen;
-
-/// The number of bytes of a block.
-const BLOCK: u64 = 4096;
 
 /// Prints the edits that make the new tree of the old one. `before` has all keys at which the old tree may differ from some third one,
 /// and `after` those at which the new tree may (`Volume::changed_since`). It fails only if an allocation fails.

@@ -1,7 +1,7 @@
-//! The difference of two trees as text, and its application. A delta says how the lines of one image become those of another.
-//! `docs/FORMATS.md` has the format of deltas.
+//! What differs between two trees: the paths, the edits between them (format 2), and the difference of their images line by line
+//! (format 1), printed and applied. `docs/FORMATS.md` has both formats.
 //!
-//! A delta is valid for a tree if its first line has the digest of the tree's image, its commands use exactly the lines of
+//! A delta of format 1 is valid for a tree if its first line has the digest of the tree's image, its commands use exactly the lines of
 //! that image, and its result is an image. Applying the delta of two trees to the first gives the second.
 #![tactic(auto)]
 

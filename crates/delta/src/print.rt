@@ -43,10 +43,10 @@ pub fn print_delta<W: Write>(
         drop(old);
         return Err(PrintFault::Memory);
     };
-    let parsed = put_delta(alloc, digest, &mut old, &mut new, writer);
+    let printed = put_delta(alloc, digest, &mut old, &mut new, writer);
     drop(old);
     drop(new);
-    parsed
+    printed
 }
 
 // Writes a delta. Both cursors are at the first lines of their images.

@@ -14,4 +14,4 @@ pub returns-in_default-new-clause-memory : goal.returns-in_default-new-clause-me
 returns-in_default-new-clause-memory g c = λ t u m n is e. delta_no_line _ c.args.digest.now t u (record { size = c.told-digest; bytes = c.fits-digest }) is
 
 pub returns-clause-memory : goal.returns-clause-memory
-returns-clause-memory g c = λ t u m n is e. c.put_delta-parsed.ensures.memory _ _ t u c.in-Ok.ensures c.in-Ok-new.ensures m n is e
+returns-clause-memory g c = λ t u m n is e. c.put_delta-printed.ensures.memory _ _ t u c.in-Ok.ensures c.in-Ok-new.ensures m n is e
