@@ -1,19 +1,18 @@
 -- What the messages of a copy make of the blocks of a file: bytes are laid over it.
-use Rattle.std.proofs.Common.{◌≡◌, ℕ, zero, suc, ◌+◌, ◌-◌, ◌*◌, ◌/◌, ◌%◌, ◌^◌, ◌<◌, ◌≤◌, min, max, List, [], ◌∷◌, ◌++◌, length, take, drop, get_or, true, false, Bool, cond, refl, sym, ap, ◌∙◌, subst, ◌⊎◌, inl, inr, ⊎_elim, Option, Some, None, arith}
+use Rattle.std.proofs.Common.{◌≡◌, ℕ, zero, suc, ◌+◌, ◌-◌, ◌*◌, ◌/◌, ◌%◌, ◌^◌, ◌<◌, ◌≤◌, min, max, List, [], ◌++◌, length, take, drop, get_or, true, false, Bool, cond, refl, sym, ap, ◌∙◌, subst, ◌⊎◌, inl, inr, ⊎_elim, Option, Some, arith}
 use Rattle.std.specs.Prelude.{nat_le, nat_lt, ◌==◌, ◌&&◌}
-use Rattle.std.proofs.lemmas.Bool.{and_from, and_left, and_right, and_parts, cases_lt, eqb-true, le-leb, le-ltb, lt-leb, lt-ltb}
+use Rattle.std.proofs.lemmas.Bool.{and_from, and_left, and_right, cases_lt, eqb-true, le-leb, le-ltb, lt-leb, lt-ltb}
 use Rattle.std.proofs.lemmas.List.{ext_get_or, get_or-append_right, get_or-drop, get_or-take, get_or_append_left, length-append, length-drop, length-take}
 use Rattle.std.proofs.lemmas.List.FromFn.{length-map-range_with_len}
 use Rattle.block_index.specs.Changed.{Messages, after, Changes, patch_of, patches, touched}
 use Rattle.block_index.specs.Updates.{means}
-use Rattle.message.proofs.Lists.{effects-append}
 use Rattle.pathkey.specs.Keys.{Key, block_key}
 use Rattle.pathkey.specs.Names.{Path, IsPath}
 use Rattle.pathkey.specs.Order.{same}
 use Rattle.pathkey.proofs.KeyFacts.{block_key_injective}
 use Rattle.pathkey.proofs.OrderFacts.{apart, same_true}
 use Rattle.reference.specs.Tree.{over}
-use Rattle.reference.specs.Indexes.{Blocks, BlocksChange, Hold, byte_of, most_blocks, patched}
+use Rattle.reference.specs.Indexes.{Blocks, Hold, byte_of, most_blocks, patched}
 use Rattle.reference.proofs.Contents.{length-over}
 use Rattle.reference.proofs.FileBlocks.{over_before, over_inside, over_after, write_holds}
 use Rattle.reference.proofs.PointIndexes.{hold_alike, unchanged}

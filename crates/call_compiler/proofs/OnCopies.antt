@@ -1,10 +1,10 @@
 -- Copies: what bytes of a file that are written to another, or to the same, are compiled to.
-use Rattle.std.proofs.Common.{◌≡◌, ℕ, zero, suc, ◌+◌, ◌-◌, ◌/◌, ◌^◌, ◌<◌, ◌≤◌, min, max, List, [], ◌∷◌, length, take, drop, true, false, Bool, cond, refl, sym, ap, ◌∙◌, subst, Option, Some, arith}
+use Rattle.std.proofs.Common.{◌≡◌, ℕ, ◌+◌, ◌-◌, ◌/◌, ◌^◌, ◌<◌, ◌≤◌, min, max, List, [], ◌∷◌, length, take, drop, true, false, Bool, cond, refl, sym, ap, ◌∙◌, subst, Some, arith}
 use Rattle.std.specs.Prelude.{nat_le, Result, Ok, Err}
-use Rattle.std.proofs.lemmas.Bool.{le-ltb, leb-true}
+use Rattle.std.proofs.lemmas.Bool.{le-ltb}
 use Rattle.std.proofs.lemmas.List.{ext_get_or, get_or-take, length-drop, length-take}
 use Rattle.std.proofs.lemmas.List.Elements.{All-drop, All-take}
-use Rattle.block_index.specs.Changed.{Messages as BlockMessages, after}
+use Rattle.block_index.specs.Changed.{Messages as BlockMessages}
 use Rattle.block_index.specs.Means.{blocks}
 use Rattle.meta_index.specs.Means.{metadata}
 use Rattle.meta_index.proofs.Fresh.{means_alike}
@@ -34,7 +34,6 @@ use Rattle.call_compiler.specs.Copied.{HoldsOfBytes, IsCopied, Overwrites, Sends
 use Rattle.call_compiler.specs.Files.{TellsFile}
 use Rattle.call_compiler.specs.Punched.{reached_of}
 use Rattle.call_compiler.proofs.Compiling.{After, meta_meant}
-use Rattle.call_compiler.proofs.Copying.{length_taken}
 use Rattle.call_compiler.proofs.Faults.{write_done}
 use Rattle.call_compiler.proofs.Idle.{grown_alike}
 use Rattle.call_compiler.proofs.OnFiles.{Finds, read_is_refused, write_is_empty, write_is_refused, write_is_too_large}

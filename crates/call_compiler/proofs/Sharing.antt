@@ -1,17 +1,14 @@
 -- Blocks of a file that are put at those of another, one after the other, as a walk finds them.
-use Rattle.std.proofs.Common.{◌≡◌, ℕ, zero, suc, ◌+◌, ◌-◌, ◌^◌, ◌<◌, ◌≤◌, List, [], ◌∷◌, ◌++◌, true, false, Bool, cond, refl, sym, ap, ◌∙◌, subst, ◌⊎◌, inl, inr, ⊎_elim, Option, Some, None, arith}
-use Rattle.std.proofs.lemmas.Bool.{and_from, and_parts, cases_lt, false≢true, false_from_ne_true}
+use Rattle.std.proofs.Common.{◌≡◌, ℕ, ◌+◌, ◌-◌, ◌^◌, ◌<◌, ◌≤◌, List, [], ◌∷◌, ◌++◌, true, false, Bool, cond, refl, sym, ap, ◌∙◌, subst, ◌⊎◌, inl, inr, ⊎_elim, Option, Some, None, arith}
+use Rattle.std.proofs.lemmas.Bool.{and_from, and_parts, cases_lt, false≢true}
 use Rattle.block_index.specs.Changed.{Messages, after}
 use Rattle.block_index.specs.Updates.{means}
-use Rattle.block_index.specs.declared.update.BlockUpdate.{BlockUpdate}
-use Rattle.message.specs.declared.msg.Msg.{Msg}
-use Rattle.message.specs.declared.msg.Msg.TheVariants.{Put, DelRange}
-use Rattle.message.specs.Effects.{effect}
+use Rattle.message.specs.declared.msg.Msg.TheVariants.{Put}
 use Rattle.message.specs.Ranges.{before, reaches}
 use Rattle.message.proofs.KeyOrder.{both}
 use Rattle.message.proofs.Lists.{effects-append}
 use Rattle.message.proofs.NextKey.{before-next, in_range, reaches-next}
-use Rattle.pathkey.specs.Keys.{Key, block_key, blocks_from, is_below, is_in, next_key}
+use Rattle.pathkey.specs.Keys.{Key, block_key, blocks_from, is_in, next_key}
 use Rattle.pathkey.specs.Names.{Path, IsPath}
 use Rattle.pathkey.specs.Order.{same}
 use Rattle.pathkey.proofs.KeyFacts.{block_key_injective}

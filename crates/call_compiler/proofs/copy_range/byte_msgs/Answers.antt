@@ -1,8 +1,6 @@
-use Rattle.std.proofs.Common.{arith, ◌≡◌, ◌≤◌, ◌<◌, ◌+◌, ◌-◌, ◌/◌, ◌∙◌, List, ℕ, take, drop, length, sym, ap, subst}
-use Rattle.block_index.specs.Changed.{Messages, Changes, patches}
-use Rattle.reference.specs.Indexes.{patched}
+use Rattle.std.proofs.Common.{arith, ◌≡◌, ◌+◌, ◌-◌, ◌/◌, ◌∙◌, List, ℕ, take, drop, length, sym, ap, subst}
 use Rattle.call_compiler.specs.Copied.{Overwrites}
-use Rattle.call_compiler.proofs.Copying.{count_patches, length_taken, overwrites_nothing, overwrites_patches, taken_none}
+use Rattle.call_compiler.proofs.Copying.{count_patches, length_taken, overwrites_patches, taken_none}
 use Rattle.call_compiler.proofs.Compiling.{if_ok_both}
 use Rattle.call_compiler.proofs.copy_range.byte_msgs.Goals as goal
 

@@ -1,4 +1,4 @@
-use Rattle.std.proofs.Common.{arith, ◌≤◌, ◌+◌, ◌/◌, length, sym, subst}
+use Rattle.std.proofs.Common.{◌≤◌, ◌+◌, ◌/◌, length, sym, subst}
 use Rattle.block_index.specs.Changed.{Messages}
 use Rattle.block_index.specs.Means.{blocks}
 use Rattle.call_compiler.specs.Copied.{HoldsOfBytes, Overwrites}

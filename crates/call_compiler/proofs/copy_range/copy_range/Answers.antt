@@ -1,4 +1,4 @@
-use Rattle.std.proofs.Common.{arith, ◌≢◌, ◌≤◌, ◌<◌, ◌^◌, ◌+◌, [], refl, sym, ap, ◌∙◌, subst}
+use Rattle.std.proofs.Common.{arith, ◌≢◌, ◌≤◌, ◌^◌, ◌+◌, [], refl, sym, ap, ◌∙◌, subst}
 use Rattle.std.specs.Prelude.{Result, IfOk}
 use Rattle.std.proofs.lemmas.Bool.{leb-true}
 use Rattle.pathkey.specs.Keys.{Key}

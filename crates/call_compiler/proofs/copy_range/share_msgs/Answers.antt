@@ -1,9 +1,8 @@
-use Rattle.std.proofs.Common.{arith, ◌≡◌, ◌≤◌, ◌<◌, ◌+◌, ◌-◌, ◌∙◌, [], ◌∷◌, length, refl, sym, ap, subst, Option, Some, None}
+use Rattle.std.proofs.Common.{arith, ◌≤◌, ◌<◌, ◌+◌, ◌∙◌, length, ap}
 use Rattle.std.proofs.lemmas.List.{length-append}
-use Rattle.block_index.specs.Changed.{Messages}
 use Rattle.block_index.specs.Means.{blocks}
 use Rattle.message.specs.Ranges.{reaches}
-use Rattle.pathkey.specs.Keys.{Key, block_key, next_key}
+use Rattle.pathkey.specs.Keys.{block_key, next_key}
 use Rattle.pathkey.specs.declared.range.KeyRange.{KeyRange}
 use Rattle.pathkey.proofs.KeyOrder.{reaches-refl}
 use Rattle.scan.proofs.AtHand.{ahead_none, given_first, given_ahead}

@@ -1,4 +1,4 @@
-use Rattle.std.proofs.Common.{◌∷◌, [], ap, sym, ◌∙◌, arith}
+use Rattle.std.proofs.Common.{◌∷◌, [], ap, ◌∙◌, arith}
 use Rattle.message.specs.declared.msg.Msg.TheVariants.{Edit}
 use Rattle.meta_index.specs.declared.update.MetaUpdate.TheVariants.{Touch}
 use Rattle.pathkey.specs.Keys.{Key}
