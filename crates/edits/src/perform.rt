@@ -16,7 +16,6 @@ ghost use Rattle.volume.specs.Volumes.{Means};
 use crate::block::{block_span, has_digest, zero_filled};
 use crate::edit::{Change, Edit};
 use block_index::BLOCK;
-use lookup::get;
 use pathkey::{Errno, NoMemory, Path};
 use reference::Meta;
 use std::alloc::Global;
@@ -122,7 +121,7 @@ fn rewrite(
 fn meta_at(alloc: Global, volume: &Volume, path: &Path) -> Result<Option<Meta>, NoMemory>
     ensures { IfOk result (λ found. EachSight volume.now path.now (λ s. found ≡ meta_of s)) }
 {
-    get(alloc, &volume.indexes().meta.tree, path.key())
+    volume.indexes().meta.entry(alloc, path)
 }
 
 /// Whether the entry at a path has these metadata.
