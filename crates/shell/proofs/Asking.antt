@@ -1,5 +1,5 @@
 -- The requests of lines, case by case.
-use Rattle.std.proofs.Common.{◌≡◌, ℕ, List, [], ◌∷◌, ◌++◌, length, ◌≤◌, nat_lt, ◌==◌, Bool, true, false, ◌&&◌, cond, codes, arith, refl, ap, sym, ◌∙◌, ◌⊎◌, inl, inr, None, Result, Ok, Err}
+use Rattle.std.proofs.Common.{◌≡◌, ℕ, List, [], ◌∷◌, ◌++◌, length, ◌≤◌, nat_lt, ◌==◌, Bool, true, false, ◌&&◌, cond, codes, arith, refl, ap, sym, ◌∙◌, ◌⊎◌, inl, inr, Option, None, Some, IfSome, Result, Ok, Err}
 use Rattle.std.specs.List.{list_all}
 use Rattle.std.specs.Char.{is_ascii_digit}
 use Rattle.std.proofs.lemmas.Bool.{eqb-true, ne_eqb, le-ltb, true≢false}
@@ -129,9 +129,13 @@ moment_asked word = go (one_word word)
     go (inr two) = no_moment (words_of word) two.0 ∙ ap (with_value Moment) (sym (no_number word two.1))
 
 -- a line of `at`, a space and a word, which is not too long
-pub moment_line : (line prefix word : List ℕ) → length line ≤ 65536 → line ≡ prefix ++ word → prefix ≡ codes "at " → request_of line ≡ with_value Moment (number_of word)
-moment_line line prefix word short e p =
-    let within : nat_lt 65536 (length line) ≡ false = le-ltb 65536 (length line) short in
+pub moment_line : (line prefix word : List ℕ) → nat_lt 65536 (length line) ≡ false → line ≡ prefix ++ word → prefix ≡ codes "at " → request_of line ≡ with_value Moment (number_of word)
+moment_line line prefix word within e p =
     let whole : line ≡ codes "at " ++ word = e ∙ ap (λ (x : List ℕ). x ++ word) p in
     let begins : request_of line ≡ short_request line = rw within refl in
     begins ∙ ap short_request whole ∙ moment_asked word
+
+-- the request of a line with a timestamp
+pub timestamp_read : (line : List ℕ) (n : Option ℕ) → request_of line ≡ with_value Moment n → IfSome n (λ at. request_of line ≡ Moment at)
+timestamp_read line (Some at) is = is
+timestamp_read line None is = tt

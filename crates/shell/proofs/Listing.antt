@@ -1,6 +1,7 @@
 -- Listings: the lines of entries, and what they are the reply to.
 use Rattle.std.proofs.Common.{◌≡◌, ◌⊎◌, inl, inr, ℕ, ◌+◌, ◌-◌, ◌^◌, ◌<◌, ◌≤◌, min, true, false, List, [], ◌∷◌, ◌++◌, length, length-append, codes, refl, sym, ap, subst, ◌∙◌, append-nil, append_assoc, arith}
-use Rattle.std.specs.Prelude.{All, Err, Result, cond}
+use Rattle.std.specs.FinMap as map
+use Rattle.std.specs.Prelude.{All, Err, MatchResult, None, Ok, Option, Result, Some, cond}
 use Rattle.std.specs.List.{flat_map}
 use Rattle.call_compiler.specs.declared.indexes.Indexes.{Indexes}
 use Rattle.call_compiler.proofs.Replies.{readdir_keeps}
@@ -8,7 +9,7 @@ use Rattle.pathkey.specs.Names.{Name, Path}
 use Rattle.std.proofs.lemmas.Grind.{flat_map-append}
 use Rattle.call_compiler.specs.Compiled.{MeanTree}
 use Rattle.pathkey.specs.declared.errno.Errno.{Errno}
-use Rattle.pathkey.specs.declared.errno.Errno.TheVariants.{ENOMEM}
+use Rattle.pathkey.specs.declared.errno.Errno.TheVariants.{ENOENT, ENOMEM}
 use Rattle.reference.specs.Calls.{does}
 use Rattle.reference.specs.Image.{percent}
 use Rattle.reference.specs.Tree.{Tree}
@@ -17,12 +18,17 @@ use Rattle.reference.specs.declared.call.Call.TheVariants.{Readdir}
 use Rattle.reference.specs.declared.reply.Kind.{Kind}
 use Rattle.reference.specs.declared.reply.Reply.{Reply}
 use Rattle.reference.specs.declared.reply.Reply.TheVariants.{Fault}
-use Rattle.volume.specs.Volumes.{Means, PVolume}
+use Rattle.volume.specs.HistoryOf.{Finds}
+use Rattle.volume.specs.Volumes.{MeanRooted, Means, PVolume}
+use Rattle.volume.specs.declared.fs_root.FsRoot.{FsRoot}
 use Rattle.textio.specs.Texts.{IsPlain}
 use Rattle.textio.proofs.Texts.{plain_text}
 use Rattle.shell.specs.declared.entry_lines.EntryLines.{EntryLines}
-use Rattle.shell.specs.Listings.{AreLines, Lists, Shows, TellsLines}
+use Rattle.shell.specs.declared.request.ReadCall.{ReadCall}
+use Rattle.shell.specs.declared.request.ReadCall.TheVariants as look
+use Rattle.shell.specs.Listings.{AreLines, Lists, ListsPast, Shows, TellsLines}
 use Rattle.shell.specs.Replies.{entry_line, name_word}
+use Rattle.shell.specs.Script.{Tells, reported_of}
 
 -- ---- lines
 
@@ -71,12 +77,40 @@ stays w p at r = elim (is_lack (Replied r)) as (λ b. cond b w (record w { live 
 ]
 
 -- what is told of the indexes of a volume is told of its world
-pub volume_lists : (v : PVolume) (i : Indexes) (p : Path) (listed : Result EntryLines Errno) → i ≡ v.live.indexes → TellsLines i p listed → Lists (Means v) (Means v) p listed
-volume_lists v i p listed is (r, shows, tells) = (r, shows, λ at w m. (fits at w m, subst (Means v) (sym (stays w p at r)) m))
+pub volume_lists : (v : PVolume) (i : Indexes) (p : Path) (at : ℕ) (listed : Result EntryLines Errno) → i ≡ v.live.indexes → TellsLines i p listed → Lists (Means v) (Means v) p at listed
+volume_lists v i p at listed is (r, shows, tells) = (r, shows, λ w m. (fits w m, subst (Means v) (sym (stays w p at r)) m))
   where
-    by : (w : World) (at : ℕ) → (r ≡ (does at w.live (Readdir p)).1) ⊎ (r ≡ Fault ENOMEM) → Fits w (Ask (Readdir p) at) (Replied r)
-    by w at (inl e) = inl (ap Replied e)
-    by w at (inr e) = inr (ap Replied e)
+    by : (w : World) → (r ≡ (does at w.live (Readdir p)).1) ⊎ (r ≡ Fault ENOMEM) → Fits w (Ask (Readdir p) at) (Replied r)
+    by w (inl e) = inl (ap Replied e)
+    by w (inr e) = inr (ap Replied e)
 
-    fits : (at : ℕ) (w : World) → Means v w → Fits w (Ask (Readdir p) at) (Replied r)
-    fits at w m = by w at (tells w.live at (subst (λ (x : Indexes). MeanTree x w.live) (sym is) m.live.indexes))
+    fits : (w : World) → Means v w → Fits w (Ask (Readdir p) at) (Replied r)
+    fits w m = by w (tells w.live at (subst (λ (x : Indexes). MeanTree x w.live) (sym is) m.live.indexes))
+
+-- ---- snapshots
+
+-- what is told of a snapshot's indexes is told of the snapshot of each world
+past_told : (w : World) (name : List ℕ) (p : Path) (t : Tree) (r : Reply) → map.get w.snapshots name ≡ Some t → (r ≡ (does 0 t (Readdir p)).1) ⊎ (r ≡ Fault ENOMEM) → Tells w name (look.Readdir p) r
+past_told w name p t r has (inl is) = inl (is ∙ sym (ap (λ (o : Option Tree). reported_of o (look.Readdir p)) has))
+past_told w name p t r has (inr lacks) = inr lacks
+
+-- a snapshot was not found
+past_refused : (w : World) (name : List ℕ) (l : ReadCall) (e : Errno) → (e ≡ ENOENT) ⊎ (e ≡ ENOMEM) → (e ≡ ENOENT → map.get w.snapshots name ≡ None) → Tells w name l (Fault e)
+past_refused w name l e (inl is) none = inl (ap Fault is ∙ sym (ap (λ (o : Option Tree). reported_of o l) (none is)))
+past_refused w name l e (inr is) none = inr (ap Fault is)
+
+-- the listing of a snapshot that was found
+pub found_lists : (v : PVolume) (name : List ℕ) (p : Path) (root : FsRoot) (i : Indexes) (listed : Result EntryLines Errno) → i ≡ root.indexes
+    → ((w : World) → Means v w → Finds name (Ok root) w) → TellsLines i p listed → ListsPast (Means v) (Means v) name p listed
+found_lists v name p root i listed is finds (r, shows, tells) = (r, shows, λ w m. (by w (finds w m).found, m))
+  where
+    by : (w : World) → (t : Tree) × (map.get w.snapshots name ≡ Some t) × MeanRooted root t → Tells w name (look.Readdir p) r
+    by w (t, has, means) = past_told w name p t r has (tells t 0 (subst (λ (x : Indexes). MeanTree x t) (sym is) means.indexes))
+
+-- no snapshot was found, or an allocation failed
+pub unfound_lists : (v : PVolume) (name : List ℕ) (p : Path) (given e : Errno) (listed : Result EntryLines Errno) → listed ≡ Err e → e ≡ given
+    → ((w : World) → Means v w → Finds name (Err given) w) → ListsPast (Means v) (Means v) name p listed
+unfound_lists v name p given e listed is same finds = (Fault e, refused listed e is, λ w m. (told w (finds w m), m))
+  where
+    told : (w : World) → Finds name (Err given) w → Tells w name (look.Readdir p) (Fault e)
+    told w f = subst (λ (x : Errno). Tells w name (look.Readdir p) (Fault x)) (sym same) (past_refused w name (look.Readdir p) given f.found (λ (not : given ≡ ENOENT). f.none.0 (ap Err not)))

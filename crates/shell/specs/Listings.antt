@@ -7,14 +7,16 @@ use Rattle.pathkey.specs.declared.errno.Errno.{Errno}
 use Rattle.pathkey.specs.declared.errno.Errno.TheVariants.{ENOMEM}
 use Rattle.reference.specs.Calls.{does}
 use Rattle.reference.specs.Tree.{Tree}
-use Rattle.reference.specs.Worlds.{Ask, Replied}
+use Rattle.reference.specs.Worlds.{World, Ask, Replied}
 use Rattle.reference.specs.declared.call.Call.TheVariants.{Readdir}
 use Rattle.reference.specs.declared.reply.Kind.{Kind}
 use Rattle.reference.specs.declared.reply.Reply.{Reply}
 use Rattle.reference.specs.declared.reply.Reply.TheVariants.{Fault, Names}
 use Rattle.shell.specs.declared.entry_lines.EntryLines.{EntryLines}
 use Rattle.shell.specs.Replies.{entry_line}
+use Rattle.shell.specs.declared.request.ReadCall.TheVariants as look
 use Rattle.shell.specs.Runs.{Worlds}
+use Rattle.shell.specs.Script.{Tells}
 use Rattle.shell.specs.Sessions.{Goes}
 
 -- these are the lines of the entries
@@ -31,6 +33,11 @@ Shows (Err e) r = r ≡ Fault e
 abbrev pub TellsLines : Indexes → Path → Result EntryLines Errno → Type 0
 TellsLines i p lines = (r : Reply) × Shows lines r × ((t : Tree) (at : ℕ) → MeanTree i t → (r ≡ (does at t (Readdir p)).1) ⊎ (r ≡ Fault ENOMEM))
 
--- the reply to a listing of the directory at the path fits each possible world
-abbrev pub Lists : Worlds → Worlds → Path → Result EntryLines Errno → Type 0
-Lists meant means p lines = (r : Reply) × Shows lines r × ((at : ℕ) → Goes meant means (Ask (Readdir p) at) (Replied r))
+-- the reply to a listing of the directory at the path, with the timestamp, fits each possible world
+abbrev pub Lists : Worlds → Worlds → Path → ℕ → Result EntryLines Errno → Type 0
+Lists meant means p at lines = (r : Reply) × Shows lines r × Goes meant means (Ask (Readdir p) at) (Replied r)
+
+-- the reply to a listing of the directory at the path in the snapshot of that name is that of its tree in each possible world, or
+-- ENOMEM
+abbrev pub ListsPast : Worlds → Worlds → List ℕ → Path → Result EntryLines Errno → Type 0
+ListsPast meant means name p lines = (r : Reply) × Shows lines r × ((w : World) → meant w → Tells w name (look.Readdir p) r × means w)

@@ -8,6 +8,8 @@ use Rattle.reference.specs.declared.call.Call.{Call}
 use Rattle.reference.specs.declared.call.Call.TheVariants.{Mkdir, Create, Write, Truncate, Unlink, Rmdir, Rename, Rmtree, Read, Stat as AskStat, Readdir}
 use Rattle.textio.specs.Lines.{at_sign, words_of}
 use Rattle.textio.specs.Values.{bytes_of, number_of, path_of}
+use Rattle.shell.specs.declared.request.PathVerb.{PathVerb}
+use Rattle.shell.specs.declared.request.PathVerb.TheVariants as verb
 use Rattle.shell.specs.declared.request.ReadCall.{ReadCall}
 use Rattle.shell.specs.declared.request.ReadCall.TheVariants as look
 use Rattle.shell.specs.declared.request.Request.{Request}
@@ -54,17 +56,34 @@ named_command name s =
     else if bytes_eq name (codes "at") then with_value Moment (number_of s)
     else with_value (λ cut. past_path_command cut s) (at_sign name)
 
+-- the command of this name, if its only argument is the path of a call
+abbrev pub path_verb : List ℕ → Option PathVerb
+path_verb name =
+    if bytes_eq name (codes "mkdir") then Some verb.Mkdir
+    else if bytes_eq name (codes "create") then Some verb.Create
+    else if bytes_eq name (codes "unlink") then Some verb.Unlink
+    else if bytes_eq name (codes "rmdir") then Some verb.Rmdir
+    else if bytes_eq name (codes "rmtree") then Some verb.Rmtree
+    else if bytes_eq name (codes "stat") then Some verb.Stat
+    else if bytes_eq name (codes "readdir") then Some verb.Readdir
+    else None
+
+-- the command's call at the path
+abbrev pub call_at : PathVerb → Path → Call
+call_at verb.Mkdir p = Mkdir p
+call_at verb.Create p = Create p
+call_at verb.Unlink p = Unlink p
+call_at verb.Rmdir p = Rmdir p
+call_at verb.Rmtree p = Rmtree p
+call_at verb.Stat p = AskStat p
+call_at verb.Readdir p = Readdir p
+
 -- the commands of two words
 abbrev pub path_command : List ℕ → List ℕ → Request
-path_command name p =
-    if bytes_eq name (codes "mkdir") then on_path Mkdir (path_of p)
-    else if bytes_eq name (codes "create") then on_path Create (path_of p)
-    else if bytes_eq name (codes "unlink") then on_path Unlink (path_of p)
-    else if bytes_eq name (codes "rmdir") then on_path Rmdir (path_of p)
-    else if bytes_eq name (codes "rmtree") then on_path Rmtree (path_of p)
-    else if bytes_eq name (codes "stat") then on_path AskStat (path_of p)
-    else if bytes_eq name (codes "readdir") then on_path Readdir (path_of p)
-    else named_command name p
+path_command name p = elim (path_verb name) as (λ _. Request) [
+  | Some v ↦ on_path (call_at v) (path_of p)
+  | None ↦ named_command name p
+]
 
 -- to cut or lengthen a file
 abbrev pub truncate_command : List ℕ → List ℕ → Request

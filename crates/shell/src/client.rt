@@ -1,5 +1,5 @@
 //! Scripts over a client of an engine: the same lines, on a volume that is shared with others.
-use crate::entry_lines::{EntryLines, lines_of};
+use crate::entry_lines::{EntryLines, lines_of, read_lines};
 use crate::pace::Pace;
 use crate::request::ReadCall;
 use crate::script::{Ending, ScriptFault, run_lines};
@@ -29,9 +29,9 @@ impl<'a, J: EngineId, H: Wait> Session for ClientSession<'a, J, H> {
         self.client.call(self.rt, alloc, call, at)
     }
 
-    fn list(&mut self, alloc: Global, path: &Path) -> Result<EntryLines, Errno> {
+    fn list(&mut self, alloc: Global, path: &Path, at: u64) -> Result<EntryLines, Errno> {
         let call = Call::Readdir(path.copy(alloc)?);
-        let reply = self.client.call(self.rt, alloc, &call, 0);
+        let reply = self.client.call(self.rt, alloc, &call, at);
         match &reply {
             Reply::Names(entries) => Ok(lines_of(alloc, entries.as_slice())?),
             Reply::Fault(fault) => Err(*fault),
@@ -62,6 +62,19 @@ impl<'a, J: EngineId, H: Wait> Session for ClientSession<'a, J, H> {
             }
             Err(fault) => Reply::Fault(fault),
         }
+    }
+
+    fn list_snapshot(
+        &mut self,
+        alloc: Global,
+        name: &SnapName,
+        path: &Path,
+    ) -> Result<EntryLines, Errno> {
+        let frozen = self.client.frozen(self.rt, name)?;
+        let lines = read_lines(alloc, frozen.indexes(), path);
+        // Dropped by a call, so that the proof costs less.
+        drop(frozen);
+        lines
     }
 
     fn run_steps<P: Pace>(&mut self, _alloc: Global, _pace: &mut P) {}

@@ -1,31 +1,47 @@
 //! Parses a line of a script as a request. `docs/FORMATS.md` has the format of scripts.
 //!
 //! Every line has exactly one request; a line that is no command is `Malformed`, `Overlong` or `Silent`.
-ghost use Rattle.std.specs.Prelude.{◌≡◌, ◌⊎◌, Err, MatchResult};
+ghost use Rattle.std.specs.Prelude.{◌≡◌, ◌⊎◌, Err, IfSome, MatchResult, length, nat_lt};
 ghost use Rattle.pathkey.specs.declared.errno.Errno.TheVariants.{ENOMEM};
+ghost use Rattle.shell.specs.declared.request.Request.TheVariants.{Moment};
 ghost use Rattle.textio.specs.Lines.{words_of};
 ghost use Rattle.pathkey.specs.SnapNames.{snap_parsed};
-ghost use Rattle.shell.specs.Requests.{IsReadAs, command_of, looking, named_command, offset_command, past, past_path_command, past_read_command, path_command, read_command, rename_of, request_of, third_command, truncate_command, with_value, write_command};
+ghost use Rattle.shell.specs.Requests.{IsReadAs, call_at, command_of, looking, named_command, offset_command, past, past_path_command, past_read_command, path_command, path_verb, read_command, rename_of, request_of, third_command, truncate_command, with_value, write_command};
 ghost use Rattle.textio.specs.Values.{number_of, path_of};
 
-use crate::request::{ReadCall, Request};
-use pathkey::{Errno, NoMemory, SnapName};
+use crate::request::{PathVerb, ReadCall, Request};
+use pathkey::{Errno, NoMemory, Path, SnapName};
 use reference::Call;
 use std::alloc::Global;
 use textio::line_buffer::LONGEST_LINE;
 use textio::values::{read_bytes, read_number, read_path};
 use textio::words::{split_at_sign, split_word};
 
+/// The timestamp of a line that has one and is not too long. In a script with timestamps every second line is one of these.
+#[inline(always)]
+pub(crate) fn timestamp_of(line: &[u8]) -> Option<u64>
+    ensures { IfSome result (λ at. request_of line.now ≡ Moment at) }
+{
+    if is_overlong(line) {
+        return None;
+    }
+    read_number(line.strip_prefix(b"at ".as_slice())?)
+}
+
+// Whether a line is too long to be parsed.
+#[inline(always)]
+fn is_overlong(line: &[u8]) -> bool
+    ensures { result ≡ nat_lt 65536 (length line.now) }
+{
+    line.len() > LONGEST_LINE
+}
+
 /// Parses a line.
 pub fn read_request(alloc: Global, line: &[u8]) -> Request
     ensures { IsReadAs (request_of line.now) result }
 {
-    if line.len() > LONGEST_LINE {
+    if is_overlong(line) {
         return Request::Overlong;
-    }
-    // In a script with timestamps every second line is one of these.
-    if let Some(word) = line.strip_prefix(b"at ".as_slice()) {
-        return read_moment(word);
     }
     match line.first() {
         None | Some(b'#') => Request::Silent,
@@ -56,28 +72,56 @@ fn read_command(alloc: Global, line: &[u8]) -> Request
 fn read_path_command(alloc: Global, name: &[u8], word: &[u8]) -> Request
     ensures { IsReadAs (path_command name.now word.now) result }
 {
+    let Some(verb) = path_verb(name) else {
+        return read_named_command(alloc, name, word);
+    };
+    match read_path(alloc, word) {
+        Ok(path) => Request::Wanted(call_at(verb, path)),
+        Err(fault) => Request::Refused(fault),
+    }
+}
+
+// The command of this name, if its only argument is the path of a call.
+fn path_verb(name: &[u8]) -> Option<PathVerb>
+    ensures { result ≡ path_verb name.now }
+{
     if name == b"mkdir".as_slice() {
-        return ask(read_path(alloc, word).map(Call::Mkdir));
+        return Some(PathVerb::Mkdir);
     }
     if name == b"create".as_slice() {
-        return ask(read_path(alloc, word).map(Call::Create));
+        return Some(PathVerb::Create);
     }
     if name == b"unlink".as_slice() {
-        return ask(read_path(alloc, word).map(Call::Unlink));
+        return Some(PathVerb::Unlink);
     }
     if name == b"rmdir".as_slice() {
-        return ask(read_path(alloc, word).map(Call::Rmdir));
+        return Some(PathVerb::Rmdir);
     }
     if name == b"rmtree".as_slice() {
-        return ask(read_path(alloc, word).map(Call::Rmtree));
+        return Some(PathVerb::Rmtree);
     }
     if name == b"stat".as_slice() {
-        return ask(read_path(alloc, word).map(Call::Stat));
+        return Some(PathVerb::Stat);
     }
     if name == b"readdir".as_slice() {
-        return ask(read_path(alloc, word).map(Call::Readdir));
+        return Some(PathVerb::Readdir);
     }
-    read_named_command(alloc, name, word)
+    None
+}
+
+// The command's call at the path.
+fn call_at(verb: PathVerb, path: Path) -> Call
+    ensures { result ≡ call_at verb path }
+{
+    match verb {
+        PathVerb::Mkdir => Call::Mkdir(path),
+        PathVerb::Create => Call::Create(path),
+        PathVerb::Unlink => Call::Unlink(path),
+        PathVerb::Rmdir => Call::Rmdir(path),
+        PathVerb::Rmtree => Call::Rmtree(path),
+        PathVerb::Stat => Call::Stat(path),
+        PathVerb::Readdir => Call::Readdir(path),
+    }
 }
 
 // Parses a command of two words with a snapshot's name or a timestamp. The name or timestamp is the second word, or the name
@@ -162,7 +206,7 @@ fn read_third_command(alloc: Global, name: &[u8], path: &[u8], third: &[u8]) -> 
         return read_truncate(alloc, path, third);
     }
     if name == b"rename".as_slice() {
-        return ask(read_rename(alloc, path, third));
+        return with_named(read_rename(alloc, path, third).map(Request::Wanted));
     }
     Request::Malformed
 }
@@ -277,16 +321,6 @@ fn read_read(alloc: Global, path: &[u8], offset: &[u8], count: &[u8]) -> Request
         Err(fault) => return Request::Refused(fault),
     };
     Request::Wanted(Call::Read(path, offset, count))
-}
-
-// The request of a call, or of its error.
-fn ask(call: Result<Call, Errno>) -> Request
-    ensures { MatchResult call (λ c. result ≡ Request.Wanted c) (λ e. result ≡ Request.Refused e) }
-{
-    match call {
-        Ok(call) => Request::Wanted(call),
-        Err(fault) => Request::Refused(fault),
-    }
 }
 
 // The request that was parsed, or that of its error.

@@ -1,4 +1,5 @@
-//! The lines of a directory's entries, which are made as the entries are found: no entry has a vector of its own.
+//! The lines of a directory's entries. Of a volume and of a snapshot they are made as the entries are found, so that no entry has a
+//! vector of its own.
 ghost use Rattle.std.specs.Prelude.{◌≡◌, ◌++◌, [], IfOk, OnOk, length};
 ghost use Rattle.reference.specs.Pairs.{pairs_of};
 ghost use Rattle.shell.specs.Listings.{AreLines, TellsLines};
@@ -23,12 +24,12 @@ pub struct EntryLines {
 }
 
 impl EntryLines {
-    // None yet.
-    fn new(alloc: Global) -> EntryLines
-        ensures { AreLines result [] }
+    // None yet. It has room for the lines of a small directory.
+    fn new(alloc: Global) -> Result<EntryLines, NoMemory>
+        ensures { IfOk result (λ lines. AreLines lines []) }
     {
-        let text = Vec::new(alloc);
-        EntryLines { text, count: 0 }
+        let text = Vec::with_capacity(alloc, 256)?;
+        Ok(EntryLines { text, count: 0 })
     }
 }
 
@@ -65,7 +66,7 @@ fn put_line(text: &mut Vec<u8>, kind: Kind, name: &[u8]) -> Result<(), NoMemory>
 pub(crate) fn read_lines(alloc: Global, indexes: &Indexes, path: &Path) -> Result<EntryLines, Errno>
     ensures { TellsLines indexes.now path.now result }
 {
-    let mut lines = EntryLines::new(alloc);
+    let mut lines = EntryLines::new(alloc)?;
     list(alloc, indexes, path, &mut lines)??;
     Ok(lines)
 }
@@ -74,7 +75,7 @@ pub(crate) fn read_lines(alloc: Global, indexes: &Indexes, path: &Path) -> Resul
 pub(crate) fn lines_of(alloc: Global, entries: &[(Kind, Vec<u8>)]) -> Result<EntryLines, NoMemory>
     ensures { IfOk result (λ lines. AreLines lines (pairs_of entries.now)) }
 {
-    let mut lines = EntryLines::new(alloc);
+    let mut lines = EntryLines::new(alloc)?;
     for (kind, name) in entries {
         lines.receive(alloc, *kind, name.as_slice())?;
     }

@@ -1,5 +1,5 @@
-//! Scripts are lines of text from a reader. Each is executed as a call, and its reply is written. The crate also has the
-//! image of a tree, the command line of the program that runs scripts, and drawings of trees for Graphviz's `dot`.
+//! Scripts are lines of text from a reader. Each is executed as a call, and its reply is written. The crate also has the command
+//! line of the program that runs scripts, and drawings of trees for Graphviz's `dot`.
 //!
 //! A script runs on a volume. Its contract says which replies are written and what the world is after them, also if the
 //! reader or the writer fails in between, and whatever tree steps are done between its lines (`Pace`).

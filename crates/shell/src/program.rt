@@ -244,7 +244,7 @@ fn open<F: Files, E: Write>(
     }
 }
 
-/// Prints the replies to a script, in large buffered writes, and then the image if the options request it.
+/// Prints what the options request (`print_gathered`), and explains why the script was not read or the output not written.
 fn print<H: Files + Threads + Wait + Sync, R: Read, W: Write, E: Write>(
     rt: &H,
     alloc: Global,
@@ -261,7 +261,7 @@ fn print<H: Files + Threads + Wait + Sync, R: Read, W: Write, E: Write>(
     ended
 }
 
-/// Prints the replies and the image as `print` does, to a writer that remembers why it failed.
+/// Prints the replies to a script, in large buffered writes, and then what the options request.
 fn print_gathered<H: Files + Threads + Wait + Sync, R: Read, W: Write, E: Write>(
     rt: &H,
     alloc: Global,

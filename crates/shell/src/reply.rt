@@ -1,19 +1,20 @@
 //! Writes replies as text.
-ghost use Rattle.std.specs.Prelude.{◌≡◌, ◌++◌, All, OnOk, OnErr, codes, flat_map};
+ghost use Rattle.std.specs.Prelude.{◌≡◌, ◌++◌, OnOk, OnErr, codes, flat_map};
 ghost use Rattle.std.specs.Io.KnownBytes.{Appends};
 ghost use Rattle.pathkey.specs.Numbers.{word_of};
 ghost use Rattle.reference.specs.Pairs.{pairs_of};
-ghost use Rattle.textio.specs.Parts.{AppendsPart, Gathers};
+ghost use Rattle.textio.specs.Parts.{AppendsPart};
 ghost use Rattle.reference.specs.declared.reply.Reply.TheVariants.{Names, Stat};
 ghost use Rattle.shell.specs.Replies.{entry_line, reply_text, name_word, stat_word};
-ghost use Rattle.textio.specs.Texts.{IsPlain, hex_text};
+ghost use Rattle.textio.specs.Texts.{hex_text};
 
+use arrayvec::ArrayVec;
 use pathkey::Errno;
 use reference::{Kind, Reply};
 use std::io::Write;
 use textio::output::{WriteFailed, put};
-use textio::text::{is_plain, put_hex, put_number, put_number_line, put_percent};
-use textio::write_buffer::WriteBuffer;
+use textio::short_line::{append, append_number};
+use textio::text::{put_hex, put_number_line, put_percent};
 
 /// Writes the lines of a reply, or a prefix of them.
 pub fn write_reply<W: Write>(writer: &mut W, reply: &Reply) -> Result<(), WriteFailed>
@@ -51,10 +52,13 @@ fn put_stat<W: Write>(
     ensures ok { OnOk result (Appends (W.contents writer.old) (W.contents writer.new) (reply_text (Stat kind len modified))) }
     ensures err { OnErr result (AppendsPart (W.contents writer.old) (W.contents writer.new) (reply_text (Stat kind len modified))) }
 {
-    put(writer, stat_word(kind))?;
-    put_number(writer, len)?;
-    put_number_line(writer, b" ", modified)?;
-    Ok(())
+    let mut line = ArrayVec::new();
+    append(&mut line, stat_word(kind));
+    append_number(&mut line, len);
+    line.push(b' ');
+    append_number(&mut line, modified);
+    line.push(b'\n');
+    put(writer, line.as_slice())
 }
 
 // What precedes the length in the reply to a stat.
@@ -93,44 +97,9 @@ fn put_entries<W: Write>(writer: &mut W, entries: &[(Kind, Vec<u8>)]) -> Result<
     ensures ok { OnOk result (Appends (W.contents writer.old) (W.contents writer.new) (flat_map entry_line (pairs_of entries.now))) }
     ensures err { OnErr result (AppendsPart (W.contents writer.old) (W.contents writer.new) (flat_map entry_line (pairs_of entries.now))) }
 {
-    let mut gathered = WriteBuffer::new();
     for (kind, name) in entries {
-        gather_entry(&mut gathered, writer, *kind, name.as_slice())?;
+        put_entry(writer, *kind, name.as_slice())?;
     }
-    gathered.write_out(writer)
-}
-
-// Appends the line of an entry to the buffer. If the name has a byte to escape, the buffer and the line are written at once.
-fn gather_entry<W: Write>(
-    gathered: &mut WriteBuffer,
-    writer: &mut W,
-    kind: Kind,
-    name: &[u8],
-) -> Result<(), WriteFailed>
-    ensures ok { OnOk result (Gathers (W.contents writer.old) gathered.old (entry_line (kind, name.now)) (W.contents writer.new) gathered.new) }
-    ensures err { OnErr result (AppendsPart (W.contents writer.old) (W.contents writer.new) (gathered.old ++ entry_line (kind, name.now))) }
-{
-    if is_plain(name) {
-        return gather_plain(gathered, writer, kind, name);
-    }
-    gathered.write_out(writer)?;
-    put_entry(writer, kind, name)
-}
-
-// Appends the line of an entry whose name has no byte to escape.
-fn gather_plain<W: Write>(
-    gathered: &mut WriteBuffer,
-    writer: &mut W,
-    kind: Kind,
-    name: &[u8],
-) -> Result<(), WriteFailed>
-    requires { All IsPlain name.now }
-    ensures ok { OnOk result (Gathers (W.contents writer.old) gathered.old (entry_line (kind, name.now)) (W.contents writer.new) gathered.new) }
-    ensures err { OnErr result (AppendsPart (W.contents writer.old) (W.contents writer.new) (gathered.old ++ entry_line (kind, name.now))) }
-{
-    gathered.put(writer, name_word(kind))?;
-    gathered.put(writer, name)?;
-    gathered.put(writer, b"\n")?;
     Ok(())
 }
 

@@ -28,6 +28,25 @@ pub enum Request {
     Past(SnapName, ReadCall),
 }
 
+/// A command of a script whose only argument is the path of a call.
+#[derive(Clone, Copy)]
+pub enum PathVerb {
+    /// `mkdir`
+    Mkdir,
+    /// `create`
+    Create,
+    /// `unlink`
+    Unlink,
+    /// `rmdir`
+    Rmdir,
+    /// `rmtree`
+    Rmtree,
+    /// `stat`
+    Stat,
+    /// `readdir`
+    Readdir,
+}
+
 /// A file call that reads.
 #[derive(Drop)]
 pub enum ReadCall {

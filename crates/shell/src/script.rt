@@ -16,11 +16,11 @@ ghost use Rattle.shell.specs.Progress.{DoesPiece, HaltsInPiece, last_line};
 ghost use Rattle.shell.specs.Verdicts.{Judges, fails, is_fault};
 ghost use Rattle.textio.specs.Held.{Holds};
 
-use crate::command::read_request;
+use crate::command::{read_request, timestamp_of};
 use crate::entry_lines::EntryLines;
 use crate::pace::Pace;
 use crate::reply::{put_fault, write_reply};
-use crate::request::Request;
+use crate::request::{ReadCall, Request};
 use crate::session::Session;
 use crate::verdict::{Halt, Verdict};
 use crate::watch::{Unwatched, Watch};
@@ -301,11 +301,11 @@ fn answer_line<S: Session, W: Write>(
     ensures err { OnErr result (Leads (Meant (S.means session.old) at.old) (Meant (S.means session.new) at.new) (λ first. Does first line.now)
         (AppendsPart (W.contents writer.old) (W.contents writer.new))) }
 {
-    let request = read_request(alloc, line);
-    let answered = answer(alloc, session, at, &request, writer);
-    // Dropped by a call: its variants are not distinguished here.
-    drop(request);
-    answered
+    if let Some(timestamp) = timestamp_of(line) {
+        *at = timestamp;
+        return put_line(writer, b"ok\n", Verdict::Done);
+    }
+    answer(alloc, session, at, &read_request(alloc, line), writer)
 }
 
 // Executes a request, and writes the reply. Returns whether that is a fault or an error.
@@ -331,7 +331,7 @@ fn answer<S: Session, W: Write>(
             put_line(writer, b"ok\n", Verdict::Done)
         }
         Request::Wanted(Call::Readdir(path)) => {
-            let listed = session.list(alloc, path);
+            let listed = session.list(alloc, path, *at);
             put_listing(writer, listed)
         }
         Request::Wanted(call) => {
@@ -349,6 +349,10 @@ fn answer<S: Session, W: Write>(
         Request::Restore(name) => {
             let settled = session.restore(name);
             put_settled(writer, settled)
+        }
+        Request::Past(name, ReadCall::Readdir(path)) => {
+            let listed = session.list_snapshot(alloc, name, path);
+            put_listing(writer, listed)
         }
         Request::Past(name, look) => {
             let reply = session.read_snapshot(alloc, name, look);

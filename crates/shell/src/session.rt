@@ -1,6 +1,6 @@
 //! Sessions, on which the lines of a script are executed: a volume, or a client of an engine whose volume is shared.
 ghost use Rattle.reference.specs.Worlds.{World, TakeSnapshot, DropSnapshot, RestoreSnapshot, Ask, Replied, Settled, Fits, next};
-ghost use Rattle.shell.specs.Listings.{Lists};
+ghost use Rattle.shell.specs.Listings.{Lists, ListsPast};
 ghost use Rattle.shell.specs.Script.{Tells};
 ghost use Rattle.shell.specs.Sessions.{Goes, IsReported};
 ghost use Rattle.volume.specs.Volumes.{Means};
@@ -24,9 +24,10 @@ pub trait Session {
     fn call(&mut self, alloc: Global, call: &Call, at: u64) -> Reply
         ensures { Goes (means self.old) (means self.new) (Ask call.now at) (Replied result) };
 
-    /// Reads the entries of the directory at the path as lines, as the call `readdir` would reply; or returns its fault.
-    fn list(&mut self, alloc: Global, path: &Path) -> Result<EntryLines, Errno>
-        ensures { Lists (means self.old) (means self.new) path.now result };
+    /// Reads the entries of the directory at the path as lines, as the call `readdir` with the timestamp would reply; or returns
+    /// its fault.
+    fn list(&mut self, alloc: Global, path: &Path, at: u64) -> Result<EntryLines, Errno>
+        ensures { Lists (means self.old) (means self.new) path.now at result };
 
     /// Takes a snapshot of the live tree under the name.
     fn snapshot(&mut self, alloc: Global, name: &SnapName) -> Result<(), Errno>
@@ -44,6 +45,15 @@ pub trait Session {
     fn read_snapshot(&mut self, alloc: Global, name: &SnapName, look: &ReadCall) -> Reply
         ensures { (w : World) → means self.old w → Tells w name.now look.now result × means self.new w };
 
+    /// Reads the entries of a directory of the snapshot of that name as lines; or returns the fault of that read.
+    fn list_snapshot(
+        &mut self,
+        alloc: Global,
+        name: &SnapName,
+        path: &Path,
+    ) -> Result<EntryLines, Errno>
+        ensures { ListsPast (means self.old) (means self.new) name.now path.now result };
+
     /// Does the steps that the pace picks after a line, if there is a volume for the pace to inspect.
     fn run_steps<P: Pace>(&mut self, alloc: Global, pace: &mut P)
         ensures { (w : World) → means self.old w → means self.new w };
@@ -56,7 +66,7 @@ impl Session for Volume {
         self.call(alloc, call, at)
     }
 
-    fn list(&mut self, alloc: Global, path: &Path) -> Result<EntryLines, Errno> {
+    fn list(&mut self, alloc: Global, path: &Path, _at: u64) -> Result<EntryLines, Errno> {
         read_lines(alloc, self.indexes(), path)
     }
 
@@ -77,6 +87,15 @@ impl Session for Volume {
             Ok(frozen) => read_frozen(alloc, &frozen, look),
             Err(fault) => Reply::Fault(fault),
         }
+    }
+
+    fn list_snapshot(
+        &mut self,
+        alloc: Global,
+        name: &SnapName,
+        path: &Path,
+    ) -> Result<EntryLines, Errno> {
+        read_lines(alloc, self.frozen(name)?.indexes(), path)
     }
 
     fn run_steps<P: Pace>(&mut self, alloc: Global, pace: &mut P) {

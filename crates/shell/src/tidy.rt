@@ -24,7 +24,7 @@ pub struct Tidy {
     stuck: u8,
     /// Whether the last steps reshape nodes before a flush. If they do not fit, the flush is tried without that.
     reshapes: bool,
-    /// Whether nothing was found to do since the last line.
+    /// Whether no more steps are picked before the next line: nothing was found to do, or an allocation failed.
     is_idle: bool,
     /// The number of lines for which it does not inspect the trees, since there was nothing to do.
     rest: u8,

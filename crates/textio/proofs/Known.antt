@@ -2,7 +2,7 @@
 use Rattle.std.proofs.Common.{◌≡◌, ℕ, List, [], ◌++◌, None, Some, IfSome, Result, Ok, Err, OnErr, OnOk, Option, sym, ap, ◌∙◌, subst, append_assoc, append-nil}
 use Rattle.std.specs.Io.KnownBytes.{Appends, Consumes, IsAtEnd}
 use Rattle.std.proofs.KnownBytes.{Appends-trans, Consumes-trans}
-use Rattle.textio.specs.Parts.{AppendsPart, Gathers}
+use Rattle.textio.specs.Parts.{AppendsPart}
 
 -- what always holds, holds if the result is an error
 pub on_err : {A E : Type 0} (r : Result A E) (P : Type 0) → P → OnErr r P
@@ -48,33 +48,3 @@ known_whole (Some x) (Some y) read c end = c ∙ ap (λ l. read ++ l) end ∙ ap
 pub on_ok_both : {A E : Type 0} (r : Result A E) (P Q R : Type 0) → (P → Q → R) → OnOk r P → OnOk r Q → OnOk r R
 on_ok_both (Ok a) P Q R f p q = f p q
 on_ok_both (Err e) P Q R f p q = tt
-
--- all that waited was written, and then a text
-pub gathers_written : (a b c : Option (List ℕ)) (waiting text waits : List ℕ) → Appends a b waiting → Appends b c text → waits ≡ [] → Gathers a waiting text c waits
-gathers_written a b c waiting text waits first second none =
-    (waiting ++ text, sym (ap (λ l. (waiting ++ text) ++ l) none ∙ append-nil (waiting ++ text)), Appends-trans a b c waiting text first second)
-
--- one text after another is put after the buffered text
-pub gathers-trans : (a b c : Option (List ℕ)) (x y z first second : List ℕ) → Gathers a x first b y → Gathers b y second c z → Gathers a x (first ++ second) c z
-gathers-trans a b c x y z first second (part, cut, written) (more, then, wrote) = (
-  part ++ more,
-  sym (append_assoc x first second) ∙ ap (λ l. l ++ second) cut ∙ append_assoc part y second ∙ ap (λ l. part ++ l) then ∙ sym (append_assoc part more z),
-  Appends-trans a b c part more written wrote,
-)
-
--- one text was put after the buffered text, and then a prefix of the buffered text and of another text was written
-pub gathered_part : (a b c : Option (List ℕ)) (x y first second : List ℕ) → Gathers a x first b y → AppendsPart b c (y ++ second) → AppendsPart a c (x ++ (first ++ second))
-gathered_part a b c x y first second (part, cut, written) wrote =
-    subst (AppendsPart a c) (sym (append_assoc part y second) ∙ ap (λ l. l ++ second) (sym cut) ∙ append_assoc x first second) (part_after a b c part (y ++ second) written wrote)
-
--- a beginning of what waited and of one text was written, and so of a longer text
-pub gathered_before : (a b : Option (List ℕ)) (x first second : List ℕ) → AppendsPart a b (x ++ first) → AppendsPart a b (x ++ (first ++ second))
-gathered_before a b x first second wrote = subst (AppendsPart a b) (append_assoc x first second) (part_before a b (x ++ first) second wrote)
-
--- all that waits was written
-pub gathered_all : (a b c : Option (List ℕ)) (x y first : List ℕ) → Gathers a x first b y → Appends b c y → Appends a c (x ++ first)
-gathered_all a b c x y first (part, cut, written) wrote = subst (Appends a c) (sym cut) (Appends-trans a b c part y written wrote)
-
--- a beginning of all that waits was written
-pub gathered_some : (a b c : Option (List ℕ)) (x y first : List ℕ) → Gathers a x first b y → AppendsPart b c y → AppendsPart a c (x ++ first)
-gathered_some a b c x y first (part, cut, written) wrote = subst (AppendsPart a c) (sym cut) (part_after a b c part y written wrote)

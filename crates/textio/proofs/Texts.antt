@@ -7,9 +7,9 @@ use Rattle.std.proofs.lemmas.List.{take_more}
 use Rattle.std.proofs.lemmas.List.Elements.{All-head, All-tail}
 use Rattle.std.proofs.lemmas.Grind.{flat_map-append}
 use Rattle.reference.specs.Image.{percent, two_digits}
-use Rattle.textio.specs.Parts.{AppendsPart, Gathers}
+use Rattle.textio.specs.Parts.{AppendsPart}
 use Rattle.textio.specs.Texts.{IsPlain, hex_text}
-use Rattle.textio.proofs.Known.{gathered_before, gathered_part, part_after, part_before}
+use Rattle.textio.proofs.Known.{part_after, part_before}
 
 module _ {X : Type 0} (f : X → List ℕ) (d : X) where
   -- the text of one element more
@@ -29,13 +29,6 @@ module _ {X : Type 0} (f : X → List ℕ) (d : X) where
       → AppendsPart a c (flat_map f xs)
   each_part a b c xs i lt first second =
       subst (AppendsPart a c) (texts_around xs i lt) (part_before a c _ (flat_map f (drop (i + 1) xs)) (part_after a b c _ _ first second))
-
-  -- a part of the buffered text and of the text of one element, after the texts of those before it were put into the
-  -- buffer
-  pub each_gathered : (a b c : Option (List ℕ)) (x y : List ℕ) (xs : List X) (i : ℕ) → i < length xs → Gathers a x (flat_map f (take i xs)) b y
-      → AppendsPart b c (y ++ f (get_or xs i d)) → AppendsPart a c (x ++ flat_map f xs)
-  each_gathered a b c x y xs i lt first second =
-      subst (λ t. AppendsPart a c (x ++ t)) (texts_around xs i lt) (gathered_before a c x _ (flat_map f (drop (i + 1) xs)) (gathered_part a b c x y _ _ first second))
 
 -- some bytes in hexadecimal
 pub hex_of_some : (bytes : List ℕ) → 0 < length bytes → hex_text bytes ≡ flat_map (two_digits 87) bytes

@@ -9,7 +9,7 @@
 pub mod input;
 pub mod line_buffer;
 pub mod output;
+pub mod short_line;
 pub mod text;
 pub mod values;
 pub mod words;
-pub mod write_buffer;

@@ -6,6 +6,8 @@ ghost use Rattle.textio.specs.Parts.{AppendsPart};
 ghost use Rattle.textio.specs.Texts.{IsPlain, hex_text, number_line};
 
 use crate::output::{WriteFailed, put};
+use crate::short_line::{append, append_number};
+use arrayvec::ArrayVec;
 use itoa::Buffer;
 use pathkey::Path;
 use reference::digits::{escape, lower_digits};
@@ -14,15 +16,17 @@ use std::io::Write;
 /// The number of bytes whose digits are written at once.
 const AT_ONCE: usize = 512;
 
-/// Writes a line of a word and a number, or a beginning of it.
+/// Writes a line of a short word and a number, or a beginning of it.
 pub fn put_number_line<W: Write>(writer: &mut W, word: &[u8], n: u64) -> Result<(), WriteFailed>
+    requires { length word.now ≤ 40 }
     ensures ok { OnOk result (Appends (W.contents writer.old) (W.contents writer.new) (number_line word.now n)) }
     ensures err { OnErr result (AppendsPart (W.contents writer.old) (W.contents writer.new) (number_line word.now n)) }
 {
-    put(writer, word)?;
-    put_number(writer, n)?;
-    put(writer, b"\n")?;
-    Ok(())
+    let mut line = ArrayVec::new();
+    append(&mut line, word);
+    append_number(&mut line, n);
+    line.push(b'\n');
+    put(writer, line.as_slice())
 }
 
 /// Writes a number in decimal, or a beginning of it.

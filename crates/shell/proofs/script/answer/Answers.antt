@@ -1,7 +1,7 @@
 use Rattle.std.proofs.Common.{[], refl, ap, ◌∙◌}
 use Rattle.std.proofs.KnownBytes.{Appends-nil}
 use Rattle.reference.specs.Worlds.{TakeSnapshot, DropSnapshot as DropNamed, RestoreSnapshot}
-use Rattle.shell.specs.declared.request.Request.TheVariants.{Wanted}
+use Rattle.shell.specs.declared.request.Request.TheVariants.{Past, Wanted}
 use Rattle.std.proofs.lemmas.Result.{IfOk-weaker, on_err_weaker}
 use Rattle.shell.proofs.Answering.{answers_as, answers_kept, answers_moment, answers_call, answers_look, answers_settled}
 use Rattle.shell.proofs.script.answer.Goals as goal
@@ -34,13 +34,13 @@ pub returns-in-Wanted-Readdir-clause-ok : goal.returns-in-Wanted-Readdir-clause-
 returns-in-Wanted-Readdir-clause-ok g c =
     let call = rw c.in-Wanted-Readdir.is at c.in-Wanted-Readdir.field-0-is in
     let l = c.list-listed.ensures in
-    IfOk-weaker c.put_listing.result _ _ (λ v. answers_call _ _ _ _ _ _ _ (c.in-Wanted-Readdir.is ∙ ap Wanted call) (l.2 c.args.at.now)) (c.put_listing.ensures.ok l.0 l.1)
+    IfOk-weaker c.put_listing.result _ _ (λ v. answers_call _ _ _ _ _ _ _ (c.in-Wanted-Readdir.is ∙ ap Wanted call) l.2) (c.put_listing.ensures.ok l.0 l.1)
 
 pub returns-in-Wanted-Readdir-clause-err : goal.returns-in-Wanted-Readdir-clause-err
 returns-in-Wanted-Readdir-clause-err g c =
     let call = rw c.in-Wanted-Readdir.is at c.in-Wanted-Readdir.field-0-is in
     let l = c.list-listed.ensures in
-    on_err_weaker _ (answers_call _ _ _ _ _ _ _ (c.in-Wanted-Readdir.is ∙ ap Wanted call) (l.2 c.args.at.now)) (c.put_listing.ensures.err l.0 l.1)
+    on_err_weaker _ (answers_call _ _ _ _ _ _ _ (c.in-Wanted-Readdir.is ∙ ap Wanted call) l.2) (c.put_listing.ensures.err l.0 l.1)
 
 pub returns-in-Wanted-clause-ok : goal.returns-in-Wanted-clause-ok
 returns-in-Wanted-clause-ok g c = IfOk-weaker c.put_reply.result _ _ (λ v. answers_call _ _ _ _ _ _ _ c.in-Wanted.is c.call-reply.ensures) c.put_reply.ensures.ok
@@ -74,3 +74,15 @@ returns-in-Past-clause-err g c = on_err_weaker _ (answers_look _ _ _ _ _ _ _ _ c
 
 pub returns-in-Silent-clause-ok : goal.returns-in-Silent-clause-ok
 returns-in-Silent-clause-ok g c = answers_kept _ _ _ _ [] c.in-Silent.is (λ w. (refl, refl)) (Appends-nil _, refl)
+
+pub returns-in-Past-default-Readdir-clause-ok : goal.returns-in-Past-default-Readdir-clause-ok
+returns-in-Past-default-Readdir-clause-ok g c =
+    let read = rw c.in-Past-default-Readdir.is at c.in-Past-default-Readdir.field-1-is in
+    let l = rw c.in-Past-default-Readdir.field-1-is at c.list_snapshot-listed.ensures in
+    IfOk-weaker c.put_listing-in-Past-default-Readdir.result _ _ (λ v. answers_look _ _ _ _ _ _ _ _ (c.in-Past-default-Readdir.is ∙ ap (Past c.in-Past-default-Readdir.name) read) l.2) (c.put_listing-in-Past-default-Readdir.ensures.ok l.0 l.1)
+
+pub returns-in-Past-default-Readdir-clause-err : goal.returns-in-Past-default-Readdir-clause-err
+returns-in-Past-default-Readdir-clause-err g c =
+    let read = rw c.in-Past-default-Readdir.is at c.in-Past-default-Readdir.field-1-is in
+    let l = rw c.in-Past-default-Readdir.field-1-is at c.list_snapshot-listed.ensures in
+    on_err_weaker _ (answers_look _ _ _ _ _ _ _ _ (c.in-Past-default-Readdir.is ∙ ap (Past c.in-Past-default-Readdir.name) read) l.2) (c.put_listing-in-Past-default-Readdir.ensures.err l.0 l.1)
