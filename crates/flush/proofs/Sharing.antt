@@ -10,7 +10,6 @@ use Rattle.std.specs.Ordering.{is_le}
 use Rattle.std.proofs.Math.ListN.{set}
 use Rattle.std.proofs.Math.Seq.{take-append_seam}
 use Rattle.std.proofs.lemmas.Bool.{false≢true}
-use Rattle.std.proofs.lemmas.List.{length-map}
 use Rattle.std.proofs.lemmas.Map.Keys.{sorted_head}
 use Rattle.std.proofs.lemmas.Option.{same_Some}
 use Rattle.pathkey.specs.Order.{by_bytes}
