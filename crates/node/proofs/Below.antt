@@ -32,6 +32,13 @@ module _ {U V : Type 0} (means : U → Option V → Option V) (shape : Shape) (h
   stays_same a b e h lo l = record { lawful = subst (λ n. IsLawfulNode shape n h lo hi) (sym e) l; same = λ k w. ap (λ n. value means n k) e }
 
   module _ (kind : StepKind) (i : ℕ) (p : List ℕ) (a b : PNode U V) where
+    -- a step that is not done leaves the subtree unchanged
+    unchanged_by : (ss new : PSlots U V) (r : StepReply) → slots_at p a ≡ Some ss → b ≡ with_slots p new a → Replies means kind shape false i r ss new → UnlessDid r (b ≡ a)
+    unchanged_by ss new (Did n) e is q = tt
+    unchanged_by ss new NotThere e is q = is ∙ ap (λ z. with_slots p z a) q.0 ∙ with_slots-same p a ss e
+    unchanged_by ss new NoRoom e is q = is ∙ ap (λ z. with_slots p z a) q.0 ∙ with_slots-same p a ss e
+    unchanged_by ss new NoMemory e is q = is ∙ ap (λ z. with_slots p z a) q ∙ with_slots-same p a ss e
+
     -- what the reply at the place says of the subtree
     stays_by : (ss new : PSlots U V) (r : StepReply) → slots_at p a ≡ Some ss → b ≡ with_slots p new a → IsAdmitted means kind shape false i (end_at p hi a) (Some ss) → Replies means kind shape false i r ss new → StaysSubtree means shape hi a b
     stays_by ss new (Did n) e is able q = λ h lo l.
@@ -40,9 +47,9 @@ module _ {U V : Type 0} (means : U → Option V → Option V) (shape : Shape) (h
           lawful = subst (λ z. IsLawfulNode shape z h lo hi) (sym is) k.0;
           same = λ x w. ap (λ z. value means z x) is ∙ k.1 x w;
         }
-    stays_by ss new NotThere e is able q = stays_same a b (is ∙ ap (λ z. with_slots p z a) q.0 ∙ with_slots-same p a ss e)
-    stays_by ss new NoRoom e is able q = stays_same a b (is ∙ ap (λ z. with_slots p z a) q.0 ∙ with_slots-same p a ss e)
-    stays_by ss new NoMemory e is able q = stays_same a b (is ∙ ap (λ z. with_slots p z a) q ∙ with_slots-same p a ss e)
+    stays_by ss new NotThere e is able q = stays_same a b (unchanged_by ss new NotThere e is q)
+    stays_by ss new NoRoom e is able q = stays_same a b (unchanged_by ss new NoRoom e is q)
+    stays_by ss new NoMemory e is able q = stays_same a b (unchanged_by ss new NoMemory e is q)
 
     -- a step that reading did not refuse
     pub stays : (r : StepReply) → IsAdmitted means kind shape false i (end_at p hi a) (slots_at p a) → At p r (Replies means kind shape false i r) a b → StaysSubtree means shape hi a b
@@ -52,13 +59,7 @@ module _ {U V : Type 0} (means : U → Option V → Option V) (shape : Shape) (h
           | Some ss ↦ λ e t m. stays_by ss m.0 r e m.1 t m.2
         ]) refl able q
 
-    -- the step undone leaves the subtree unchanged
-    unchanged_by : (ss new : PSlots U V) (r : StepReply) → slots_at p a ≡ Some ss → b ≡ with_slots p new a → Replies means kind shape false i r ss new → UnlessDid r (b ≡ a)
-    unchanged_by ss new (Did n) e is q = tt
-    unchanged_by ss new NotThere e is q = is ∙ ap (λ z. with_slots p z a) q.0 ∙ with_slots-same p a ss e
-    unchanged_by ss new NoRoom e is q = is ∙ ap (λ z. with_slots p z a) q.0 ∙ with_slots-same p a ss e
-    unchanged_by ss new NoMemory e is q = is ∙ ap (λ z. with_slots p z a) q ∙ with_slots-same p a ss e
-
+    -- and so if there is no node at the place
     pub unchanged : (r : StepReply) → At p r (Replies means kind shape false i r) a b → UnlessDid r (b ≡ a)
     unchanged r q =
         (elim (slots_at p a) as (λ o. slots_at p a ≡ o → MatchOption o ((b ≡ a) × IsMissing r) (λ ss. (new : PSlots U V) × (b ≡ with_slots p new a) × Replies means kind shape false i r ss new) → UnlessDid r (b ≡ a)) [
