@@ -22,7 +22,6 @@ use block_index::BLOCK;
 use bytes::Bytes;
 use change_log::Changes;
 use edits::{Change, Edit, block_digest, put_edit};
-use lookup::get;
 use pathkey::{Errno, NoMemory, Path};
 use reference::Meta;
 use std::alloc::Global;
@@ -270,7 +269,7 @@ fn without_zeros(mut bytes: Vec<u8>) -> Result<Bytes, NoMemory>
 fn find_meta(alloc: Global, tree: &Frozen, path: &Path) -> Result<Option<Meta>, NoMemory>
     ensures { IfOk result (λ meta. (t : Tree) → MeanRooted tree.now t → meta ≡ meta_of (sight t path.now)) }
 {
-    get(alloc, &tree.indexes().meta.tree, path.key())
+    tree.indexes().meta.entry(alloc, path)
 }
 
 /// At most `count` bytes of the file at the path from an offset on; none if there is no file.
