@@ -281,3 +281,54 @@ fn a_list_moves_whole_without_copies(rt: HostRuntime) {
     assert!(rt; moves(alloc, with_a_range(alloc)));
     assert!(rt; moves(alloc, with_a_range_in_the_tail(alloc)));
 }
+
+/// How many operations a walk over the list has at its first keys, as many as a list of these tests has; `None` if the list has no
+/// walk, or one over fewer keys.
+fn walked(list: Result<Pending<Lone>, NoMemory>) -> Option<usize> {
+    let Ok(list) = list else {
+        return None;
+    };
+    let mut walk = list.walk_oldest()?;
+    let mut passed: usize = 0;
+    for _ in 0..KEYS {
+        let (_, len) = walk.peek()?;
+        passed = passed.saturating_add(len);
+        walk.pass();
+    }
+    Some(passed)
+}
+
+#[test]
+fn a_walk_passes_the_condensed_messages_of_each_key(rt: HostRuntime) {
+    let alloc = rt.alloc();
+    let all = 2 * KEYS as usize;
+    assert!(rt; walked(list_of_lone(alloc)) == Some(all));
+    assert!(rt; walked(with_a_tail(alloc)) == Some(all));
+    assert!(rt; walked(with_a_range(alloc)).is_none());
+    assert!(rt; walked(half_consumed(alloc)).is_none());
+}
+
+/// How many operations of the first key of `from` are shared by the other list; `None` if none are.
+fn shared_first(
+    to: Result<Pending<Lone>, NoMemory>,
+    from: Result<Pending<Lone>, NoMemory>,
+    most: usize,
+) -> Option<usize> {
+    let Ok(mut to) = to else {
+        return None;
+    };
+    let Ok(from) = from else {
+        return None;
+    };
+    let walk = from.walk_oldest()?;
+    to.share_first_of(&walk, most)
+}
+
+#[test]
+fn operations_of_a_key_are_shared_together_unless_they_follow_others(rt: HostRuntime) {
+    let alloc = rt.alloc();
+    assert!(rt; shared_first(Ok(Pending::new(alloc)), list_of_lone(alloc), 2) == Some(2));
+    assert!(rt; shared_first(Ok(Pending::new(alloc)), list_of_lone(alloc), 1).is_none());
+    assert!(rt; shared_first(list_of_lone(alloc), list_of_lone(alloc), 2).is_none());
+    assert!(rt; shared_first(with_a_tail(alloc), list_of_lone(alloc), 2).is_none());
+}
